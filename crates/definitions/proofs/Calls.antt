@@ -1,0 +1,79 @@
+-- Store calls: each answers the formula that it was given, and keeps every formula.
+use Prim.Native.Nat.{ℕ, _<_}
+use mathlib.Core.Path.{_≡_, refl, sym, subst}
+use mathlib.Core.Bool.{Bool, true, false, cond, _||_, _&&_}
+use mathlib.Core.List.{List, [], _∷_}
+use lib.ListN.{length}
+use native.Mathlib.Omega.{arith}
+use borrow.Author.Tests.{ltb-true, leb-true, eqb-true}
+use lib.Dec.{T, eqb, leb, ltb}
+use lib.Ieee.Fits.{and-l, and-r}
+use Rattle.definitions.specs.Node.{Node, childCountListed}
+use Rattle.definitions.specs.Intern.{Lent, Built, built, stopped, intern}
+use Rattle.definitions.specs.Machine.{Answer, stored, simplified, pruned, refused, Outcome, outcome, Request, allBelow, storedAs, storeCall}
+use Rattle.definitions.specs.Formula.{formula}
+use Rattle.definitions.proofs.Stable.{Lower}
+use Rattle.definitions.proofs.Intern.{Fit, Sound, Step, Result, stay, interned, over}
+use Rattle.definitions.proofs.Prune.{T-is}
+
+-- a call's nodes go on from those before it, and its answer is as said
+pub record Done (ns : List Node) (A : List Node → Answer → Type 0) (a : Outcome) : Type 0 where
+  pub step : Step ns (a .nodes)
+  pub says : A (a .nodes) (a .answer)
+
+lower-of : (n : ℕ) (ks : List ℕ) → T (allBelow n ks) → Lower n ks
+lower-of n [] t = tt
+lower-of n (k ∷ ks) t = (ltb-true k n (T-is (ltb k n) (and-l (ltb k n) (allBelow n ks) t)), lower-of n ks (and-r (ltb k n) (allBelow n ks) t))
+
+-- an Add or a Sub has a child
+filled-add : (p n : ℕ) → T (childCountListed 2 p n) → 0 < n
+unfolding childCountListed
+filled-add p n t = leb-true 1 n (T-is (leb 1 n) (and-l (leb 1 n) (leb n 4) t))
+
+filled-sub : (p n : ℕ) → T (childCountListed 3 p n) → 0 < n
+unfolding childCountListed
+filled-sub p n t = omega (arith, eqb-true n 2 (T-is (eqb n 2) t))
+
+filled : (k p n : ℕ) → T (childCountListed k p n) → T (eqb k 2 || eqb k 3) → 0 < n
+filled k p n t = go (eqb k 2) (eqb k 3) refl refl
+  where
+    go : (x y : Bool) → eqb k 2 ≡ x → eqb k 3 ≡ y → T (x || y) → 0 < n
+    go true y ex ey h = filled-add p n (subst (λ (j : ℕ). T (childCountListed j p n)) (eqb-true k 2 ex) t)
+    go false true ex ey h = filled-sub p n (subst (λ (j : ℕ). T (childCountListed j p n)) (eqb-true k 3 ey) t)
+    go false false ex ey h = absurd h
+
+abbrev pub StoreSays : List Node → Node → List Node → Answer → Type 0
+StoreSays ns n ms (stored i) = (i < length ms) × (formula ms i ≡ over ns n)
+StoreSays ns n ms (simplified i b k) = Unit {0}
+StoreSays ns n ms (pruned i k d) = Unit {0}
+StoreSays ns n ms (refused r) = Unit {0}
+
+pub builds : (l : Lent) (ns : List Node) (r : Request) → Sound ns → Done ns (StoreSays ns (r .node)) (storeCall l ns r)
+unfolding storeCall
+builds l ns r s = one (r .listed)
+  where
+    n : Node
+    n = r .node
+
+    refusal : (k : ℕ) → Done ns (StoreSays ns n) (outcome (refused k) ns)
+    refusal k = record { step = stay ns s; says = tt }
+
+    close : (m : Built) → Result ns (λ ms i. formula ms i ≡ over ns n) m → Done ns (StoreSays ns n) (storedAs m)
+    close (built ms i) x = record { step = x .0; says = (x .1, x .2) }
+    close (stopped ms k) x = record { step = x; says = tt }
+
+    three : T (childCountListed (n .kind) (n .payload) (length (n .children))) → (b : Bool) → allBelow (length ns) (n .children) ≡ b
+        → Done ns (StoreSays ns n) (cond b (storedAs (intern l ns n)) (outcome (refused 4) ns))
+    three t true e =
+        close (intern l ns n)
+        (interned l ns n s (record { low = lower-of (length ns) (n .children) (subst T (sym e) tt); filled = filled (n .kind) (n .payload) (length (n .children)) t }))
+    three t false e = refusal 4
+
+    two : (b : Bool) → childCountListed (n .kind) (n .payload) (length (n .children)) ≡ b
+        → Done ns (StoreSays ns n) (cond b (cond (allBelow (length ns) (n .children)) (storedAs (intern l ns n)) (outcome (refused 4) ns)) (outcome (refused 6) ns))
+    two true e = three (subst T (sym e) tt) (allBelow (length ns) (n .children)) refl
+    two false e = refusal 6
+
+    one : (b : Bool) → Done ns (StoreSays ns n) (cond b (cond (childCountListed (n .kind) (n .payload) (length (n .children))) (cond (allBelow (length ns) (n .children)) (storedAs (intern l ns n)) (outcome (refused 4) ns)) (outcome (refused 6) ns)) (outcome (refused 5) ns))
+    one true = two (childCountListed (n .kind) (n .payload) (length (n .children))) refl
+    one false = refusal 5

@@ -1,0 +1,158 @@
+-- 01's list under "Proved examples", settled together: calls, answers and nodes, each computed.
+use Prim.Native.Nat.{ℕ, zero, suc}
+use mathlib.Core.Path.{_≡_, refl}
+use mathlib.Core.Bool.{Bool, true, false}
+use mathlib.Core.List.{List, [], _∷_, _++_, map}
+use lib.ListN.{length}
+use Rattle.definitions.specs.Node.{Node, node, variableKind, constantKind, addKind, mulKind}
+use Rattle.definitions.specs.Intern.{Lent}
+use Rattle.definitions.specs.Walk.{standard, marked}
+use Rattle.definitions.specs.Sheet.{sheet}
+use Rattle.definitions.specs.Listing.{listing}
+use Rattle.definitions.specs.Machine.{Store, variable, constant, add, sub, mul, operator, Call, store, simplify, prune, Answer, stored, simplified, pruned, refused, State, state, empty, call, answers, run}
+
+-- the listing program's store
+abbrev lent : Lent
+lent = record { nodes = 512; slots = 1024 }
+
+-- a store whose table cannot double
+abbrev fewSlots : Lent
+fewSlots = record { nodes = 512; slots = 64 }
+
+-- binary64 bits
+abbrev plusZero : ℕ
+plusZero = 0
+
+abbrev minusZero : ℕ
+minusZero = 0x8000000000000000
+
+abbrev half : ℕ
+half = 0x3FE0000000000000
+
+abbrev one : ℕ
+one = 0x3FF0000000000000
+
+abbrev two : ℕ
+two = 0x4000000000000000
+
+abbrev three : ℕ
+three = 0x4008000000000000
+
+abbrev hundredth : ℕ
+hundredth = 0x3F847AE147AE147B
+
+abbrev twoHundredths : ℕ
+twoHundredths = 0x3F947AE147AE147B
+
+abbrev twentieth : ℕ
+twentieth = 0x3FA999999999999A
+
+abbrev tenth : ℕ
+tenth = 0x3FB999999999999A
+
+abbrev fifth : ℕ
+fifth = 0x3FC999999999999A
+
+abbrev x : Call
+x = store (variable 7)
+
+abbrev number : ℕ → Call
+number b = store (constant b)
+
+abbrev plus : ℕ → ℕ → Call
+plus a b = store (add a b)
+
+abbrev times : ℕ → ℕ → Call
+times a b = store (mul a b)
+
+-- n variables with symbols from s on
+abbrev variables : ℕ → ℕ → List Call
+variables zero s = []
+variables (suc n) s = store (variable s) ∷ variables n (suc s)
+
+-- calls, and what the listing program's store answers to them
+pub record Example : Type 0 where
+  pub calls : List Call
+  pub expected : List Answer
+
+abbrev example : List Call → List Answer → Example
+example cs al = record { calls = cs; expected = al }
+
+-- "Settle together as one proved list"
+abbrev pub examples : List Example
+examples =
+    -- the listing
+    example (x ∷ number plusZero ∷ plus 0 1 ∷ simplify 2 255 100 ∷ []) (stored 0 ∷ stored 1 ∷ stored 2 ∷ simplified 0 false 3 ∷ [])
+    -- its budget 2 (spent) and 3
+    ∷ example (x ∷ number plusZero ∷ plus 0 1 ∷ simplify 2 255 2 ∷ []) (stored 0 ∷ stored 1 ∷ stored 2 ∷ simplified 2 true 2 ∷ [])
+    ∷ example (x ∷ number plusZero ∷ plus 0 1 ∷ simplify 2 255 3 ∷ []) (stored 0 ∷ stored 1 ∷ stored 2 ∷ simplified 0 false 3 ∷ [])
+    -- 0.0/-0.0
+    ∷ example (number plusZero ∷ number minusZero ∷ number plusZero ∷ []) (stored 0 ∷ stored 1 ∷ stored 0 ∷ [])
+    -- both Adds
+    ∷ example (x ∷ plus 0 0 ∷ store (operator 0 0 (0 ∷ 0 ∷ [])) ∷ store (operator 0 3 (0 ∷ 0 ∷ [])) ∷ []) (stored 0 ∷ stored 1 ∷ stored 2 ∷ stored 1 ∷ [])
+    -- zero times a variable unchanged
+    ∷ example (x ∷ number plusZero ∷ times 1 0 ∷ simplify 2 255 100 ∷ []) (stored 0 ∷ stored 1 ∷ stored 2 ∷ simplified 2 false 3 ∷ [])
+    -- (x+1)+2 gives x+3
+    ∷ example (x ∷ number one ∷ number two ∷ plus 0 1 ∷ plus 3 2 ∷ simplify 4 255 100 ∷ number three ∷ plus 0 5 ∷ [])
+    (stored 0 ∷ stored 1 ∷ stored 2 ∷ stored 3 ∷ stored 4 ∷ simplified 6 false 6 ∷ stored 5 ∷ stored 6 ∷ [])
+    -- 2+(x+1) stays
+    ∷ example (x ∷ number one ∷ number two ∷ plus 0 1 ∷ plus 2 3 ∷ simplify 4 255 100 ∷ []) (stored 0 ∷ stored 1 ∷ stored 2 ∷ stored 3 ∷ stored 4 ∷ simplified 4 false 6 ∷ [])
+    -- (2*x)*0.5 gives 1.0*x, again gives x
+    ∷ example (x ∷ number two ∷ number half ∷ times 1 0 ∷ times 3 2 ∷ simplify 4 255 100 ∷ number one ∷ times 5 0 ∷ simplify 6 255 100 ∷ [])
+    (stored 0 ∷ stored 1 ∷ stored 2 ∷ stored 3 ∷ stored 4 ∷ simplified 6 false 6 ∷ stored 5 ∷ stored 6 ∷ simplified 0 false 3 ∷ [])
+    -- x-x
+    ∷ example (x ∷ store (sub 0 0) ∷ simplify 1 255 100 ∷ number plusZero ∷ []) (stored 0 ∷ stored 1 ∷ simplified 2 false 3 ∷ stored 2 ∷ [])
+    -- threshold 0.1 over x, 0.05, 0.2 keeps two
+    ∷ example (x ∷ number twentieth ∷ number fifth ∷ plus 0 1 ∷ plus 3 2 ∷ prune 4 tenth ∷ plus 0 2 ∷ [])
+    (stored 0 ∷ stored 1 ∷ stored 2 ∷ stored 3 ∷ stored 4 ∷ pruned 5 2 1 ∷ stored 5 ∷ [])
+    -- 0.01+0.02 gives 0.0
+    ∷ example (number hundredth ∷ number twoHundredths ∷ plus 0 1 ∷ prune 2 tenth ∷ number plusZero ∷ []) (stored 0 ∷ stored 1 ∷ stored 2 ∷ pruned 3 0 2 ∷ stored 3 ∷ [])
+    -- root 0.01 stays
+    ∷ example (number hundredth ∷ prune 0 tenth ∷ []) (stored 0 ∷ pruned 0 1 0 ∷ [])
+    -- five kept, (a+b)+(c+(d+e)): the nodes of that sum are there
+    ∷ example (variables 5 1 ++ plus 0 1 ∷ plus 5 2 ∷ plus 6 3 ∷ plus 7 4 ∷ prune 8 tenth ∷ plus 3 4 ∷ plus 2 9 ∷ plus 5 10 ∷ [])
+    (stored 0 ∷ stored 1 ∷ stored 2 ∷ stored 3 ∷ stored 4 ∷ stored 5 ∷ stored 6 ∷ stored 7 ∷ stored 8 ∷ pruned 11 5 0 ∷ stored 9 ∷ stored 10 ∷ stored 11 ∷ [])
+    ∷ []
+
+pub examples-hold : map (λ (e : Example). answers lent empty (e .calls)) examples ≡ map (λ (e : Example). e .expected) examples
+unfolding answers
+examples-hold = refl
+
+-- the nodes of the listing
+pub listing-nodes : run lent empty (x ∷ number plusZero ∷ plus 0 1 ∷ simplify 2 255 100 ∷ []) .nodes
+    ≡ marked standard (node variableKind 7 0 []) ∷ node constantKind plusZero 0 [] ∷ node addKind 0 3 (0 ∷ 1 ∷ []) ∷ []
+unfolding run
+listing-nodes = refl
+
+-- "44 nodes in 64, the 45th brings 128", and 22 where 128 are not lent
+pub forty-four : length (run fewSlots empty (variables 44 0) .nodes) ≡ 44
+unfolding run
+forty-four = refl
+
+pub forty-fifth-refused : call fewSlots (run fewSlots empty (variables 44 0)) (store (variable 100)) .answer ≡ refused 22
+unfolding run call
+forty-fifth-refused = refl
+
+pub forty-fifth-stored : call lent (run lent empty (variables 44 0)) (store (variable 100)) .answer ≡ stored 44
+unfolding run call
+forty-fifth-stored = refl
+
+-- the sheet of 01 and the bytes that the listing program prints for it
+abbrev pub sheetBytes : List ℕ
+sheetBytes =
+    0x01
+    ∷ 0x00 ∷ 0x05 ∷ 0x01 ∷ 0x00 ∷ 0x00 ∷ 0x00 ∷ 0x07
+    ∷ 0x00 ∷ 0x09 ∷ 0x02 ∷ 0x00 ∷ 0x00 ∷ 0x00 ∷ 0x00 ∷ 0x00 ∷ 0x00 ∷ 0x00 ∷ 0x00
+    ∷ 0x00 ∷ 0x07 ∷ 0x03 ∷ 0x00 ∷ 0x03 ∷ 0x00 ∷ 0x00 ∷ 0x00 ∷ 0x01
+    ∷ 0x00 ∷ 0x08 ∷ 0x06 ∷ 0x00 ∷ 0x02 ∷ 0xFF ∷ 0x00 ∷ 0x00 ∷ 0x00 ∷ 0x64
+    ∷ []
+
+-- "ok 0", "0 0 0000000000000007 4", "1 1 0000000000000000 0", "2 2 0000000000000000 3 0 1"
+pub sheet-listing : listing (sheet lent empty sheetBytes)
+    ≡ 111 ∷ 107 ∷ 32 ∷ 48 ∷ 10
+    ∷ 48 ∷ 32 ∷ 48 ∷ 32 ∷ 48 ∷ 48 ∷ 48 ∷ 48 ∷ 48 ∷ 48 ∷ 48 ∷ 48 ∷ 48 ∷ 48 ∷ 48 ∷ 48 ∷ 48 ∷ 48 ∷ 48 ∷ 55 ∷ 32 ∷ 52 ∷ 10
+    ∷ 49 ∷ 32 ∷ 49 ∷ 32 ∷ 48 ∷ 48 ∷ 48 ∷ 48 ∷ 48 ∷ 48 ∷ 48 ∷ 48 ∷ 48 ∷ 48 ∷ 48 ∷ 48 ∷ 48 ∷ 48 ∷ 48 ∷ 48 ∷ 32 ∷ 48 ∷ 10
+    ∷ 50 ∷ 32 ∷ 50 ∷ 32 ∷ 48 ∷ 48 ∷ 48 ∷ 48 ∷ 48 ∷ 48 ∷ 48 ∷ 48 ∷ 48 ∷ 48 ∷ 48 ∷ 48 ∷ 48 ∷ 48 ∷ 48 ∷ 48 ∷ 32 ∷ 51 ∷ 32 ∷ 48 ∷ 32 ∷ 49 ∷ 10
+    ∷ []
+unfolding sheet listing
+sheet-listing = refl

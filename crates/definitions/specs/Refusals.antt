@@ -1,0 +1,58 @@
+-- The numbers of document 01's refusals, by what they say.
+use Prim.Native.Nat.{ℕ}
+
+-- 1: sheet empty, over 16,384 bytes, or first byte not 1
+abbrev pub badSheet : ℕ
+badSheet = 1
+
+-- 2: record past the end, unknown, or wrong length
+abbrev pub badRecord : ℕ
+badRecord = 2
+
+-- 3: record 1,024 reached
+abbrev pub tooManyRecords : ℕ
+tooManyRecords = 3
+
+-- 4: operand not earlier, or id not below the count
+abbrev pub badOperand : ℕ
+badOperand = 4
+
+-- 5: operator, flags, control or depth value not listed
+abbrev pub badCode : ℕ
+badCode = 5
+
+-- 6: number of children
+abbrev pub badChildCount : ℕ
+badChildCount = 6
+
+-- 7: threshold NaN or sign bit set
+abbrev pub badThreshold : ℕ
+badThreshold = 7
+
+-- 8: setting
+abbrev pub badSetting : ℕ
+badSetting = 8
+
+-- 9: name length
+abbrev pub badNameLength : ℕ
+badNameLength = 9
+
+-- 20: store or name list not sound
+abbrev pub notSound : ℕ
+notSound = 20
+
+-- 21: no place for a new node
+abbrev pub noNodePlace : ℕ
+noNodePlace = 21
+
+-- 22: a new node needs a doubling and the lent slots are too few; also a fresh store with under 64
+abbrev pub noSlotPlace : ℕ
+noSlotPlace = 22
+
+-- 23: over 4,096 terms
+abbrev pub tooManyTerms : ℕ
+tooManyTerms = 23
+
+-- 24: no name place
+abbrev pub noNamePlace : ℕ
+noNamePlace = 24
