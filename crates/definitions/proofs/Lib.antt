@@ -19,3 +19,4 @@ pub mod NearestSettings
 pub mod NearestNumber
 pub mod SettingAnswers
 pub mod Instance
+pub mod FractionBits
