@@ -1,0 +1,9 @@
+pub mod Deciding
+pub mod Listing
+pub mod Words
+pub mod OneNode
+pub mod Putting
+pub mod Adding
+pub mod Marking
+pub mod Finding
+pub mod Forming

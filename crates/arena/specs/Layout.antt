@@ -1,0 +1,34 @@
+-- The words of a node. 01: "A node is 10 words of 64 bits in a lent list: kind, payload, hash, coefficient bits, flags, child count, four child places".
+use Prim.Native.Nat.{ℕ}
+
+abbrev pub mostChildren : ℕ
+mostChildren = 4
+
+abbrev pub nodeWords : ℕ
+nodeWords = 10
+
+-- 01: "65,536 at most"
+abbrev pub mostNodes : ℕ
+mostNodes = 65536
+
+-- where a node's words stand, counted from its first
+abbrev pub kindWord : ℕ
+kindWord = 0
+
+abbrev pub payloadWord : ℕ
+payloadWord = 1
+
+abbrev pub hashWord : ℕ
+hashWord = 2
+
+abbrev pub coefficientWord : ℕ
+coefficientWord = 3
+
+abbrev pub flagsWord : ℕ
+flagsWord = 4
+
+abbrev pub arityWord : ℕ
+arityWord = 5
+
+abbrev pub childrenWord : ℕ
+childrenWord = 6

@@ -1,0 +1,5 @@
+pub mod Says
+pub mod Layout
+pub mod Kind
+pub mod Node
+pub mod Nodes

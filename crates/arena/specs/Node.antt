@@ -1,0 +1,88 @@
+-- A node, and its words in the lent list.
+use Prim.Native.Nat.{ℕ, zero, suc, _+_, _*_, _%_}
+use mathlib.Core.Bool.{Bool, true, false, cond, _&&_}
+use mathlib.Core.List.{List, [], _∷_, _++_}
+use mathlib.Core.Option.{Option, none, some}
+use lib.ListN.{getD, take, drop, set}
+use lib.Dec.{eqb}
+use Rattle.hash.specs.Fnv.{nodeHashOf}
+use Rattle.arena.specs.declared.node.DagNode.{DagNode}
+use Rattle.arena.specs.Layout.{nodeWords, mostChildren, kindWord, payloadWord, hashWord, coefficientWord, flagsWord, arityWord, childrenWord}
+use Rattle.arena.specs.Kind.{constant}
+
+-- so many words from a place on
+unfoldable pub wordsFrom : ℕ → List ℕ → ℕ → List ℕ
+wordsFrom zero words at = []
+wordsFrom (suc n) words at = getD words at 0 ∷ wordsFrom n words (suc at)
+
+-- the node of an id
+unfoldable pub nodeAt : List ℕ → ℕ → DagNode
+nodeAt words id = record {
+  kind = getD words (id * nodeWords + kindWord) 0;
+  payload = getD words (id * nodeWords + payloadWord) 0;
+  hash = getD words (id * nodeWords + hashWord) 0;
+  coefficient = getD words (id * nodeWords + coefficientWord) 0;
+  flags = getD words (id * nodeWords + flagsWord) 0;
+  arity = getD words (id * nodeWords + arityWord) 0;
+  children = wordsFrom mostChildren words (id * nodeWords + childrenWord);
+}
+
+-- the words of a node
+unfoldable pub wordsOf : DagNode → List ℕ
+wordsOf n = n .kind ∷ n .payload ∷ n .hash ∷ n .coefficient ∷ n .flags ∷ n .arity ∷ n .children
+
+-- the list with a node's words at an id, and every other word as it was
+unfoldable pub put : List ℕ → ℕ → DagNode → List ℕ
+put words id n = take (id * nodeWords) words ++ wordsOf n ++ drop (id * nodeWords + nodeWords) words
+
+-- two lists of children agree
+unfoldable pub sameChildren : List ℕ → List ℕ → Bool
+sameChildren [] [] = true
+sameChildren [] (y ∷ b) = false
+sameChildren (x ∷ a) [] = false
+sameChildren (x ∷ a) (y ∷ b) = eqb x y && sameChildren a b
+
+-- 01: "Flags: 1 commutative, 2 associative, 4 canonical", and "flags without 4"
+abbrev pub canonical : ℕ
+canonical = 4
+
+-- 01: "Two nodes are one if kind, payload, children and flags without 4 agree." Unused child places are 0.
+unfoldable pub one : DagNode → DagNode → Bool
+one a b =
+    eqb (a .kind) (b .kind)
+    && (eqb (a .payload) (b .payload)
+    && (eqb (a .flags % canonical) (b .flags % canonical)
+    && (eqb (a .arity) (b .arity) && sameChildren (a .children) (b .children))))
+
+-- the hash of a node: over its kind, its payload and the children that it has
+unfoldable pub nodeHash : DagNode → ℕ
+nodeHash n = nodeHashOf (n .kind) (n .payload) (take (n .arity) (n .children))
+
+-- the binary64 bits of 1.0
+abbrev pub bitsOfOne : ℕ
+bitsOfOne = 4607182418800017408
+
+-- 01: "Coefficient: a constant's value, else 1.0."
+unfoldable pub coefficient : ℕ → ℕ → ℕ
+coefficient kind payload = cond (eqb kind constant) payload bitsOfOne
+
+-- a node with its hash and its coefficient
+unfoldable pub newNode : ℕ → ℕ → ℕ → ℕ → List ℕ → DagNode
+newNode kind payload flags arity children = record {
+  kind = kind;
+  payload = payload;
+  hash = nodeHashOf kind payload (take arity children);
+  coefficient = coefficient kind payload;
+  flags = flags;
+  arity = arity;
+  children = children;
+}
+
+-- the words with a node's mark set
+unfoldable pub marked : List ℕ → ℕ → List ℕ
+marked words id = set words (id * nodeWords + flagsWord) (getD words (id * nodeWords + flagsWord) 0 % canonical + canonical)
+
+-- the id of the node that is one with a key, found by comparing it with every node
+unfoldable pub find : List ℕ → ℕ → DagNode → Option ℕ
+find words zero key = none
+find words (suc n) key = cond (one (nodeAt words n) key) (some n) (find words n key)

@@ -1,0 +1,93 @@
+// 01: "Kind, from `kind_disc`: 0 variable (payload its symbol), 1 constant (payload the binary64 bits), 2 to 8
+// operator Add, Sub, Mul, Div, Pow, Mod, Neg (payload 0), 16 function (payload its number), 32 control (payload
+// 0 Select, 1 IfElse, 2 ForLoop)."
+ghost use mathlib.Core.Path.{_≡_};
+ghost use Rattle.arena.specs.Kind.{operatorArity, controlArity, listed};
+use crate::MOST_CHILDREN;
+
+pub const VARIABLE: u64 = 0;
+
+pub const CONSTANT: u64 = 1;
+
+pub const ADD: u64 = 2;
+
+pub const SUB: u64 = 3;
+
+pub const MUL: u64 = 4;
+
+pub const DIV: u64 = 5;
+
+pub const POW: u64 = 6;
+
+pub const MOD: u64 = 7;
+
+pub const NEG: u64 = 8;
+
+pub const FUNCTION: u64 = 16;
+
+pub const CONTROL: u64 = 32;
+
+pub const SELECT: u64 = 0;
+
+pub const IF_ELSE: u64 = 1;
+
+pub const FOR_LOOP: u64 = 2;
+
+// Symbols and function numbers are below 2^32.
+pub const NUMBERS: u64 = 4_294_967_296;
+// Add and Mul have one to four children.
+pub const MOST_OPERANDS: u64 = 4;
+
+// Whether an operator has so many children.
+pub fn operator_arity(kind: u64, arity: u64) -> bool
+    ensures { λ r. ⌜ r ≡ operatorArity kind arity ⌝ }
+{
+    match kind {
+        ADD | MUL => {
+            if arity == 0 {
+                false
+            } else {
+                arity <= MOST_OPERANDS
+            }
+        }
+        NEG => arity == 1,
+        _ => arity == 2,
+    }
+}
+
+// Whether a control has so many children.
+pub fn control_arity(control: u64, arity: u64) -> bool
+    ensures { λ r. ⌜ r ≡ controlArity control arity ⌝ }
+{
+    match control {
+        SELECT | IF_ELSE => arity == 3,
+        FOR_LOOP => arity == 4,
+        _ => false,
+    }
+}
+
+// Whether kind, payload and child count are as listed.
+pub fn is_listed(kind: u64, payload: u64, arity: u64) -> bool
+    ensures { λ r. ⌜ r ≡ listed kind payload arity ⌝ }
+{
+    match kind {
+        VARIABLE => { if payload < NUMBERS { arity == 0 } else { false } }
+        CONSTANT => arity == 0,
+        ADD..=NEG => {
+            if payload == 0 {
+                operator_arity(kind, arity)
+            } else {
+                false
+            }
+        }
+        FUNCTION => {
+            if payload < NUMBERS {
+                arity <= MOST_CHILDREN as u64
+            } else {
+                false
+            }
+        }
+        CONTROL => control_arity(payload, arity),
+        _ => false,
+    }
+}

@@ -1,0 +1,48 @@
+// The nodes of a store (arena.rs, node.rs), as words of 64 bits in a lent list. Ids count from 0.
+pub mod audit;
+pub mod kind;
+pub mod node;
+
+pub use audit::audit_nodes;
+pub use node::DagNode;
+pub use node::load;
+pub use node::mark;
+pub use node::same_node;
+pub use node::store_node;
+
+// 01: "A node is 10 words of 64 bits in a lent list: kind, payload, hash, coefficient bits, flags, child
+// count, four child places".
+pub const MOST_CHILDREN: usize = 4;
+
+pub const KIND: usize = 0;
+
+pub const PAYLOAD: usize = 1;
+
+pub const HASH: usize = 2;
+
+pub const COEFFICIENT: usize = 3;
+
+pub const FLAGS: usize = 4;
+
+pub const ARITY: usize = 5;
+
+pub const CHILDREN: usize = 6;
+
+pub const NODE_WORDS: usize = CHILDREN + MOST_CHILDREN;
+
+pub const MOST_NODES: u64 = 65_536;
+
+// 01: "Flags: 1 commutative, 2 associative, 4 canonical."
+pub const COMMUTATIVE: u64 = 1;
+
+pub const ASSOCIATIVE: u64 = 2;
+
+pub const CANONICAL: u64 = 4;
+// 01: "flags are 0 to 7".
+pub const FLAGS_END: u64 = 8;
+
+// How many nodes a store has, and how many slots its table has.
+pub struct DagArena {
+    pub count: u64,
+    pub size: usize,
+}

@@ -1,0 +1,184 @@
+// A node by value, and its words.
+ghost use mathlib.Core.Path.{_≡_};
+ghost use mathlib.Core.Bool.{true};
+ghost use Prim.Native.Nat.{ℕ, _+_, _*_, _≤_, _<_};
+ghost use lib.ListN.{length, take};
+ghost use Rattle.hash.specs.Fnv.{nodeHashOf};
+ghost use lib.Seq.{paste};
+ghost use Rattle.arena.specs.Layout.{nodeWords, mostNodes, mostChildren};
+ghost use Rattle.arena.specs.Node.{wordsFrom, nodeAt, put, sameChildren, one, coefficient, newNode, marked};
+use crate::ARITY;
+use crate::CANONICAL;
+use crate::CHILDREN;
+use crate::COEFFICIENT;
+use crate::FLAGS;
+use crate::HASH;
+use crate::KIND;
+use crate::MOST_CHILDREN;
+use crate::NODE_WORDS;
+use crate::PAYLOAD;
+use crate::kind::CONSTANT;
+
+// The binary64 bits of 1.0.
+const BITS_OF_ONE: u64 = 4_607_182_418_800_017_408;
+
+// A node by value carries its child places; unused ones are 0.
+pub struct DagNode {
+    pub kind: u64,
+    pub payload: u64,
+    pub hash: u64,
+    pub coefficient: u64,
+    pub flags: u64,
+    pub arity: u64,
+    pub children: [u64; MOST_CHILDREN],
+}
+
+// 01: "Coefficient: a constant's value, else 1.0."
+pub fn coefficient_of(kind: u64, payload: u64) -> u64
+    ensures { λ r. ⌜ r ≡ coefficient kind payload ⌝ }
+{
+    if kind == CONSTANT {
+        payload
+    } else {
+        BITS_OF_ONE
+    }
+}
+
+// The hash of a node with these parts.
+pub fn hash_of(kind: u64, payload: u64, arity: u64, children: [u64; MOST_CHILDREN]) -> u64
+    requires { ⌜ arity ≤ mostChildren ⌝ }
+    ensures { λ r. ⌜ r ≡ nodeHashOf kind payload (take arity children) ⌝ }
+{
+    let used = arity as usize;
+    hash::node_hash(kind, payload, &children[..used])
+}
+
+impl DagNode {
+    // A node with its hash and its coefficient.
+    pub fn new(
+        kind: u64,
+        payload: u64,
+        flags: u64,
+        arity: u64,
+        children: [u64; MOST_CHILDREN],
+    ) -> Self
+        requires { ⌜ arity ≤ mostChildren ⌝ }
+        ensures { λ r. ⌜ r ≡ newNode kind payload flags arity children ⌝ }
+    {
+        let hash = hash_of(kind, payload, arity, children);
+        let coefficient = coefficient_of(kind, payload);
+        Self {
+            kind,
+            payload,
+            hash,
+            coefficient,
+            flags,
+            arity,
+            children,
+        }
+    }
+}
+
+// The child places that stand from a word on.
+fn load_children(nodes: &[u64], at: usize) -> [u64; MOST_CHILDREN]
+    requires { ⌜ at + mostChildren ≤ length (now nodes) ⌝ }
+    ensures { λ r. ⌜ r ≡ wordsFrom mostChildren (now (nodes .entry)) at ⌝ }
+{
+    let mut children = [0; MOST_CHILDREN];
+    let mut j: usize = 0;
+    while j < MOST_CHILDREN {
+        children[j] = nodes[at + j];
+        j += 1;
+    }
+    children
+}
+
+// The node of an id.
+pub fn load(nodes: &[u64], id: u64) -> DagNode
+    requires { ⌜ id * nodeWords + nodeWords ≤ length (now nodes) ⌝ }
+    ensures { λ r. ⌜ r ≡ nodeAt (now (nodes .entry)) id ⌝ }
+{
+    let at = id as usize * NODE_WORDS;
+    let children = load_children(nodes, at + CHILDREN);
+    DagNode {
+        kind: nodes[at + KIND],
+        payload: nodes[at + PAYLOAD],
+        hash: nodes[at + HASH],
+        coefficient: nodes[at + COEFFICIENT],
+        flags: nodes[at + FLAGS],
+        arity: nodes[at + ARITY],
+        children,
+    }
+}
+
+// The child places, from a word on.
+fn store_children(nodes: &mut [u64], at: usize, children: [u64; MOST_CHILDREN])
+    requires { ⌜ at + mostChildren ≤ length (now nodes) ⌝ }
+    ensures { λ r. ⌜ now (nodes .exit) ≡ paste (now (nodes .entry)) at children mostChildren ⌝ }
+{
+    let mut j: usize = 0;
+    while j < MOST_CHILDREN {
+        nodes[at + j] = children[j];
+        j += 1;
+    }
+}
+
+// A node's words, at its id.
+pub fn store_node(nodes: &mut [u64], id: u64, node: DagNode)
+    requires { ⌜ id * nodeWords + nodeWords ≤ length (now nodes) ⌝ }
+    ensures { λ r. ⌜ now (nodes .exit) ≡ put (now (nodes .entry)) id node ⌝ }
+{
+    let at = id as usize * NODE_WORDS;
+    let children = node.children;
+    nodes[at + KIND] = node.kind;
+    nodes[at + PAYLOAD] = node.payload;
+    nodes[at + HASH] = node.hash;
+    nodes[at + COEFFICIENT] = node.coefficient;
+    nodes[at + FLAGS] = node.flags;
+    nodes[at + ARITY] = node.arity;
+    store_children(nodes, at + CHILDREN, children);
+}
+
+// Whether two nodes have the same child places.
+fn same_children(a: [u64; MOST_CHILDREN], b: [u64; MOST_CHILDREN]) -> bool
+    ensures { λ r. ⌜ r ≡ sameChildren a b ⌝ }
+{
+    let mut j: usize = 0;
+    while j < MOST_CHILDREN {
+        if a[j] != b[j] {
+            return false;
+        }
+        j += 1;
+    }
+    true
+}
+
+// Whether two nodes are one.
+pub fn same_node(a: DagNode, b: DagNode) -> bool
+    ensures { λ r. ⌜ r ≡ one a b ⌝ }
+{
+    if a.kind != b.kind {
+        return false;
+    }
+    if a.payload != b.payload {
+        return false;
+    }
+    if a.flags % CANONICAL != b.flags % CANONICAL {
+        return false;
+    }
+    if a.arity != b.arity {
+        return false;
+    }
+    let left = a.children;
+    let right = b.children;
+    same_children(left, right)
+}
+
+// A node's mark set.
+pub fn mark(nodes: &mut [u64], id: u64)
+    requires { ⌜ id * nodeWords + nodeWords ≤ length (now nodes) ⌝ }
+    ensures { λ r. ⌜ now (nodes .exit) ≡ marked (now (nodes .entry)) id ⌝ }
+{
+    let at = id as usize * NODE_WORDS + FLAGS;
+    nodes[at] = nodes[at] % CANONICAL + CANONICAL;
+}

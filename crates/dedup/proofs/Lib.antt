@@ -1,0 +1,12 @@
+pub mod Doubling
+pub mod Rounds
+pub mod Searching
+pub mod Pigeon
+pub mod Placing
+pub mod Renewing
+pub mod Keys
+pub mod Answers
+pub mod Marking
+pub mod UsedSlots
+pub mod OwnSlots
+pub mod AuditedTable

@@ -1,0 +1,35 @@
+-- A table made anew.
+use Prim.Native.Nat.{ℕ, _+_, _*_, _/_, _≤_, _<_}
+use mathlib.Core.Path.{_≡_, refl, _∙_}
+use mathlib.Core.List.{List, _++_}
+use lib.ListN.{getD, length, drop, replicate, length-replicate, getD-replicate, length-append, length-drop, List·getD-append}
+use lib.Seq.{drop-at}
+use native.Mathlib.Omega.{arith}
+use Rattle.dedup.specs.Table.{TableSize, Table}
+use Rattle.dedup.specs.Insert.{Taken}
+use Rattle.dedup.proofs.Placing.{table-add, past-add}
+
+zeros : (n : ℕ) (l : List ℕ) (p : ℕ) → p < n → getD (replicate n 0 ++ drop n l) p 0 ≡ 0
+zeros n l p h = List·getD-append (replicate n 0) (drop n l) 0 p (rw length-replicate h) ∙ getD-replicate n p 0 0 h
+
+-- a table without nodes
+pub empty : (hash : ℕ → ℕ) (n : ℕ) (l : List ℕ) → TableSize n → n ≤ length l → Table hash 0 (replicate n 0 ++ drop n l) n
+empty hash n l t h = record {
+  doubled = t;
+  sized = simp (length-append, length-replicate, length-drop) (omega arith);
+  load = omega arith;
+  placed = λ i m. absurd (omega arith);
+  single = λ q r lq lr x e. absurd (x (zeros n l q lq));
+  only = λ q lq. rw (zeros n l q lq) (omega arith);
+}
+
+pub empty-past : (n : ℕ) (l : List ℕ) → drop n (replicate n 0 ++ drop n l) ≡ drop n l
+empty-past n l = drop-at (replicate n 0) (drop n l) n (length-replicate n 0)
+
+-- one id more
+module _ (hash : ℕ → ℕ) (i : ℕ) (slots : List ℕ) (size h : ℕ) (slots′ : List ℕ) (t : Table hash i slots size) (e : h ≡ hash i) (fits : i + 1 ≤ size * 7 / 10) (k : Taken slots size h i slots′) where
+  pub table-more : Table hash (i + 1) slots′ size
+  table-more = rw (k .after) (table-add hash i slots size t hash (λ _ _. refl) (k .place) (rw (← e) (k .free)) fits)
+
+  pub past-more : drop size slots′ ≡ drop size slots
+  past-more = rw (k .after) (past-add hash i slots size t hash (λ _ _. refl) (k .place) (rw (← e) (k .free)) fits)

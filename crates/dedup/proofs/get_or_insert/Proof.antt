@@ -1,0 +1,83 @@
+-- `dedup::get_or_insert` meets its contract: by where the search ends.
+use Prim.Native.Nat.{_-_}
+use native.Mathlib.Omega.{arith}
+use borrow.Author.Needs.{needs}
+use Rattle.dedup.proofs.Searching.{was-here, was-free, was-nowhere, reached-in, held}
+use Rattle.dedup.proofs.Placing.{room}
+use Rattle.dedup.proofs.Keys.{not-passed, found, absent}
+use Rattle.dedup.proofs.Answers.{old-answer}
+use Rattle.dedup.proofs.get_or_insert.Statement.{statement}
+use Rattle.dedup.proofs.get_or_insert.Tie as tie
+
+probe-requires : tie.Need-probe-requires
+probe-requires c κs = record { doubled = c .before .before .before .before .pre .1 .doubled; sized = c .before .before .before .before .pre .1 .sized; formed = c .before .before .before .before .pre .0 .formed; hashed = c .before .before .before .before .pre .2 .hashed }
+
+enum-known-found : tie.Need-enum-known-found
+enum-known-found c = search needs
+
+mul-slot-id : tie.Need-mul-slot-id
+mul-slot-id c = let h = reached-in _ _ _ _ _ _ (was-here _ _ _ _ _ _ _ (c .before .found .given .1) (c .before .before .before .probe .ensures) .reached) in let l = c .before .before .before .before .before .before .before .before .pre .1 .sized in search needs
+
+slice-read-slot-id : tie.Need-slice-read-slot-id
+slice-read-slot-id c = let h = reached-in _ _ _ _ _ _ (was-here _ _ _ _ _ _ _ (c .before .before .found .given .1) (c .before .before .before .before .probe .ensures) .reached) in let l = c .before .before .before .before .before .before .before .before .before .pre .1 .sized in omega arith
+
+slot-id-requires : tie.Need-slot-id-requires
+slot-id-requires c κs = held _ _ _ _ (was-here _ _ _ _ _ _ _ (c .before .before .found .given .1) (c .before .before .before .before .probe .ensures) .held) .0
+
+enum-known-found-2 : tie.Need-enum-known-found-2
+enum-known-found-2 c = search needs
+
+insert-requires : tie.Need-insert-requires
+insert-requires c κs = let f = was-free _ _ _ _ _ _ _ (c .before .before .before .found2 .given .1) (c .before .before .before .before .before .probe .ensures) in record { nodes = c .before .before .before .before .before .before .before .before .before .before .pre .0; table = c .before .before .before .before .before .before .before .before .before .before .pre .1; formed = c .before .before .before .before .before .before .before .before .before .before .pre .2; absent = absent _ _ _ _ _ (c .before .before .before .before .before .before .before .before .before .before .pre .2 .hashed) (c .before .before .before .before .before .before .before .before .before .before .pre .0) (c .before .before .before .before .before .before .before .before .before .before .pre .1) _ f; free = f }
+
+enum-told : tie.Need-enum-told
+enum-told c = search needs
+
+same-length : tie.Need-same-length
+same-length c = search needs
+
+same-length-2 : tie.Need-same-length-2
+same-length-2 c = search needs
+
+returns : tie.Need-returns
+returns c = rw (c .slot-id .ensures) (old-answer _ _ _ _ _ (found _ _ _ _ _ (c .before .before .before .before .before .before .before .before .before .before .pre .2 .hashed) (c .before .before .before .before .before .before .before .before .before .before .pre .0) _ (was-here _ _ _ _ _ _ _ (c .before .before .before .found .given .1) (c .before .before .before .before .before .probe .ensures))) (c .before .before .before .before .before .before .before .before .before .before .pre .0) (c .before .before .before .before .before .before .before .before .before .before .pre .1))
+
+same-length-3 : tie.Need-same-length-3
+same-length-3 c = search needs
+
+same-length-4 : tie.Need-same-length-4
+same-length-4 c = search needs
+
+returns-2 : tie.Need-returns-2
+returns-2 c = c .before .before .before .before .insert .ensures
+
+same-length-5 : tie.Need-same-length-5
+same-length-5 c = search needs
+
+same-length-6 : tie.Need-same-length-6
+same-length-6 c = search needs
+
+returns-3 : tie.Need-returns-3
+returns-3 c = absurd (not-passed _ _ _ _ _ (room _ _ _ _ (c .before .before .before .before .before .before .before .pre .1)) (was-nowhere _ _ _ _ _ _ (c .enum-told .given .1) (c .before .before .probe .ensures)))
+
+pub get-or-insert-spec : {M : Type 1} → statement M
+get-or-insert-spec =
+    tie.close
+    (tie.spec
+    probe-requires
+    enum-known-found
+    mul-slot-id
+    slice-read-slot-id
+    slot-id-requires
+    enum-known-found-2
+    insert-requires
+    enum-told
+    same-length
+    same-length-2
+    returns
+    same-length-3
+    same-length-4
+    returns-2
+    same-length-5
+    same-length-6
+    returns-3)

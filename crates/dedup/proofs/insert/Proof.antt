@@ -1,0 +1,112 @@
+-- `dedup::insert` meets its contract: one law for each answer.
+use Prim.Native.Nat.{_-_}
+use mathlib.Core.Path.{_≡_}
+use lib.ListN.{length}
+use native.Mathlib.Omega.{arith}
+use borrow.Author.Needs.{needs}
+use Rattle.arena.specs.Layout.{mostChildren}
+use Rattle.dedup.proofs.Searching.{reached-in}
+use Rattle.dedup.proofs.Placing.{room}
+use Rattle.dedup.proofs.Answers.{refuse-count, refuse-words, refuse-slots, added, doubles, added-doubled}
+use Rattle.dedup.proofs.insert.Statement.{statement}
+use Rattle.dedup.proofs.insert.Tie as tie
+
+children : (s : tie.Start) → length (s .args .key .children) ≡ mostChildren
+children s = search needs
+
+returns : tie.Need-returns
+returns c = refuse-count _ _ _ _ _ (c .before .before .before .pre) (c .if1 .taken)
+
+mul-if2 : tie.Need-mul-if2
+mul-if2 c = search needs
+
+add-if2 : tie.Need-add-if2
+add-if2 c = search needs
+
+returns-2 : tie.Need-returns-2
+returns-2 c = refuse-words _ _ _ _ _ (c .before .before .before .before .pre) (c .before .if1 .left) (c .if2 .taken)
+
+most-nodes-requires : tie.Need-most-nodes-requires
+most-nodes-requires c κs = search needs
+
+add-slots : tie.Need-add-slots
+add-slots c = search needs
+
+cast-slots : tie.Need-cast-slots
+cast-slots c = search needs
+
+mul-slots : tie.Need-mul-slots
+mul-slots c = let h = reached-in _ _ _ _ _ _ (c .before .before .before .before .before .before .pre .free .reached) in let l = c .before .before .before .before .before .before .pre .table .sized in search needs
+
+slice-write-slots : tie.Need-slice-write-slots
+slice-write-slots c = let h = reached-in _ _ _ _ _ _ (c .before .before .before .before .before .before .pre .free .reached) in let l = c .before .before .before .before .before .before .pre .table .sized in omega arith
+
+store-node-requires : tie.Need-store-node-requires
+store-node-requires c κs = c .before .before .before .if2 .left
+
+add-t16 : tie.Need-add-t16
+add-t16 c = search needs
+
+same-length : tie.Need-same-length
+same-length c = search needs
+
+same-length-2 : tie.Need-same-length-2
+same-length-2 c = search needs
+
+returns-3 : tie.Need-returns-3
+returns-3 c = rw (c .before .before .store-node .ensures) (added _ _ _ _ _ (c .before .before .before .before .before .before .before .before .before .before .pre) (c .before .before .before .before .before .before .before .if1 .left) (c .before .before .before .before .before .before .if2 .left) (children (c .before .before .before .before .before .before .before .before .before .before)) (let e = c .before .before .before .before .before .most-nodes .ensures in let l = c .before .before .before .before .if3 .taken in omega arith))
+
+returns-4 : tie.Need-returns-4
+returns-4 c = refuse-slots _ _ _ _ _ (c .before .before .before .before .before .before .before .pre) (c .before .before .before .before .if1 .left) (c .before .before .before .if2 .left) (let e = c .before .before .most-nodes .ensures in let l = c .before .if3 .left in omega arith) (omega arith)
+
+mul-doubled : tie.Need-mul-doubled
+mul-doubled c = search needs
+
+rehash-requires : tie.Need-rehash-requires
+rehash-requires c κs = (c .before .before .before .before .before .before .before .before .before .pre .nodes .formed, doubles _ _ _ _ _ (c .before .before .before .before .before .before .before .before .before .pre) (c .before .before .before .before .before .before .if1 .left) (c .before .before .before .before .before .if2 .left) (children (c .before .before .before .before .before .before .before .before .before)) (let e = c .before .before .before .before .most-nodes .ensures in let l = c .before .before .before .if3 .left in omega arith) (c .before .before .if4 .left))
+
+place-requires : tie.Need-place-requires
+place-requires c κs = (c .before .before .before .before .before .before .before .before .before .before .before .if1 .left, c .before .before .before .before .before .before .before .before .before .before .before .before .before .before .pre .formed .hashed, room _ _ _ _ (c .before .before .before .before .rehash .ensures .table))
+
+store-node-requires-2 : tie.Need-store-node-requires-2
+store-node-requires-2 c κs = c .before .before .before .before .before .before .before .before .before .before .before .before .before .before .if2 .left
+
+add-t38 : tie.Need-add-t38
+add-t38 c = search needs
+
+same-length-3 : tie.Need-same-length-3
+same-length-3 c = search needs
+
+same-length-4 : tie.Need-same-length-4
+same-length-4 c = search needs
+
+returns-5 : tie.Need-returns-5
+returns-5 c = rw (c .before .before .store-node2 .ensures) (added-doubled _ _ _ _ _ (c .before .before .before .before .before .before .before .before .before .before .before .before .before .before .before .before .before .before .before .before .before .pre) (c .before .before .before .before .before .before .before .before .before .before .before .before .before .before .before .before .before .before .if1 .left) (c .before .before .before .before .before .before .before .before .before .before .before .before .before .before .before .before .before .if2 .left) (children (c .before .before .before .before .before .before .before .before .before .before .before .before .before .before .before .before .before .before .before .before .before)) (let e = c .before .before .before .before .before .before .before .before .before .before .before .before .before .before .before .before .most-nodes .ensures in let l = c .before .before .before .before .before .before .before .before .before .before .before .before .before .before .before .if3 .left in omega arith) (c .before .before .before .before .before .before .before .before .before .before .before .before .before .before .if4 .left) _ _ (c .before .before .before .before .before .before .before .before .before .before .before .rehash .ensures) (c .before .before .before .before .before .before .place .ensures))
+
+pub insert-spec : {M : Type 1} → statement M
+insert-spec =
+    tie.close
+    (tie.spec
+    returns
+    mul-if2
+    add-if2
+    returns-2
+    most-nodes-requires
+    add-slots
+    cast-slots
+    mul-slots
+    slice-write-slots
+    store-node-requires
+    add-t16
+    same-length
+    same-length-2
+    returns-3
+    returns-4
+    mul-doubled
+    rehash-requires
+    place-requires
+    store-node-requires-2
+    add-t38
+    same-length-3
+    same-length-4
+    returns-5)

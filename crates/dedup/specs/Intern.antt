@@ -1,0 +1,63 @@
+-- What a call with a node answers and leaves.
+use Prim.Native.Nat.{ℕ, _+_, _*_, _/_, _≤_, _<_}
+use mathlib.Core.Path.{_≡_}
+use mathlib.Core.Bool.{Bool, cond, _||_}
+use mathlib.Core.List.{List}
+use mathlib.Core.Option.{Option, none, some}
+use lib.ListN.{length, drop}
+use lib.Dec.{leb, ltb}
+use Rattle.arena.specs.declared.DagArena.{DagArena}
+use Rattle.arena.specs.declared.node.DagNode.{DagNode}
+use Rattle.arena.specs.Layout.{nodeWords, mostNodes}
+use Rattle.arena.specs.Node.{put, find}
+use Rattle.arena.specs.Nodes.{WellFormed, Nodes}
+use Rattle.dedup.specs.declared.Answer.{Answer}
+use Rattle.dedup.specs.declared.Answer.the-variants.{Old, New, Refused}
+use Rattle.dedup.specs.declared.Interned.{Interned}
+use Rattle.dedup.specs.Table.{Table, hashAt}
+use Rattle.dedup.specs.Probe.{Frees}
+
+abbrev pub answered : Answer → ℕ → ℕ → Interned
+answered answer count size = record { answer = answer; arena = record { count = count; size = size } }
+
+-- to a new node, with so many words and slots lent. 01: "21 no place for a new node (65,536 at most). 22 a new node needs a doubling and the lent slots are too few"; the table "doubles before an insertion that would make the count exceed floor(size·7/10)"
+unfoldable pub newAnswer : ℕ → ℕ → ℕ → ℕ → Interned
+newAnswer words slots count size =
+    cond (leb mostNodes count || ltb words (count * nodeWords + nodeWords)) (answered (Refused 21) count size)
+    (cond (leb (count + 1) (size * 7 / 10)) (answered (New count) (count + 1) size)
+    (cond (ltb slots (size * 2)) (answered (Refused 22) count size)
+    (answered (New count) (count + 1) (size * 2))))
+
+-- an old node is found before 21 or 22 can apply
+unfoldable pub internAnswer : Option ℕ → ℕ → ℕ → ℕ → ℕ → Interned
+internAnswer (some id) words slots count size = answered (Old id) count size
+internAnswer none words slots count size = newAnswer words slots count size
+
+-- the words after an answer: those of a new node, put at its id
+unfoldable pub wordsAfter : Answer → List ℕ → DagNode → List ℕ
+wordsAfter (Old id) words key = words
+wordsAfter (New id) words key = put words id key
+wordsAfter (Refused number) words key = words
+
+-- only a new node changes a slot
+unfoldable pub SlotsKept : Answer → List ℕ → List ℕ → Type 0
+SlotsKept (Old id) slots slots′ = slots′ ≡ slots
+SlotsKept (New id) slots slots′ = Unit {0}
+SlotsKept (Refused number) slots slots′ = slots′ ≡ slots
+
+-- the answer, the words after it, and the slots. 01: "Words and slots past the used ones stay."
+pub record Interns (words slots : List ℕ) (arena : DagArena) (key : DagNode) (r : Interned) (words′ slots′ : List ℕ) : Type 0 where
+  pub answer : r ≡ internAnswer (find words (arena .count) key) (length words) (length slots) (arena .count) (arena .size)
+  pub words-after : words′ ≡ wordsAfter (r .answer) words key
+  pub slots-kept : SlotsKept (r .answer) slots slots′
+  pub slots-past : drop (r .arena .size) slots′ ≡ drop (r .arena .size) slots
+  pub nodes : Nodes words′ (r .arena .count)
+  pub table : Table (hashAt words′) (r .arena .count) slots′ (r .arena .size)
+
+-- a key that is none of the nodes, and its first free place
+pub record Absent (words slots : List ℕ) (arena : DagArena) (key : DagNode) (place : ℕ) : Type 0 where
+  pub nodes : Nodes words (arena .count)
+  pub table : Table (hashAt words) (arena .count) slots (arena .size)
+  pub formed : WellFormed (arena .count) key
+  pub absent : find words (arena .count) key ≡ none
+  pub free : Frees words (arena .count) slots (arena .size) key place

@@ -1,0 +1,5 @@
+pub mod Table
+pub mod Probe
+pub mod Insert
+pub mod Intern
+pub mod Audit

@@ -1,0 +1,85 @@
+// The audit of a store's nodes and slots, for refusal 20.
+ghost use mathlib.Core.Path.{_≡_};
+ghost use Prim.Native.Nat.{ℕ, _+_, _*_, _≤_, _<_};
+ghost use lib.ListN.{length};
+ghost use Rattle.arena.specs.Says.{Says};
+ghost use Rattle.arena.specs.Nodes.{AllWellFormed, Nodes};
+ghost use Rattle.dedup.specs.Table.{Table, hashAt};
+ghost use Rattle.dedup.specs.Audit.{usedSlots, Fit, MeetsOwn, AllMeetOwn};
+use crate::probing::Place;
+use crate::probing::probe;
+use crate::probing::slot_id;
+use crate::sizes::is_table_size;
+use crate::sizes::most_nodes;
+use arena::DagArena;
+use arena::audit_nodes;
+use arena::load;
+
+// How many of the first `size` slots are in use.
+fn used_slots(slots: &[u32], size: usize) -> usize
+    requires { ⌜ size ≤ length (now slots) ⌝ }
+    ensures { λ r. ⌜ r ≡ usedSlots (now (slots .entry)) size ⌝ }
+{
+    let mut used: usize = 0;
+    let mut at: usize = 0;
+    while at < size {
+        if slots[at] != 0 {
+            used += 1;
+        }
+        at += 1;
+    }
+    used
+}
+
+// Whether the search for a node meets the slot of its own id first.
+fn meets_own(nodes: &[u64], slots: &[u32], arena: DagArena, id: u64) -> bool
+    requires { ⌜ (id < arena .count) × AllWellFormed (now nodes) (arena .count) × Fit (now slots) (arena .size) ⌝ }
+    ensures { λ r. ⌜ Says r (MeetsOwn (now (nodes .entry)) (arena .count) (now (slots .entry)) (arena .size) id) ⌝ }
+{
+    let found = probe(nodes, slots, arena.size, load(nodes, id), arena.count);
+    match found {
+        Place::Here(at) => slot_id(slots[at]) == id,
+        Place::Free(_) => false,
+        Place::Nowhere => false,
+    }
+}
+
+fn all_meet_own(nodes: &[u64], slots: &[u32], arena: DagArena) -> bool
+    requires { ⌜ AllWellFormed (now nodes) (arena .count) × Fit (now slots) (arena .size) ⌝ }
+    ensures { λ r. ⌜ Says r (AllMeetOwn (now (nodes .entry)) (arena .count) (now (slots .entry)) (arena .size)) ⌝ }
+{
+    let mut id: u64 = 0;
+    while id < arena.count {
+        if !meets_own(nodes, slots, arena, id) {
+            return false;
+        }
+        id += 1;
+    }
+    true
+}
+
+// Whether the nodes and the table are those of a sound store. As many slots as nodes are in use, so that an id
+// that each search meets has no second slot, and no other slot is in use.
+pub fn audit(nodes: &[u64], slots: &[u32], arena: DagArena) -> bool
+    ensures { λ r. ⌜ Says r (Nodes (now (nodes .entry)) (arena .count) × Table (hashAt (now (nodes .entry))) (arena .count) (now (slots .entry)) (arena .size)) ⌝ }
+{
+    let count = arena.count;
+    let size = arena.size;
+    if slots.len() < size {
+        return false;
+    }
+    if !is_table_size(size) {
+        return false;
+    }
+    if !audit_nodes(nodes, count) {
+        return false;
+    }
+    let nodes_now = count as usize;
+    if most_nodes(size) < nodes_now {
+        return false;
+    }
+    if used_slots(slots, size) != nodes_now {
+        return false;
+    }
+    all_meet_own(nodes, slots, arena)
+}

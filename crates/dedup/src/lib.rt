@@ -1,0 +1,124 @@
+// The duplicate table of a store (dedup.rs): one node, one id. 01: "A slot is a 32-bit id + 1, or 0."
+ghost use mathlib.Core.Path.{_≡_};
+ghost use Prim.Native.Nat.{ℕ, _+_, _*_, _≤_, _<_};
+ghost use lib.ListN.{length};
+ghost use Rattle.arena.specs.Nodes.{WellFormed, Nodes};
+ghost use Rattle.dedup.specs.Table.{Table, hashAt};
+ghost use Rattle.dedup.specs.Intern.{Interns, Absent};
+
+pub mod auditing;
+pub mod filling;
+pub mod probing;
+pub mod sizes;
+
+use arena::DagArena;
+use arena::DagNode;
+use arena::MOST_NODES;
+use arena::NODE_WORDS;
+use arena::store_node;
+pub use auditing::audit;
+use filling::place;
+use filling::rehash;
+use probing::Place;
+use probing::probe;
+use probing::slot_id;
+use sizes::most_nodes;
+
+// 01: "21 no place for a new node", "22 a new node needs a doubling and the lent slots are too few".
+pub const NO_PLACE: u64 = 21;
+
+pub const NO_SLOTS: u64 = 22;
+
+// The id of an old node or of a new one, or the number of a refusal.
+pub enum Answer {
+    Old(u64),
+    New(u64),
+    Refused(u64),
+}
+
+// An answer, and the counts of the store after it.
+pub struct Interned {
+    pub answer: Answer,
+    pub arena: DagArena,
+}
+
+// A node that is none of the old ones, whose first free place is at hand.
+fn insert(
+    nodes: &mut [u64],
+    slots: &mut [u32],
+    arena: DagArena,
+    key: DagNode,
+    free: usize,
+) -> Interned
+    requires { ⌜ Absent (now nodes) (now slots) arena key free ⌝ }
+    ensures { λ r. ⌜ Interns (now (nodes .entry)) (now (slots .entry)) arena key r (now (nodes .exit)) (now (slots .exit)) ⌝ }
+{
+    let count = arena.count;
+    let size = arena.size;
+    if MOST_NODES <= count {
+        return Interned {
+            answer: Answer::Refused(NO_PLACE),
+            arena,
+        };
+    }
+    if nodes.len() < count as usize * NODE_WORDS + NODE_WORDS {
+        return Interned {
+            answer: Answer::Refused(NO_PLACE),
+            arena,
+        };
+    }
+    if (count as usize) < most_nodes(size) {
+        slots[free] = (count + 1) as u32;
+        store_node(nodes, count, key);
+        return Interned {
+            answer: Answer::New(count),
+            arena: DagArena {
+                count: count + 1,
+                size,
+            },
+        };
+    }
+    if slots.len() / 2 < size {
+        return Interned {
+            answer: Answer::Refused(NO_SLOTS),
+            arena,
+        };
+    }
+    let doubled = size * 2;
+    rehash(nodes, slots, doubled, count);
+    place(nodes, slots, doubled, key, count);
+    store_node(nodes, count, key);
+    Interned {
+        answer: Answer::New(count),
+        arena: DagArena {
+            count: count + 1,
+            size: doubled,
+        },
+    }
+}
+
+// The id of a node, old or new. An old node is found before anything is refused.
+pub fn get_or_insert(
+    nodes: &mut [u64],
+    slots: &mut [u32],
+    arena: DagArena,
+    key: DagNode,
+) -> Interned
+    requires { ⌜ Nodes (now nodes) (arena .count) × Table (hashAt (now nodes)) (arena .count) (now slots) (arena .size) × WellFormed (arena .count) key ⌝ }
+    ensures { λ r. ⌜ Interns (now (nodes .entry)) (now (slots .entry)) arena key r (now (nodes .exit)) (now (slots .exit)) ⌝ }
+{
+    let count = arena.count;
+    let size = arena.size;
+    let found = probe(nodes, slots, size, key, count);
+    match found {
+        Place::Here(at) => Interned {
+            answer: Answer::Old(slot_id(slots[at])),
+            arena,
+        },
+        Place::Free(at) => insert(nodes, slots, arena, key, at),
+        Place::Nowhere => Interned {
+            answer: Answer::Refused(NO_SLOTS),
+            arena,
+        },
+    }
+}

@@ -1,0 +1,66 @@
+// The search round the table, which finding, inserting, rehashing and the audit share.
+ghost use mathlib.Core.Path.{_≡_};
+ghost use mathlib.Core.Bool.{true};
+ghost use Prim.Native.Nat.{ℕ, suc, _+_, _-_, _*_, _≤_, _<_};
+ghost use lib.ListN.{length};
+ghost use Rattle.arena.specs.Node.{nodeHash};
+ghost use Rattle.arena.specs.Nodes.{AllWellFormed};
+ghost use Rattle.dedup.specs.Probe.{holds, Ready, Probed};
+use crate::sizes::modulo_size;
+use arena::DagNode;
+use arena::HASH;
+use arena::NODE_WORDS;
+use arena::load;
+use arena::same_node;
+
+// Where a search ends: at a slot that holds the key's node, at an empty one, or after all slots.
+pub enum Place {
+    Here(usize),
+    Free(usize),
+    Nowhere,
+}
+
+// The id that a slot in use holds.
+pub fn slot_id(slot: u32) -> u64
+    requires { ⌜ 0 < slot ⌝ }
+    ensures { λ r. ⌜ r ≡ slot - 1 ⌝ }
+{
+    (slot - 1) as u64
+}
+
+// Whether a slot in use holds an id below `known` whose node is one with the key. The hash is compared first.
+fn slot_holds(nodes: &[u64], slot: u32, key: DagNode, known: u64) -> bool
+    requires { ⌜ (0 < slot) × AllWellFormed (now nodes) known × (key .hash ≡ nodeHash key) ⌝ }
+    ensures { λ r. ⌜ r ≡ holds (now (nodes .entry)) known key slot ⌝ }
+{
+    let id = slot_id(slot);
+    if known <= id {
+        return false;
+    }
+    if nodes[id as usize * NODE_WORDS + HASH] != key.hash {
+        return false;
+    }
+    same_node(load(nodes, id), key)
+}
+
+// The first slot from the key's hash onward, round the end, that is empty or holds a node that is one with the
+// key. Only nodes below `known` are compared.
+pub fn probe(nodes: &[u64], slots: &[u32], size: usize, key: DagNode, known: u64) -> Place
+    requires { ⌜ Ready (now nodes) known (now slots) size key ⌝ }
+    ensures { λ r. ⌜ Probed (now (nodes .entry)) known (now (slots .entry)) size key r ⌝ }
+{
+    let mut at = modulo_size(key.hash as usize, size);
+    let mut passed: usize = 0;
+    while passed < size {
+        let slot = slots[at];
+        if slot == 0 {
+            return Place::Free(at);
+        }
+        if slot_holds(nodes, slot, key, known) {
+            return Place::Here(at);
+        }
+        at = modulo_size(at + 1, size);
+        passed += 1;
+    }
+    Place::Nowhere
+}

@@ -1,0 +1,41 @@
+// The sizes of the table. 01: "The table starts at 64 slots and doubles before an insertion that would make the
+// count exceed floor(size·7/10)".
+ghost use mathlib.Core.Path.{_≡_};
+ghost use Prim.Native.Nat.{_*_, _/_, _%_};
+ghost use Rattle.arena.specs.Says.{Says};
+ghost use Rattle.dedup.specs.Table.{TableSize};
+
+pub const FIRST_SIZE: usize = 64;
+
+const LOAD: usize = 7;
+
+const LOAD_OF: usize = 10;
+
+// floor(size·7/10), by parts that cannot overflow.
+pub fn most_nodes(size: usize) -> usize
+    ensures { λ r. ⌜ r ≡ size * 7 / 10 ⌝ }
+{
+    size / LOAD_OF * LOAD + size % LOAD_OF * LOAD / LOAD_OF
+}
+
+// Whether a size is a power of two from 64 up.
+pub fn is_table_size(size: usize) -> bool
+    ensures { λ r. ⌜ Says r (TableSize size) ⌝ }
+{
+    let mut rest = size;
+    while FIRST_SIZE < rest {
+        if rest % 2 != 0 {
+            return false;
+        }
+        rest = rest / 2;
+    }
+    rest == FIRST_SIZE
+}
+
+// A number modulo the size.
+pub fn modulo_size(x: usize, size: usize) -> usize
+    requires { ⌜ TableSize size ⌝ }
+    ensures { λ r. ⌜ r ≡ x % size ⌝ }
+{
+    x & (size - 1)
+}

@@ -1,0 +1,79 @@
+// FNV-1a, 64 bits, modulo 2^64 (01: it stands in for the Rust's rapidhash): over the kind byte, the payload
+// (8 bytes) and each child (4 bytes), big-endian.
+ghost use mathlib.Core.Path.{_≡_};
+ghost use mathlib.Core.List.{List, [], _∷_};
+ghost use Prim.Native.Nat.{_<_, _≤_};
+ghost use Rattle.hash.specs.Fnv.{timesPrime, fnvFrom, bytes32, bytes64, childrenBytes, nodeHashOf};
+use std::num::wrapping_add_u64;
+
+const OFFSET_BASIS: u64 = 14_695_981_039_346_656_037;
+
+const PRIME: u64 = 1_099_511_628_211;
+// The prime is 2^40 and 435.
+const PRIME_HIGH: u64 = 1_099_511_627_776;
+
+const PRIME_LOW: u64 = PRIME - PRIME_HIGH;
+
+const BYTE: u64 = 256;
+
+const TWO_TO_16: u64 = 65_536;
+
+const TWO_TO_24: u64 = 16_777_216;
+
+const TWO_TO_32: u64 = 4_294_967_296;
+
+// h times the prime, modulo 2^64: the product with 2^40, and that with 435 for each half of h.
+pub fn wrapping_mul_prime(h: u64) -> u64
+    ensures { λ r. ⌜ r ≡ timesPrime h ⌝ }
+{
+    let top = h % TWO_TO_24 * PRIME_HIGH;
+    let high = h / TWO_TO_32 * PRIME_LOW % TWO_TO_32 * TWO_TO_32;
+    let low = h % TWO_TO_32 * PRIME_LOW;
+    wrapping_add_u64(wrapping_add_u64(top, high), low)
+}
+
+// One byte more.
+fn add_byte(h: u64, byte: u64) -> u64
+    ensures { λ r. ⌜ r ≡ fnvFrom h (byte ∷ []) ⌝ }
+{
+    wrapping_mul_prime(h ^ byte)
+}
+
+// The low 32 bits of a number, as four bytes.
+fn add_u32(h: u64, x: u64) -> u64
+    ensures { λ r. ⌜ r ≡ fnvFrom h (bytes32 x) ⌝ }
+{
+    let first = add_byte(h, x / TWO_TO_24 % BYTE);
+    let second = add_byte(first, x / TWO_TO_16 % BYTE);
+    let third = add_byte(second, x / BYTE % BYTE);
+    add_byte(third, x % BYTE)
+}
+
+// A number of 64 bits, as eight bytes.
+fn add_u64(h: u64, x: u64) -> u64
+    ensures { λ r. ⌜ r ≡ fnvFrom h (bytes64 x) ⌝ }
+{
+    add_u32(add_u32(h, x / TWO_TO_32), x % TWO_TO_32)
+}
+
+// The children, each as four bytes.
+fn add_children(h: u64, children: &[u64]) -> u64
+    ensures { λ r. ⌜ r ≡ fnvFrom h (childrenBytes (now (children .entry))) ⌝ }
+{
+    let mut sum = h;
+    let mut i: usize = 0;
+    while i < children.len() {
+        sum = add_u32(sum, children[i]);
+        i += 1;
+    }
+    sum
+}
+
+// The hash of a node.
+pub fn node_hash(kind: u64, payload: u64, children: &[u64]) -> u64
+    ensures { λ r. ⌜ r ≡ nodeHashOf kind payload (now (children .entry)) ⌝ }
+{
+    let with_kind = add_byte(OFFSET_BASIS, kind);
+    let with_payload = add_u64(with_kind, payload);
+    add_children(with_payload, children)
+}
