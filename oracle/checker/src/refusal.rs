@@ -1,0 +1,40 @@
+//! Refusal numbers (01, "Refusals from the input", "Refusals from the state").
+
+#[derive(Clone, Copy, Debug, PartialEq, Eq, PartialOrd, Ord)]
+#[repr(u8)]
+pub enum Refusal {
+    /// Sheet empty, over 16,384 bytes, or first byte not 1.
+    Sheet = 1,
+    /// Record past the end, unknown, or wrong length.
+    Record = 2,
+    /// Record 1,024 reached.
+    TooManyRecords = 3,
+    /// Operand not earlier, or id not below the count.
+    Operand = 4,
+    /// Operator, flags, control or depth value not listed.
+    Value = 5,
+    /// Number of children.
+    ChildCount = 6,
+    /// Threshold NaN or sign bit set.
+    Threshold = 7,
+    /// Setting.
+    Setting = 8,
+    /// Name length.
+    NameLength = 9,
+    /// Store or name list not sound, or its counts or sizes not as listed.
+    NotSound = 20,
+    /// No place for a new node.
+    NoNodePlace = 21,
+    /// A new node needs a doubling and the lent slots are too few.
+    NoSlots = 22,
+    /// Over 4,096 terms.
+    TooManyTerms = 23,
+    /// No name place.
+    NoNamePlace = 24,
+}
+
+impl Refusal {
+    pub const fn number(self) -> u8 {
+        self as u8
+    }
+}

@@ -1,0 +1,44 @@
+//! The threshold of a setting (01, "symbol registry and settings"): the
+//! binary64 number nearest 10^((3n-400)/100), by whole-number arithmetic.
+
+use std::cmp::Ordering;
+
+use crate::natural::Natural;
+
+pub const SETTING_MINIMUM: u64 = 10;
+pub const SETTING_MAXIMUM: u64 = 100;
+/// The power to which both sides are raised to be whole.
+const ROOT: u32 = 100;
+/// The bits of a binary64 number's fraction.
+const FRACTION_BITS: u32 = 52;
+/// Bits of the number 2^k are (k + EXPONENT_BIAS) shifted by the fraction.
+const EXPONENT_BIAS: u64 = 1_023;
+
+/// The threshold of a setting from 10 to 100.
+pub fn threshold_of_setting(setting: u64) -> Option<f64> {
+    if !(SETTING_MINIMUM..=SETTING_MAXIMUM).contains(&setting) {
+        return None;
+    }
+    let tenths = (400 - 3 * setting) as u32;
+    let mut bits = 10_f64.powf(-f64::from(tenths) / 100.0).to_bits();
+    while midpoint_above(bits - 1, tenths) == Ordering::Greater {
+        bits -= 1;
+    }
+    while midpoint_above(bits, tenths) == Ordering::Less {
+        bits += 1;
+    }
+    Some(f64::from_bits(bits))
+}
+
+/// How the midpoint of the number with these bits and the next one compares
+/// with 10^(-tenths/100), by the hundredth powers of both.
+///
+/// The number is m·2^-k with m of 53 bits, so that the midpoint is
+/// (2m+1)·2^-(k+1); its power times 10^tenths is compared with 2^(100·(k+1)).
+fn midpoint_above(bits: u64, tenths: u32) -> Ordering {
+    let mantissa = bits & ((1 << FRACTION_BITS) - 1) | 1 << FRACTION_BITS;
+    let scale = EXPONENT_BIAS + u64::from(FRACTION_BITS) - (bits >> FRACTION_BITS);
+    let power = Natural::new(2 * mantissa + 1).to_the_power(ROOT);
+    let scaled = power.times(&Natural::new(10).to_the_power(tenths));
+    scaled.compare(&Natural::power_of_two(ROOT as usize * (scale as usize + 1)))
+}
