@@ -11,7 +11,7 @@ use native.Mathlib.Nat.{eq-or-lt-of-le, le-of-suc-le-suc}
 use Rattle.arena.specs.declared.node.DagNode.{DagNode}
 use Rattle.arena.specs.Layout.{nodeWords, mostChildren, mostNodes}
 use Rattle.arena.specs.Node.{nodeAt, one, put, find}
-use Rattle.arena.specs.Nodes.{WellFormed, AllWellFormed, Nodes}
+use Rattle.arena.specs.Nodes.{WellFormed, Nodes}
 use Rattle.arena.proofs.OneNode.{one-sym}
 use Rattle.arena.proofs.Finding.{none-below}
 use Rattle.arena.proofs.Putting.{put-length, put-old, put-new}

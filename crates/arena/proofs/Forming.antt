@@ -1,7 +1,7 @@
 -- The audit of a node, part by part.
 use Prim.Native.Nat.{ℕ, _≤_, _<_}
 use mathlib.Core.Path.{_≡_, sym, _∙_}
-use mathlib.Core.Bool.{Bool, true, false, false≢true}
+use mathlib.Core.Bool.{true, false, false≢true}
 use mathlib.Core.List.{List}
 use lib.ListN.{length, getD, List·getD-eq-default}
 use lib.Dec.{eqb}
@@ -11,7 +11,7 @@ use Rattle.arena.specs.declared.node.DagNode.{DagNode}
 use Rattle.arena.specs.Layout.{mostChildren}
 use Rattle.arena.specs.Says.{Says}
 use Rattle.arena.specs.Kind.{listed}
-use Rattle.arena.specs.Node.{nodeHash, coefficient}
+use Rattle.arena.specs.Node.{flagsEnd, nodeHash, coefficient}
 use Rattle.arena.specs.Nodes.{LowerChildren, WellFormed}
 use Rattle.arena.proofs.Deciding.{says-no, says-map, says-eq}
 
@@ -42,5 +42,5 @@ module _ (id : ℕ) (n : DagNode) where
   not-listed e = says-no (λ f. false≢true (sym e ∙ f .kinds))
 
   -- what is left once all but the coefficient is tested
-  pub only-weighed : listed (n .kind) (n .payload) (n .arity) ≡ true → n .flags < 8 → LowerChildren id (n .arity) (n .children) → n .hash ≡ nodeHash n → (c : ℕ) → c ≡ coefficient (n .kind) (n .payload) → Says (eqb (n .coefficient) c) (WellFormed id n)
+  pub only-weighed : listed (n .kind) (n .payload) (n .arity) ≡ true → n .flags < flagsEnd → LowerChildren id (n .arity) (n .children) → n .hash ≡ nodeHash n → (c : ℕ) → c ≡ coefficient (n .kind) (n .payload) → Says (eqb (n .coefficient) c) (WellFormed id n)
   only-weighed k l p h c e = says-map _ (λ q. record { kinds = k; places = p; marks = l; hashed = h; weighed = q ∙ e }) (λ f. f .weighed ∙ sym e) (says-eq (n .coefficient) c)

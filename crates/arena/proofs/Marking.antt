@@ -1,6 +1,6 @@
 -- A mark on a node: no node becomes another.
-use Prim.Native.Nat.{ℕ, _+_, _*_, _%_, _≤_, _<_}
-use mathlib.Core.Path.{_≡_, refl, sym, ap, _∙_}
+use Prim.Native.Nat.{ℕ, _+_, _*_, _%_, _≤_}
+use mathlib.Core.Path.{_≡_, refl, _∙_}
 use mathlib.Core.Bool.{true}
 use mathlib.Core.List.{List}
 use lib.ListN.{getD, length, length-set}
@@ -10,7 +10,7 @@ use native.Mathlib.Decide.{ℕ-discrete}
 use Rattle.arena.specs.declared.node.DagNode.{DagNode}
 use Rattle.arena.specs.Layout.{nodeWords, mostChildren}
 use Rattle.arena.specs.Node.{wordsFrom, nodeAt, one, nodeHash, marked, canonical}
-use Rattle.arena.specs.Nodes.{WellFormed, AllWellFormed, Nodes}
+use Rattle.arena.specs.Nodes.{WellFormed, Nodes}
 use Rattle.arena.proofs.OneNode.{One, one-is, one-refl, one-sym, one-trans}
 use Rattle.arena.proofs.Words.{words-length, words-at, words-are, node-same}
 

@@ -1,9 +1,9 @@
 -- A node's words in the list.
-use Prim.Native.Nat.{ℕ, suc, _+_, _*_, _≤_, _<_}
+use Prim.Native.Nat.{ℕ, _+_, _*_, _≤_, _<_}
 use mathlib.Core.Path.{_≡_, refl, sym, ap, _∙_}
 use mathlib.Core.List.{List, [], _∷_, _++_, append-assoc}
 use lib.ListN.{getD, length, set, take, drop, length-append, length-drop, List·getD-append}
-use lib.Seq.{sets, sets-eq, paste, getD-append-add, getD-take, length-take-le, take-all, take-at, drop-at, drop-drop, drop-append-add}
+use lib.Seq.{sets, sets-eq, paste, getD-append-add, getD-take, length-take-le, take-all, take-at, drop-at, drop-drop}
 use native.Mathlib.Omega.{arith}
 use native.Mathlib.Numerals.{towards-suc}
 use Rattle.arena.specs.declared.node.DagNode.{DagNode}

@@ -1,7 +1,7 @@
 -- The words from a place on, and the node that they are.
 use Prim.Native.Nat.{ℕ, zero, suc, _+_, _*_, _<_}
 use mathlib.Core.Path.{_≡_, refl, sym, ap, _∙_}
-use mathlib.Core.List.{List, [], _∷_}
+use mathlib.Core.List.{List}
 use lib.ListN.{getD, length}
 use lib.Seq.{ext-getD}
 use native.Mathlib.Omega.{arith}

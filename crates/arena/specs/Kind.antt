@@ -1,6 +1,6 @@
 -- Kinds, payloads and child counts as 01 lists them.
 use Prim.Native.Nat.{ℕ, _^_}
-use mathlib.Core.Bool.{Bool, true, false, cond, _&&_, _||_}
+use mathlib.Core.Bool.{Bool, false, cond, _&&_, _||_}
 use lib.Dec.{eqb, leb, ltb}
 use Rattle.arena.specs.Layout.{mostChildren}
 

@@ -42,9 +42,13 @@ sameChildren [] (y ∷ b) = false
 sameChildren (x ∷ a) [] = false
 sameChildren (x ∷ a) (y ∷ b) = eqb x y && sameChildren a b
 
--- 01: "Flags: 1 commutative, 2 associative, 4 canonical", and "flags without 4"
+-- 01: "Flags: 1 commutative, 2 associative, 4 canonical"
 abbrev pub canonical : ℕ
 canonical = 4
+
+-- 01: "flags are 0 to 7"
+abbrev pub flagsEnd : ℕ
+flagsEnd = 8
 
 -- 01: "Two nodes are one if kind, payload, children and flags without 4 agree." Unused child places are 0.
 unfoldable pub one : DagNode → DagNode → Bool

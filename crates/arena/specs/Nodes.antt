@@ -7,7 +7,7 @@ use lib.ListN.{length, getD}
 use Rattle.arena.specs.declared.node.DagNode.{DagNode}
 use Rattle.arena.specs.Layout.{nodeWords, mostNodes}
 use Rattle.arena.specs.Kind.{listed}
-use Rattle.arena.specs.Node.{nodeAt, one, nodeHash, coefficient}
+use Rattle.arena.specs.Node.{nodeAt, one, flagsEnd, nodeHash, coefficient}
 
 -- 01: "children have lower ids than their node", and unused places are 0
 pub record LowerChildren (id arity : ℕ) (children : List ℕ) : Type 0 where
@@ -18,7 +18,7 @@ pub record LowerChildren (id arity : ℕ) (children : List ℕ) : Type 0 where
 pub record WellFormed (id : ℕ) (n : DagNode) : Type 0 where
   pub kinds : listed (n .kind) (n .payload) (n .arity) ≡ true
   pub places : LowerChildren id (n .arity) (n .children)
-  pub marks : n .flags < 8
+  pub marks : n .flags < flagsEnd
   pub hashed : n .hash ≡ nodeHash n
   pub weighed : n .coefficient ≡ coefficient (n .kind) (n .payload)
 

@@ -1,9 +1,5 @@
 // The audit of nodes, for refusal 20.
-ghost use mathlib.Core.Path.{_≡_};
-ghost use Prim.Native.Nat.{ℕ, _+_, _*_, _≤_, _<_};
-ghost use lib.ListN.{length};
 ghost use Rattle.arena.specs.Says.{Says};
-ghost use Rattle.arena.specs.Layout.{nodeWords, mostNodes, mostChildren};
 ghost use Rattle.arena.specs.Nodes.{LowerChildren, WellFormed, AllWellFormed};
 use crate::DagNode;
 use crate::FLAGS_END;

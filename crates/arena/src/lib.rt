@@ -1,4 +1,4 @@
-// The nodes of a store (arena.rs, node.rs), as words of 64 bits in a lent list. Ids count from 0.
+// The nodes of a store (arena.rs, node.rs): words of 64 bits in a lent list. 01: "Ids count from 0."
 pub mod audit;
 pub mod kind;
 pub mod node;
@@ -11,7 +11,7 @@ pub use node::same_node;
 pub use node::store_node;
 
 // 01: "A node is 10 words of 64 bits in a lent list: kind, payload, hash, coefficient bits, flags, child
-// count, four child places".
+// count, four child places". Each word's place is counted from the node's first.
 pub const MOST_CHILDREN: usize = 4;
 
 pub const KIND: usize = 0;
@@ -30,6 +30,7 @@ pub const CHILDREN: usize = 6;
 
 pub const NODE_WORDS: usize = CHILDREN + MOST_CHILDREN;
 
+// 01: "65,536 at most".
 pub const MOST_NODES: u64 = 65_536;
 
 // 01: "Flags: 1 commutative, 2 associative, 4 canonical."
@@ -38,6 +39,7 @@ pub const COMMUTATIVE: u64 = 1;
 pub const ASSOCIATIVE: u64 = 2;
 
 pub const CANONICAL: u64 = 4;
+
 // 01: "flags are 0 to 7".
 pub const FLAGS_END: u64 = 8;
 

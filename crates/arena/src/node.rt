@@ -1,11 +1,10 @@
 // A node by value, and its words.
 ghost use mathlib.Core.Path.{_≡_};
-ghost use mathlib.Core.Bool.{true};
-ghost use Prim.Native.Nat.{ℕ, _+_, _*_, _≤_, _<_};
+ghost use Prim.Native.Nat.{_+_, _*_, _≤_};
 ghost use lib.ListN.{length, take};
 ghost use Rattle.hash.specs.Fnv.{nodeHashOf};
 ghost use lib.Seq.{paste};
-ghost use Rattle.arena.specs.Layout.{nodeWords, mostNodes, mostChildren};
+ghost use Rattle.arena.specs.Layout.{nodeWords, mostChildren};
 ghost use Rattle.arena.specs.Node.{wordsFrom, nodeAt, put, sameChildren, one, coefficient, newNode, marked};
 use crate::ARITY;
 use crate::CANONICAL;
@@ -153,7 +152,7 @@ fn same_children(a: [u64; MOST_CHILDREN], b: [u64; MOST_CHILDREN]) -> bool
     true
 }
 
-// Whether two nodes are one.
+// 01: "Two nodes are one if kind, payload, children and flags without 4 agree."
 pub fn same_node(a: DagNode, b: DagNode) -> bool
     ensures { λ r. ⌜ r ≡ one a b ⌝ }
 {
@@ -174,7 +173,7 @@ pub fn same_node(a: DagNode, b: DagNode) -> bool
     same_children(left, right)
 }
 
-// A node's mark set.
+// A node's mark set: flag 4, canonical.
 pub fn mark(nodes: &mut [u64], id: u64)
     requires { ⌜ id * nodeWords + nodeWords ≤ length (now nodes) ⌝ }
     ensures { λ r. ⌜ now (nodes .exit) ≡ marked (now (nodes .entry)) id ⌝ }

@@ -1,9 +1,9 @@
 -- The answers to a node, and what each leaves.
-use Prim.Native.Nat.{ℕ, suc, _+_, _*_, _/_, _≤_, _<_}
-use mathlib.Core.Path.{_≡_, refl, sym, ap, _∙_}
-use mathlib.Core.Bool.{Bool, true, false, cond, _||_}
+use Prim.Native.Nat.{ℕ, _+_, _*_, _/_, _≤_, _<_}
+use mathlib.Core.Path.{_≡_, refl, ap, _∙_}
+use mathlib.Core.Bool.{false, _||_}
 use mathlib.Core.List.{List}
-use mathlib.Core.Option.{Option, none, some}
+use mathlib.Core.Option.{some}
 use lib.ListN.{length, drop, set}
 use lib.Dec.{leb, ltb}
 use native.Mathlib.Omega.{arith}
@@ -11,14 +11,13 @@ use borrow.Author.Tests.{le-leb, lt-leb, lt-ltb, le-ltb}
 use Rattle.arena.specs.declared.DagArena.{DagArena}
 use Rattle.arena.specs.declared.node.DagNode.{DagNode}
 use Rattle.arena.specs.Layout.{nodeWords, mostNodes, mostChildren}
-use Rattle.arena.specs.Node.{nodeAt, put, find}
+use Rattle.arena.specs.Node.{put, find}
 use Rattle.arena.specs.Nodes.{Nodes}
 use Rattle.arena.proofs.Putting.{put-old, put-new}
 use Rattle.arena.proofs.Adding.{nodes-add}
-use Rattle.dedup.specs.declared.Answer.{Answer}
 use Rattle.dedup.specs.declared.Answer.the-variants.{Old, New, Refused}
 use Rattle.dedup.specs.declared.Interned.{Interned}
-use Rattle.dedup.specs.Table.{Table, hashAt}
+use Rattle.dedup.specs.Table.{loadLimit, Table, hashAt}
 use Rattle.dedup.specs.Insert.{FirstFree, Taken, Fits, Rehashed}
 use Rattle.dedup.specs.Intern.{answered, newAnswer, internAnswer, wordsAfter, SlotsKept, Interns, Absent}
 use Rattle.dedup.proofs.Doubling.{at-least, doubled-twice}
@@ -56,9 +55,9 @@ module _ (w slots : List ℕ) (a : DagArena) (key : DagNode) (place : ℕ) (x : 
     no-21 : (leb mostNodes count || ltb (length w) (count * nodeWords + nodeWords)) ≡ false
     no-21 = rw (lt-leb mostNodes count many, le-ltb (length w) (count * nodeWords + nodeWords) fits) refl
 
-    pub refuse-slots : size * 7 / 10 ≤ count → length slots < size * 2 → Interns w slots a key (answered (Refused 22) count size) w slots
+    pub refuse-slots : loadLimit size ≤ count → length slots < size * 2 → Interns w slots a key (answered (Refused 22) count size) w slots
     unfolding newAnswer
-    refuse-slots l m = refuse 22 (rw (no-21, lt-leb (count + 1) (size * 7 / 10) (omega arith), lt-ltb (length slots) (size * 2) m) refl)
+    refuse-slots l m = refuse 22 (rw (no-21, lt-leb (count + 1) (loadLimit size) (omega arith), lt-ltb (length slots) (size * 2) m) refl)
 
     module _ (len : length (key .children) ≡ mostChildren) where
       abbrev w′ : List ℕ
@@ -74,18 +73,18 @@ module _ (w slots : List ℕ) (a : DagArena) (key : DagNode) (place : ℕ) (x : 
       nodes′ = nodes-add w count key many fits len (x .nodes) (x .formed) (x .absent)
 
       -- in a table of the same nodes, at a size that is enough
-      module _ (big : ℕ) (slots₁ : List ℕ) (t : Table (hashAt w) count slots₁ big) (at : ℕ) (free : FirstFree slots₁ big (key .hash) at) (load : count + 1 ≤ big * 7 / 10) where
+      module _ (big : ℕ) (slots₁ : List ℕ) (t : Table (hashAt w) count slots₁ big) (at : ℕ) (free : FirstFree slots₁ big (key .hash) at) (load : count + 1 ≤ loadLimit big) where
         table′ : Table (hashAt w′) (count + 1) (set slots₁ at (count + 1)) big
         table′ = table-add (hashAt w) count slots₁ big t (hashAt w′) old-hash at (rw new-hash free) load
 
         past′ : drop big (set slots₁ at (count + 1)) ≡ drop big slots₁
         past′ = past-add (hashAt w) count slots₁ big t (hashAt w′) old-hash at (rw new-hash free) load
 
-      pub added : count < size * 7 / 10 → Interns w slots a key (answered (New count) (count + 1) size) w′ (set slots place (count + 1))
+      pub added : count < loadLimit size → Interns w slots a key (answered (New count) (count + 1) size) w′ (set slots place (count + 1))
       unfolding newAnswer wordsAfter SlotsKept
       added l =
           let free = first-free w count slots size key place (x .free) in record {
-            answer = new _ (rw (no-21, le-leb (count + 1) (size * 7 / 10) (omega arith)) refl);
+            answer = new _ (rw (no-21, le-leb (count + 1) (loadLimit size) (omega arith)) refl);
             words-after = refl;
             slots-kept = tt;
             slots-past = past′ size slots (x .table) place free (omega arith);
@@ -93,16 +92,16 @@ module _ (w slots : List ℕ) (a : DagArena) (key : DagNode) (place : ℕ) (x : 
             table = table′ size slots (x .table) place free (omega arith);
           }
 
-      module _ (l : size * 7 / 10 ≤ count) (m : size ≤ length slots / 2) where
+      module _ (l : loadLimit size ≤ count) (m : size ≤ length slots / 2) where
         pub doubles : Fits count slots (size * 2)
         doubles = record { doubled = doubled-twice size (x .table .doubled); sized = omega arith; load = let p = x .table .load in omega arith }
 
         pub added-doubled : (slots₁ slots₂ : List ℕ) → Rehashed (hashAt w) count slots (size * 2) slots₁ → Taken slots₁ (size * 2) (key .hash) count slots₂ → Interns w slots a key (answered (New count) (count + 1) (size * 2)) w′ slots₂
         unfolding newAnswer wordsAfter SlotsKept
         added-doubled slots₁ slots₂ r k =
-            let load : count + 1 ≤ size * 2 * 7 / 10 = let p = x .table .load in let q = at-least size (x .table .doubled) in omega arith in
+            let load : count + 1 ≤ loadLimit (size * 2) = let p = x .table .load in let q = at-least size (x .table .doubled) in omega arith in
             rw (k .after) (record {
-              answer = new _ (rw (no-21, lt-leb (count + 1) (size * 7 / 10) (omega arith), le-ltb (length slots) (size * 2) (omega arith)) refl);
+              answer = new _ (rw (no-21, lt-leb (count + 1) (loadLimit size) (omega arith), le-ltb (length slots) (size * 2) (omega arith)) refl);
               words-after = refl;
               slots-kept = tt;
               slots-past = past′ (size * 2) slots₁ (r .table) (k .place) (k .free) load ∙ r .past;

@@ -1,18 +1,18 @@
 -- What the audit tests makes up the table and keeps nodes apart, and follows from them.
-use Prim.Native.Nat.{ℕ, suc, _+_, _*_, _-_, _/_, _%_, _≤_, _<_}
+use Prim.Native.Nat.{ℕ, suc, _+_, _-_, _%_, _≤_, _<_}
 use mathlib.Core.Path.{_≡_, refl, sym, ap, _∙_, subst}
-use mathlib.Core.Bool.{Bool, true, false}
+use mathlib.Core.Bool.{true}
 use mathlib.Core.List.{List}
 use lib.ListN.{length, getD}
 use native.Mathlib.Omega.{arith}
 use native.Mathlib.Nat.{mod-lt}
 use native.Mathlib.Decide.{decLt, ℕ-discrete}
-use Rattle.arena.specs.Node.{nodeAt, one, nodeHash}
+use Rattle.arena.specs.Node.{nodeAt}
 use Rattle.arena.specs.Nodes.{AllWellFormed, Nodes}
 use Rattle.arena.proofs.Deciding.{is-false}
 use Rattle.arena.proofs.OneNode.{one-hash}
-use Rattle.dedup.specs.Table.{TableSize, slotFrom, Placed, Table, hashAt}
-use Rattle.dedup.specs.Probe.{holds, Reaches}
+use Rattle.dedup.specs.Table.{loadLimit, TableSize, slotFrom, Placed, Table, hashAt}
+use Rattle.dedup.specs.Probe.{holds}
 use Rattle.dedup.specs.Audit.{usedSlots, MeetsOwn, AllMeetOwn}
 use Rattle.dedup.proofs.Doubling.{positive}
 use Rattle.dedup.proofs.Rounds.{round-apart}
@@ -112,7 +112,7 @@ module _ (w : List ℕ) (count : ℕ) (slots : List ℕ) (size : ℕ) where
     placed : (i : ℕ) → i < count → Placed slots size (hashAt w i) (suc i)
     placed i l = let m = own i l in record { far = m .reached .far; near = m .reached .near; here = ap (λ (x : ℕ). getD slots x 0) (sym (m .reached .is)) ∙ m .value; used = m .reached .passed .used }
 
-    pub sound-of : AllWellFormed w count → TableSize size → size ≤ length slots → count ≤ size * 7 / 10 → Nodes w count × Table (hashAt w) count slots size
+    pub sound-of : AllWellFormed w count → TableSize size → size ≤ length slots → count ≤ loadLimit size → Nodes w count × Table (hashAt w) count slots size
     sound-of f t s l = (
       record {
         formed = f;

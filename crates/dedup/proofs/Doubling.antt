@@ -4,7 +4,7 @@ use mathlib.Core.Path.{_≡_, sym, ap, _∙_, subst}
 use lib.Bits.{bitAnd, and-mask}
 use lib.Pow.{pow-pos, pow-add}
 use native.Mathlib.Omega.{arith}
-use native.Mathlib.Nat.{pow-suc, mul-assoc, mul-comm, mul-one, mul-le-mul-left}
+use native.Mathlib.Nat.{pow-suc, mul-assoc, mul-one, mul-le-mul-left}
 use Rattle.dedup.specs.Table.{TableSize}
 
 -- one doubling more

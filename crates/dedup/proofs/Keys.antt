@@ -1,21 +1,20 @@
 -- What the end of a search says of a key.
-use Prim.Native.Nat.{ℕ, suc, _+_, _*_, _-_, _%_, _≤_, _<_}
-use mathlib.Core.Path.{_≡_, refl, sym, ap, _∙_}
-use mathlib.Core.Bool.{Bool, true, false, _&&_, false≢true}
+use Prim.Native.Nat.{ℕ, suc, _-_, _<_}
+use mathlib.Core.Path.{_≡_, sym, ap, _∙_}
+use mathlib.Core.Bool.{true, false, false≢true}
 use mathlib.Core.List.{List}
-use mathlib.Core.Option.{Option, none, some}
-use lib.ListN.{length, getD}
+use mathlib.Core.Option.{none, some}
+use lib.ListN.{getD}
 use native.Mathlib.Omega.{arith}
 use native.Mathlib.Decide.{decLt}
 use Rattle.arena.specs.declared.node.DagNode.{DagNode}
-use Rattle.arena.specs.Layout.{mostNodes, nodeWords}
 use Rattle.arena.specs.Node.{nodeAt, one, nodeHash, find}
 use Rattle.arena.specs.Nodes.{AllWellFormed, Nodes}
 use Rattle.arena.proofs.Deciding.{is-false}
 use Rattle.arena.proofs.OneNode.{one-hash}
 use Rattle.arena.proofs.Finding.{find-none, find-one}
 use Rattle.dedup.specs.Table.{slotFrom, Placed, Table, hashAt}
-use Rattle.dedup.specs.Probe.{holds, Ready, Passed, Reaches, Frees, Finds}
+use Rattle.dedup.specs.Probe.{holds, Passed, Frees, Finds}
 use Rattle.dedup.specs.Insert.{Room}
 use Rattle.dedup.proofs.Rounds.{round-hits}
 use Rattle.dedup.proofs.Searching.{holds-known, held}

@@ -1,10 +1,10 @@
 -- Where the search for a node ends, and whether that is its own slot.
-use Prim.Native.Nat.{ℕ, zero, suc, _+_, _-_, _%_, _≤_, _<_}
+use Prim.Native.Nat.{ℕ, zero, suc, _+_, _-_, _%_, _<_}
 use mathlib.Core.Path.{_≡_, refl, sym, ap, _∙_}
 use mathlib.Core.Bool.{Bool, true, false, _&&_, false≢true}
 use mathlib.Core.List.{List}
 use mathlib.Core.Logic.{_⊎_, inl, inr}
-use lib.ListN.{length, getD}
+use lib.ListN.{getD}
 use lib.Dec.{ltb, eqb}
 use native.Mathlib.Omega.{arith}
 use native.Mathlib.Decide.{decLt}
@@ -16,7 +16,7 @@ use Rattle.arena.proofs.OneNode.{one-refl, one-same}
 use Rattle.dedup.specs.Table.{slotFrom}
 use Rattle.dedup.specs.Probe.{holds, Passed, Reaches, Frees, Finds}
 use Rattle.dedup.specs.Audit.{MeetsOwn}
-use Rattle.dedup.proofs.Searching.{holds-is, holds-known, held}
+use Rattle.dedup.proofs.Searching.{holds-known, held}
 
 module _ (w : List ℕ) (known : ℕ) (slots : List ℕ) (size : ℕ) (key : DagNode) where
   -- a slot at which a search ends

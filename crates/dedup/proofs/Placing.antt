@@ -1,16 +1,16 @@
 -- A new id in the table.
-use Prim.Native.Nat.{ℕ, suc, _+_, _*_, _-_, _/_, _%_, _≤_, _<_}
+use Prim.Native.Nat.{ℕ, suc, _+_, _-_, _≤_, _<_}
 use mathlib.Core.Path.{_≡_, sym, ap, _∙_}
 use mathlib.Core.List.{List}
 use mathlib.Core.Logic.{_⊎_, inl, inr}
-use lib.ListN.{getD, length, set, drop, length-set}
+use lib.ListN.{getD, set, drop, length-set}
 use lib.Seq.{getD-set-same, getD-set-other, drop-set-lt}
 use native.Mathlib.Omega.{arith}
 use native.Mathlib.Nat.{eq-or-lt-of-le, le-of-suc-le-suc, mod-lt}
 use native.Mathlib.Decide.{ℕ-discrete}
 use native.Mathlib.Numerals.{add-one}
 use Rattle.arena.specs.declared.node.DagNode.{DagNode}
-use Rattle.dedup.specs.Table.{slotFrom, Placed, Table}
+use Rattle.dedup.specs.Table.{loadLimit, Placed, Table}
 use Rattle.dedup.specs.Probe.{Frees}
 use Rattle.dedup.specs.Insert.{Room, FirstFree}
 use Rattle.dedup.proofs.Doubling.{positive}
@@ -36,7 +36,7 @@ module _ (hash : ℕ → ℕ) (count : ℕ) (slots : List ℕ) (size : ℕ) (t :
           apart p q lp lq e = t .single p q lp lq (f p lp) (let n = f p lp in let m = f q lq in omega arith)
 
   -- the next id in the first free place from its hash
-  module _ (hash′ : ℕ → ℕ) (old : (i : ℕ) → i < count → hash′ i ≡ hash i) (p : ℕ) (free : FirstFree slots size (hash′ count) p) (fits : count + 1 ≤ size * 7 / 10) where
+  module _ (hash′ : ℕ → ℕ) (old : (i : ℕ) → i < count → hash′ i ≡ hash i) (p : ℕ) (free : FirstFree slots size (hash′ count) p) (fits : count + 1 ≤ loadLimit size) where
     abbrev slots′ : List ℕ
     slots′ = set slots p (count + 1)
 

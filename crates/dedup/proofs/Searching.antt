@@ -1,15 +1,14 @@
 -- What a search passes, and where it ends.
-use Prim.Native.Nat.{ℕ, zero, suc, _+_, _*_, _-_, _%_, _≤_, _<_}
+use Prim.Native.Nat.{ℕ, zero, suc, _+_, _-_, _%_, _≤_, _<_}
 use mathlib.Core.Path.{_≡_, refl, sym, ap, _∙_, subst}
-use mathlib.Core.Bool.{Bool, true, false, _&&_, false≢true}
+use mathlib.Core.Bool.{true, false, _&&_, false≢true}
 use mathlib.Core.List.{List}
-use lib.ListN.{length, getD}
+use lib.ListN.{getD}
 use lib.Dec.{ltb}
 use native.Mathlib.Omega.{arith}
 use native.Mathlib.Nat.{mod-lt}
 use borrow.Author.Count.{below-more}
 use borrow.Author.Tests.{lt-ltb, le-ltb, ltb-true}
-use native.Mathlib.Decide.{decLt}
 use Rattle.arena.specs.declared.node.DagNode.{DagNode}
 use Rattle.arena.specs.Node.{nodeAt, one, nodeHash}
 use Rattle.arena.specs.Nodes.{AllWellFormed}
@@ -17,9 +16,8 @@ use Rattle.arena.proofs.Deciding.{both}
 use Rattle.arena.proofs.OneNode.{not-one, one-is, one-hash}
 use Rattle.dedup.specs.declared.probing.Place.{Place}
 use Rattle.dedup.specs.declared.probing.Place.the-variants.{Here, Free, Nowhere}
-use Rattle.dedup.specs.Table.{slotFrom, InUse}
-use Rattle.dedup.specs.Probe.{holds, Ready, Passed, Reaches, Frees, Finds, Probed}
-use Rattle.dedup.proofs.Doubling.{positive}
+use Rattle.dedup.specs.Table.{slotFrom}
+use Rattle.dedup.specs.Probe.{holds, Passed, Reaches, Frees, Finds, Probed}
 
 -- ---- a slot in use
 module _ (w : List ℕ) (known : ℕ) (key : DagNode) where

@@ -1,7 +1,7 @@
 -- What a call with a node answers and leaves.
-use Prim.Native.Nat.{ℕ, _+_, _*_, _/_, _≤_, _<_}
+use Prim.Native.Nat.{ℕ, _+_, _*_}
 use mathlib.Core.Path.{_≡_}
-use mathlib.Core.Bool.{Bool, cond, _||_}
+use mathlib.Core.Bool.{cond, _||_}
 use mathlib.Core.List.{List}
 use mathlib.Core.Option.{Option, none, some}
 use lib.ListN.{length, drop}
@@ -14,17 +14,17 @@ use Rattle.arena.specs.Nodes.{WellFormed, Nodes}
 use Rattle.dedup.specs.declared.Answer.{Answer}
 use Rattle.dedup.specs.declared.Answer.the-variants.{Old, New, Refused}
 use Rattle.dedup.specs.declared.Interned.{Interned}
-use Rattle.dedup.specs.Table.{Table, hashAt}
+use Rattle.dedup.specs.Table.{loadLimit, Table, hashAt}
 use Rattle.dedup.specs.Probe.{Frees}
 
 abbrev pub answered : Answer → ℕ → ℕ → Interned
 answered answer count size = record { answer = answer; arena = record { count = count; size = size } }
 
--- to a new node, with so many words and slots lent. 01: "21 no place for a new node (65,536 at most). 22 a new node needs a doubling and the lent slots are too few"; the table "doubles before an insertion that would make the count exceed floor(size·7/10)"
+-- to a new node, with so many words and slots lent. 01: "21 no place for a new node (65,536 at most). 22 a new node needs a doubling and the lent slots are too few"
 unfoldable pub newAnswer : ℕ → ℕ → ℕ → ℕ → Interned
 newAnswer words slots count size =
     cond (leb mostNodes count || ltb words (count * nodeWords + nodeWords)) (answered (Refused 21) count size)
-    (cond (leb (count + 1) (size * 7 / 10)) (answered (New count) (count + 1) size)
+    (cond (leb (count + 1) (loadLimit size)) (answered (New count) (count + 1) size)
     (cond (ltb slots (size * 2)) (answered (Refused 22) count size)
     (answered (New count) (count + 1) (size * 2))))
 

@@ -5,10 +5,18 @@ use mathlib.Core.List.{List}
 use lib.ListN.{length, getD}
 use Rattle.arena.specs.Node.{nodeAt}
 
+-- 01: "The table starts at 64 slots"
+abbrev pub firstSize : ℕ
+firstSize = 64
+
+-- 01: the table "doubles before an insertion that would make the count exceed floor(size·7/10)"
+abbrev pub loadLimit : ℕ → ℕ
+loadLimit size = size * 7 / 10
+
 -- 01: a table size is a "power of two from 64 up"
 pub record TableSize (size : ℕ) : Type 0 where
   pub doublings : ℕ
-  pub is : size ≡ 64 * 2 ^ doublings
+  pub is : size ≡ firstSize * 2 ^ doublings
 
 -- the slot that is met so many places onward from a hash, round the end
 abbrev pub slotFrom : List ℕ → ℕ → ℕ → ℕ → ℕ
@@ -29,7 +37,7 @@ pub record Placed (slots : List ℕ) (size hash value : ℕ) : Type 0 where
 pub record Table (hash : ℕ → ℕ) (count : ℕ) (slots : List ℕ) (size : ℕ) : Type 0 where
   pub doubled : TableSize size
   pub sized : size ≤ length slots
-  pub load : count ≤ size * 7 / 10
+  pub load : count ≤ loadLimit size
   pub placed : (i : ℕ) → i < count → Placed slots size (hash i) (suc i)
   pub single : (p q : ℕ) → p < size → q < size → (getD slots p 0 ≡ 0 → ⊥) → getD slots p 0 ≡ getD slots q 0 → p ≡ q
   pub only : (p : ℕ) → p < size → getD slots p 0 ≤ count

@@ -1,6 +1,6 @@
 // The audit of a store's nodes and slots, for refusal 20.
 ghost use mathlib.Core.Path.{_≡_};
-ghost use Prim.Native.Nat.{ℕ, _+_, _*_, _≤_, _<_};
+ghost use Prim.Native.Nat.{_≤_, _<_};
 ghost use lib.ListN.{length};
 ghost use Rattle.arena.specs.Says.{Says};
 ghost use Rattle.arena.specs.Nodes.{AllWellFormed, Nodes};
@@ -10,7 +10,7 @@ use crate::probing::Place;
 use crate::probing::probe;
 use crate::probing::slot_id;
 use crate::sizes::is_table_size;
-use crate::sizes::most_nodes;
+use crate::sizes::load_limit;
 use arena::DagArena;
 use arena::audit_nodes;
 use arena::load;
@@ -44,12 +44,14 @@ fn meets_own(nodes: &[u64], slots: &[u32], arena: DagArena, id: u64) -> bool
     }
 }
 
+// Whether that holds of all nodes.
 fn all_meet_own(nodes: &[u64], slots: &[u32], arena: DagArena) -> bool
     requires { ⌜ AllWellFormed (now nodes) (arena .count) × Fit (now slots) (arena .size) ⌝ }
     ensures { λ r. ⌜ Says r (AllMeetOwn (now (nodes .entry)) (arena .count) (now (slots .entry)) (arena .size)) ⌝ }
 {
+    let count = arena.count;
     let mut id: u64 = 0;
-    while id < arena.count {
+    while id < count {
         if !meets_own(nodes, slots, arena, id) {
             return false;
         }
@@ -58,8 +60,8 @@ fn all_meet_own(nodes: &[u64], slots: &[u32], arena: DagArena) -> bool
     true
 }
 
-// Whether the nodes and the table are those of a sound store. As many slots as nodes are in use, so that an id
-// that each search meets has no second slot, and no other slot is in use.
+// Whether the nodes and the table are as 01 says of every sound store. Each id has a slot, and as many slots as
+// ids are in use: so no id has two, and every other slot is 0.
 pub fn audit(nodes: &[u64], slots: &[u32], arena: DagArena) -> bool
     ensures { λ r. ⌜ Says r (Nodes (now (nodes .entry)) (arena .count) × Table (hashAt (now (nodes .entry))) (arena .count) (now (slots .entry)) (arena .size)) ⌝ }
 {
@@ -74,11 +76,11 @@ pub fn audit(nodes: &[u64], slots: &[u32], arena: DagArena) -> bool
     if !audit_nodes(nodes, count) {
         return false;
     }
-    let nodes_now = count as usize;
-    if most_nodes(size) < nodes_now {
+    let ids = count as usize;
+    if load_limit(size) < ids {
         return false;
     }
-    if used_slots(slots, size) != nodes_now {
+    if used_slots(slots, size) != ids {
         return false;
     }
     all_meet_own(nodes, slots, arena)

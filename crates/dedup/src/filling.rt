@@ -1,7 +1,7 @@
 // Ids put into slots.
 ghost use mathlib.Core.Path.{_≡_};
 ghost use mathlib.Core.List.{_++_};
-ghost use Prim.Native.Nat.{ℕ, _+_, _*_, _≤_, _<_};
+ghost use Prim.Native.Nat.{_≤_, _<_};
 ghost use lib.ListN.{length, replicate, drop};
 ghost use Rattle.arena.specs.Layout.{mostNodes};
 ghost use Rattle.arena.specs.Node.{nodeHash};

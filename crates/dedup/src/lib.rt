@@ -1,7 +1,4 @@
 // The duplicate table of a store (dedup.rs): one node, one id. 01: "A slot is a 32-bit id + 1, or 0."
-ghost use mathlib.Core.Path.{_≡_};
-ghost use Prim.Native.Nat.{ℕ, _+_, _*_, _≤_, _<_};
-ghost use lib.ListN.{length};
 ghost use Rattle.arena.specs.Nodes.{WellFormed, Nodes};
 ghost use Rattle.dedup.specs.Table.{Table, hashAt};
 ghost use Rattle.dedup.specs.Intern.{Interns, Absent};
@@ -22,7 +19,7 @@ use filling::rehash;
 use probing::Place;
 use probing::probe;
 use probing::slot_id;
-use sizes::most_nodes;
+use sizes::load_limit;
 
 // 01: "21 no place for a new node", "22 a new node needs a doubling and the lent slots are too few".
 pub const NO_PLACE: u64 = 21;
@@ -67,7 +64,7 @@ fn insert(
             arena,
         };
     }
-    if (count as usize) < most_nodes(size) {
+    if (count as usize) < load_limit(size) {
         slots[free] = (count + 1) as u32;
         store_node(nodes, count, key);
         return Interned {

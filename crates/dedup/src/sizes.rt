@@ -1,9 +1,9 @@
 // The sizes of the table. 01: "The table starts at 64 slots and doubles before an insertion that would make the
 // count exceed floor(size·7/10)".
 ghost use mathlib.Core.Path.{_≡_};
-ghost use Prim.Native.Nat.{_*_, _/_, _%_};
+ghost use Prim.Native.Nat.{_%_};
 ghost use Rattle.arena.specs.Says.{Says};
-ghost use Rattle.dedup.specs.Table.{TableSize};
+ghost use Rattle.dedup.specs.Table.{loadLimit, TableSize};
 
 pub const FIRST_SIZE: usize = 64;
 
@@ -12,8 +12,8 @@ const LOAD: usize = 7;
 const LOAD_OF: usize = 10;
 
 // floor(size·7/10), by parts that cannot overflow.
-pub fn most_nodes(size: usize) -> usize
-    ensures { λ r. ⌜ r ≡ size * 7 / 10 ⌝ }
+pub fn load_limit(size: usize) -> usize
+    ensures { λ r. ⌜ r ≡ loadLimit size ⌝ }
 {
     size / LOAD_OF * LOAD + size % LOAD_OF * LOAD / LOAD_OF
 }

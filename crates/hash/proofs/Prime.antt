@@ -1,17 +1,21 @@
--- The product with the prime is the sum of three parts, modulo 2^64.
-use Prim.Native.Nat.{ℕ, _+_, _*_, _/_, _%_, _^_}
+-- Products with a number, added modulo 2^64.
+use Prim.Native.Nat.{ℕ, _+_, _*_, _%_, _^_}
 use mathlib.Core.Path.{_≡_, ap, sym, _∙_}
-use native.Mathlib.Nat.{mod-add-mod, add-mul-mod-self-right}
-use native.Mathlib.Omega.{arith}
-use Rattle.hash.specs.Fnv.{timesPrime}
+use native.Mathlib.Nat.{add-mod, mod-add-mod, mul-add, mul-one}
 
--- the parts, with what they leave out as a multiple of 2^64
-parts : (h : ℕ) → h % 16777216 * 1099511627776 + h / 4294967296 * 435 % 4294967296 * 4294967296 + h % 4294967296 * 435 + (h / 16777216 + h / 4294967296 * 435 / 4294967296) * 18446744073709551616 ≡ h * 1099511628211
-parts h = omega arith
+module _ (h p q a : ℕ) (was : p ≡ h * a % 2 ^ 64) where
+  -- one product more
+  pub add-product : (b : ℕ) → q ≡ (p + h * b % 2 ^ 64) % 2 ^ 64 → q ≡ h * (a + b) % 2 ^ 64
+  add-product b is =
+      is
+      ∙ ap (λ (x : ℕ). (x + h * b % 2 ^ 64) % 2 ^ 64) was
+      ∙ sym (add-mod (h * a) (h * b) (2 ^ 64))
+      ∙ ap (λ (x : ℕ). x % 2 ^ 64) (sym (mul-add h a b))
 
-pub product-in-parts : (h : ℕ) → ((h % 16777216 * 1099511627776 + h / 4294967296 * 435 % 4294967296 * 4294967296) % 2 ^ 64 + h % 4294967296 * 435) % 2 ^ 64 ≡ timesPrime h
-unfolding timesPrime
-product-in-parts h =
-    mod-add-mod (h % 16777216 * 1099511627776 + h / 4294967296 * 435 % 4294967296 * 4294967296) (2 ^ 64) (h % 4294967296 * 435)
-    ∙ sym (add-mul-mod-self-right _ (h / 16777216 + h / 4294967296 * 435 / 4294967296) (2 ^ 64))
-    ∙ ap (λ (n : ℕ). n % 2 ^ 64) (parts h)
+  -- the number itself
+  pub add-once : q ≡ (p + h) % 2 ^ 64 → q ≡ h * (a + 1) % 2 ^ 64
+  add-once is =
+      is
+      ∙ ap (λ (x : ℕ). (x + h) % 2 ^ 64) was
+      ∙ mod-add-mod (h * a) (2 ^ 64) h
+      ∙ ap (λ (x : ℕ). x % 2 ^ 64) (ap (λ (x : ℕ). h * a + x) (sym (mul-one h)) ∙ sym (mul-add h a 1))

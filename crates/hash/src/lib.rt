@@ -1,18 +1,11 @@
 // FNV-1a, 64 bits, modulo 2^64 (01: it stands in for the Rust's rapidhash): over the kind byte, the payload
 // (8 bytes) and each child (4 bytes), big-endian.
 ghost use mathlib.Core.Path.{_≡_};
-ghost use mathlib.Core.List.{List, [], _∷_};
-ghost use Prim.Native.Nat.{_<_, _≤_};
+ghost use mathlib.Core.List.{[], _∷_};
 ghost use Rattle.hash.specs.Fnv.{timesPrime, fnvFrom, bytes32, bytes64, childrenBytes, nodeHashOf};
 use std::num::wrapping_add_u64;
 
 const OFFSET_BASIS: u64 = 14_695_981_039_346_656_037;
-
-const PRIME: u64 = 1_099_511_628_211;
-// The prime is 2^40 and 435.
-const PRIME_HIGH: u64 = 1_099_511_627_776;
-
-const PRIME_LOW: u64 = PRIME - PRIME_HIGH;
 
 const BYTE: u64 = 256;
 
@@ -22,14 +15,18 @@ const TWO_TO_24: u64 = 16_777_216;
 
 const TWO_TO_32: u64 = 4_294_967_296;
 
-// h times the prime, modulo 2^64: the product with 2^40, and that with 435 for each half of h.
+// h times the prime 1,099,511,628,211, modulo 2^64. The prime is 2^40 + 2^8 + 2^7 + 2^5 + 2^4 + 2 + 1, and each
+// product is added in turn.
 pub fn wrapping_mul_prime(h: u64) -> u64
     ensures { λ r. ⌜ r ≡ timesPrime h ⌝ }
 {
-    let top = h % TWO_TO_24 * PRIME_HIGH;
-    let high = h / TWO_TO_32 * PRIME_LOW % TWO_TO_32 * TWO_TO_32;
-    let low = h % TWO_TO_32 * PRIME_LOW;
-    wrapping_add_u64(wrapping_add_u64(top, high), low)
+    let mut product = h << 40;
+    product = wrapping_add_u64(product, h << 8);
+    product = wrapping_add_u64(product, h << 7);
+    product = wrapping_add_u64(product, h << 5);
+    product = wrapping_add_u64(product, h << 4);
+    product = wrapping_add_u64(product, h << 1);
+    wrapping_add_u64(product, h)
 }
 
 // One byte more.

@@ -1,5 +1,4 @@
 -- `dedup::get_or_insert` meets its contract: by where the search ends.
-use Prim.Native.Nat.{_-_}
 use native.Mathlib.Omega.{arith}
 use borrow.Author.Needs.{needs}
 use Rattle.dedup.proofs.Searching.{was-here, was-free, was-nowhere, reached-in, held}

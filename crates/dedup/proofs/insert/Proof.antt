@@ -1,5 +1,4 @@
 -- `dedup::insert` meets its contract: one law for each answer.
-use Prim.Native.Nat.{_-_}
 use mathlib.Core.Path.{_≡_}
 use lib.ListN.{length}
 use native.Mathlib.Omega.{arith}
@@ -26,8 +25,8 @@ add-if2 c = search needs
 returns-2 : tie.Need-returns-2
 returns-2 c = refuse-words _ _ _ _ _ (c .before .before .before .before .pre) (c .before .if1 .left) (c .if2 .taken)
 
-most-nodes-requires : tie.Need-most-nodes-requires
-most-nodes-requires c κs = search needs
+load-limit-requires : tie.Need-load-limit-requires
+load-limit-requires c κs = search needs
 
 add-slots : tie.Need-add-slots
 add-slots c = search needs
@@ -54,16 +53,16 @@ same-length-2 : tie.Need-same-length-2
 same-length-2 c = search needs
 
 returns-3 : tie.Need-returns-3
-returns-3 c = rw (c .before .before .store-node .ensures) (added _ _ _ _ _ (c .before .before .before .before .before .before .before .before .before .before .pre) (c .before .before .before .before .before .before .before .if1 .left) (c .before .before .before .before .before .before .if2 .left) (children (c .before .before .before .before .before .before .before .before .before .before)) (let e = c .before .before .before .before .before .most-nodes .ensures in let l = c .before .before .before .before .if3 .taken in omega arith))
+returns-3 c = rw (c .before .before .store-node .ensures) (added _ _ _ _ _ (c .before .before .before .before .before .before .before .before .before .before .pre) (c .before .before .before .before .before .before .before .if1 .left) (c .before .before .before .before .before .before .if2 .left) (children (c .before .before .before .before .before .before .before .before .before .before)) (let e = c .before .before .before .before .before .load-limit .ensures in let l = c .before .before .before .before .if3 .taken in omega arith))
 
 returns-4 : tie.Need-returns-4
-returns-4 c = refuse-slots _ _ _ _ _ (c .before .before .before .before .before .before .before .pre) (c .before .before .before .before .if1 .left) (c .before .before .before .if2 .left) (let e = c .before .before .most-nodes .ensures in let l = c .before .if3 .left in omega arith) (omega arith)
+returns-4 c = refuse-slots _ _ _ _ _ (c .before .before .before .before .before .before .before .pre) (c .before .before .before .before .if1 .left) (c .before .before .before .if2 .left) (let e = c .before .before .load-limit .ensures in let l = c .before .if3 .left in omega arith) (omega arith)
 
 mul-doubled : tie.Need-mul-doubled
 mul-doubled c = search needs
 
 rehash-requires : tie.Need-rehash-requires
-rehash-requires c κs = (c .before .before .before .before .before .before .before .before .before .pre .nodes .formed, doubles _ _ _ _ _ (c .before .before .before .before .before .before .before .before .before .pre) (c .before .before .before .before .before .before .if1 .left) (c .before .before .before .before .before .if2 .left) (children (c .before .before .before .before .before .before .before .before .before)) (let e = c .before .before .before .before .most-nodes .ensures in let l = c .before .before .before .if3 .left in omega arith) (c .before .before .if4 .left))
+rehash-requires c κs = (c .before .before .before .before .before .before .before .before .before .pre .nodes .formed, doubles _ _ _ _ _ (c .before .before .before .before .before .before .before .before .before .pre) (c .before .before .before .before .before .before .if1 .left) (c .before .before .before .before .before .if2 .left) (children (c .before .before .before .before .before .before .before .before .before)) (let e = c .before .before .before .before .load-limit .ensures in let l = c .before .before .before .if3 .left in omega arith) (c .before .before .if4 .left))
 
 place-requires : tie.Need-place-requires
 place-requires c κs = (c .before .before .before .before .before .before .before .before .before .before .before .if1 .left, c .before .before .before .before .before .before .before .before .before .before .before .before .before .before .pre .formed .hashed, room _ _ _ _ (c .before .before .before .before .rehash .ensures .table))
@@ -81,7 +80,7 @@ same-length-4 : tie.Need-same-length-4
 same-length-4 c = search needs
 
 returns-5 : tie.Need-returns-5
-returns-5 c = rw (c .before .before .store-node2 .ensures) (added-doubled _ _ _ _ _ (c .before .before .before .before .before .before .before .before .before .before .before .before .before .before .before .before .before .before .before .before .before .pre) (c .before .before .before .before .before .before .before .before .before .before .before .before .before .before .before .before .before .before .if1 .left) (c .before .before .before .before .before .before .before .before .before .before .before .before .before .before .before .before .before .if2 .left) (children (c .before .before .before .before .before .before .before .before .before .before .before .before .before .before .before .before .before .before .before .before .before)) (let e = c .before .before .before .before .before .before .before .before .before .before .before .before .before .before .before .before .most-nodes .ensures in let l = c .before .before .before .before .before .before .before .before .before .before .before .before .before .before .before .if3 .left in omega arith) (c .before .before .before .before .before .before .before .before .before .before .before .before .before .before .if4 .left) _ _ (c .before .before .before .before .before .before .before .before .before .before .before .rehash .ensures) (c .before .before .before .before .before .before .place .ensures))
+returns-5 c = rw (c .before .before .store-node2 .ensures) (added-doubled _ _ _ _ _ (c .before .before .before .before .before .before .before .before .before .before .before .before .before .before .before .before .before .before .before .before .before .pre) (c .before .before .before .before .before .before .before .before .before .before .before .before .before .before .before .before .before .before .if1 .left) (c .before .before .before .before .before .before .before .before .before .before .before .before .before .before .before .before .before .if2 .left) (children (c .before .before .before .before .before .before .before .before .before .before .before .before .before .before .before .before .before .before .before .before .before)) (let e = c .before .before .before .before .before .before .before .before .before .before .before .before .before .before .before .before .load-limit .ensures in let l = c .before .before .before .before .before .before .before .before .before .before .before .before .before .before .before .if3 .left in omega arith) (c .before .before .before .before .before .before .before .before .before .before .before .before .before .before .if4 .left) _ _ (c .before .before .before .before .before .before .before .before .before .before .before .rehash .ensures) (c .before .before .before .before .before .before .place .ensures))
 
 pub insert-spec : {M : Type 1} → statement M
 insert-spec =
@@ -91,7 +90,7 @@ insert-spec =
     mul-if2
     add-if2
     returns-2
-    most-nodes-requires
+    load-limit-requires
     add-slots
     cast-slots
     mul-slots

@@ -1,5 +1,4 @@
 -- `hash::add_byte` meets its contract.
-use Prim.Native.Nat.{_-_}
 use borrow.Author.Needs.{needs}
 use Rattle.hash.specs.Fnv.{fnvFrom}
 use Rattle.hash.proofs.add_byte.Statement.{statement}

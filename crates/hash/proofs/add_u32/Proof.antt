@@ -1,5 +1,4 @@
 -- `hash::add_u32` meets its contract.
-use Prim.Native.Nat.{_-_}
 use borrow.Author.Needs.{needs}
 use Rattle.hash.specs.Fnv.{fnvFrom, bytes32}
 use Rattle.hash.proofs.add_u32.Statement.{statement}

@@ -1,5 +1,4 @@
 -- `hash::add_u64` meets its contract.
-use Prim.Native.Nat.{_-_}
 use borrow.Author.Needs.{needs}
 use Rattle.hash.specs.Fnv.{bytes64}
 use Rattle.hash.proofs.Appending.{fnv-append}

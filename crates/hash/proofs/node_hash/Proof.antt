@@ -1,5 +1,4 @@
 -- `hash::node_hash` meets its contract.
-use Prim.Native.Nat.{_-_}
 use borrow.Author.Needs.{needs}
 use Rattle.hash.specs.Fnv.{fnvFrom, nodeHashOf}
 use Rattle.hash.proofs.Appending.{fnv-append}

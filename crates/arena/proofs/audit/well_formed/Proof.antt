@@ -1,5 +1,4 @@
 -- `arena::audit::well_formed` meets its contract, part by part.
-use Prim.Native.Nat.{_-_}
 use mathlib.Core.Path.{sym, _∙_}
 use native.Mathlib.Omega.{arith}
 use borrow.Author.Needs.{needs}

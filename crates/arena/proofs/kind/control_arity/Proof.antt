@@ -1,5 +1,4 @@
 -- `arena::kind::control_arity` meets its contract.
-use Prim.Native.Nat.{_-_}
 use Rattle.arena.proofs.Listing as L
 use Rattle.arena.proofs.kind.control_arity.Statement.{statement}
 use Rattle.arena.proofs.kind.control_arity.Tie as tie

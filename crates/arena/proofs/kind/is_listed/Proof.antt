@@ -1,5 +1,4 @@
 -- `arena::kind::is_listed` meets its contract: one law for each kind.
-use Prim.Native.Nat.{_-_}
 use mathlib.Core.Path.{_∙_}
 use borrow.Author.Needs.{needs}
 use Rattle.arena.proofs.Listing as L

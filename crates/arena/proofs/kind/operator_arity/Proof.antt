@@ -1,5 +1,4 @@
 -- `arena::kind::operator_arity` meets its contract.
-use Prim.Native.Nat.{_-_}
 use mathlib.Core.Logic.{inl, inr}
 use Rattle.arena.proofs.Listing as L
 use Rattle.arena.proofs.kind.operator_arity.Statement.{statement}

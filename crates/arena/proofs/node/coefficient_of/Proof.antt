@@ -1,5 +1,4 @@
 -- `arena::node::coefficient_of` meets its contract.
-use Prim.Native.Nat.{_-_}
 use mathlib.Core.Path.{refl}
 use borrow.Author.Tests.{eq-eqb, ne-eqb}
 use Rattle.arena.specs.Node.{coefficient}

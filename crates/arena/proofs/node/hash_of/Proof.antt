@@ -1,5 +1,4 @@
 -- `arena::node::hash_of` meets its contract.
-use Prim.Native.Nat.{_-_}
 use mathlib.Core.Path.{_≡_, sym}
 use lib.ListN.{length}
 use lib.Seq.{length-take-le}

@@ -1,5 +1,4 @@
 -- `arena::node::load` meets its contract.
-use Prim.Native.Nat.{_-_}
 use mathlib.Core.Path.{refl}
 use borrow.Author.Needs.{needs}
 use Rattle.arena.specs.Node.{nodeAt}

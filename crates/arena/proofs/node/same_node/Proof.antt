@@ -1,5 +1,4 @@
 -- `arena::node::same_node` meets its contract: each test that fails is a part in which the nodes differ.
-use Prim.Native.Nat.{_-_}
 use mathlib.Core.Path.{_∙_}
 use borrow.Author.Needs.{needs}
 use Rattle.arena.proofs.OneNode.{not-one, one-children}

@@ -1,5 +1,4 @@
 -- `arena::node::store_node` meets its contract.
-use Prim.Native.Nat.{_-_}
 use mathlib.Core.Path.{_∙_}
 use lib.ListN.{length-set}
 use native.Mathlib.Omega.{arith}

@@ -1,5 +1,4 @@
 -- `dedup::auditing::audit` meets its contract: its tests make up the nodes and the table, and follow from them.
-use Prim.Native.Nat.{_-_}
 use mathlib.Core.Path.{sym, _∙_}
 use native.Mathlib.Omega.{arith}
 use borrow.Author.Needs.{needs}
@@ -24,11 +23,11 @@ audit-nodes-requires c κs = search needs
 returns-3 : tie.Need-returns-3
 returns-3 c = says-no (λ s. c .before .audit-nodes .ensures .no (not-true _ (c .if3 .taken)) (s .0 .formed))
 
-most-nodes-requires : tie.Need-most-nodes-requires
-most-nodes-requires c κs = search needs
+load-limit-requires : tie.Need-load-limit-requires
+load-limit-requires c κs = search needs
 
 returns-4 : tie.Need-returns-4
-returns-4 c = says-no (λ s. let l = s .1 .load in let e = c .before .most-nodes .ensures in omega arith)
+returns-4 c = says-no (λ s. let l = s .1 .load in let e = c .before .load-limit .ensures in omega arith)
 
 used-slots-requires : tie.Need-used-slots-requires
 used-slots-requires c κs = search needs
@@ -40,7 +39,7 @@ all-meet-own-requires : tie.Need-all-meet-own-requires
 all-meet-own-requires c κs = (c .before .before .before .before .before .audit-nodes .ensures .yes (not-false _ (c .before .before .before .before .if3 .left)), record { doubled = c .before .before .before .before .before .before .before .is-table-size .ensures .yes (not-false _ (c .before .before .before .before .before .before .if2 .left)); sized = c .before .before .before .before .before .before .before .before .if1 .left })
 
 returns-6 : tie.Need-returns-6
-returns-6 c = says-map _ (λ own. sound-of _ _ _ _ own (sym (c .before .before .used-slots .ensures) ∙ c .before .if5 .left) (c .before .before .before .before .before .before .audit-nodes .ensures .yes (not-false _ (c .before .before .before .before .before .if3 .left))) (c .before .before .before .before .before .before .before .before .is-table-size .ensures .yes (not-false _ (c .before .before .before .before .before .before .before .if2 .left))) (c .before .before .before .before .before .before .before .before .before .if1 .left) (let e = c .before .before .before .before .most-nodes .ensures in let l = c .before .before .before .if4 .left in omega arith)) (λ s. meets-own _ _ _ _ (s .0) (s .1)) (c .all-meet-own .ensures)
+returns-6 c = says-map _ (λ own. sound-of _ _ _ _ own (sym (c .before .before .used-slots .ensures) ∙ c .before .if5 .left) (c .before .before .before .before .before .before .audit-nodes .ensures .yes (not-false _ (c .before .before .before .before .before .if3 .left))) (c .before .before .before .before .before .before .before .before .is-table-size .ensures .yes (not-false _ (c .before .before .before .before .before .before .before .if2 .left))) (c .before .before .before .before .before .before .before .before .before .if1 .left) (let e = c .before .before .before .before .load-limit .ensures in let l = c .before .before .before .if4 .left in omega arith)) (λ s. meets-own _ _ _ _ (s .0) (s .1)) (c .all-meet-own .ensures)
 
 pub audit-spec : {M : Type 1} → statement M
 audit-spec =
@@ -51,7 +50,7 @@ audit-spec =
     returns-2
     audit-nodes-requires
     returns-3
-    most-nodes-requires
+    load-limit-requires
     returns-4
     used-slots-requires
     returns-5

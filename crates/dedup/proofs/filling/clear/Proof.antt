@@ -1,5 +1,5 @@
 -- `dedup::filling::clear` meets its contract. The invariant: the slots passed are empty.
-use Prim.Native.Nat.{ℕ, _+_, _-_, _≤_, _<_}
+use Prim.Native.Nat.{ℕ, _-_, _≤_, _<_}
 use mathlib.Core.Path.{_≡_, refl, _∙_, ap}
 use mathlib.Core.List.{List, _++_}
 use lib.ListN.{drop, length, set, replicate, length-set}

@@ -1,5 +1,4 @@
 -- `dedup::filling::place` meets its contract: no node is known, so the search ends at an empty slot.
-use Prim.Native.Nat.{_-_}
 use mathlib.Core.Path.{refl}
 use native.Mathlib.Omega.{arith}
 use borrow.Author.Needs.{needs}

@@ -1,5 +1,5 @@
 -- `dedup::sizes::is_table_size` meets its contract. The invariant: the rest is a table size just if the size is.
-use Prim.Native.Nat.{_%_, _-_}
+use Prim.Native.Nat.{_%_}
 use mathlib.Core.Path.{_≡_}
 use native.Mathlib.Omega.{arith}
 use Rattle.arena.proofs.Deciding.{says-no, says-map, says-eq}

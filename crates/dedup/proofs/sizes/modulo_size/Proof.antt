@@ -1,5 +1,4 @@
 -- `dedup::sizes::modulo_size` meets its contract: the remainder by a power of two is a mask.
-use Prim.Native.Nat.{_-_}
 use Rattle.dedup.proofs.Doubling.{positive, modulo-is}
 use Rattle.dedup.proofs.sizes.modulo_size.Statement.{statement}
 use Rattle.dedup.proofs.sizes.modulo_size.Tie as tie

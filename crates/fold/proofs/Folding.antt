@@ -1,0 +1,34 @@
+-- What folding gives for each kind, from values that are known by equations.
+use mathlib.Core.Path.{_≡_, refl}
+use mathlib.Core.Bool.{true, false}
+use mathlib.Core.Option.{Option, none, some}
+use Prim.Native.Nat.{ℕ}
+use borrow.Author.Tests.{ne-eqb}
+use lib.Ieee.{Float, binary64, add, sub, mul, div, eq}
+use Rattle.definitions.specs.Node.{addKind, subKind, mulKind, divKind}
+use Rattle.definitions.specs.Patterns.{fold, zero64}
+
+module _ {k : ℕ} {u v x y : Float} (p : u ≡ x) (q : v ≡ y) where
+  pub sum-folds : k ≡ addKind → some (add binary64 u v) ≡ fold k x y
+  unfolding fold
+  sum-folds e = rw (e, p, q)
+
+  pub difference-folds : k ≡ subKind → some (sub binary64 u v) ≡ fold k x y
+  unfolding fold
+  difference-folds e = rw (e, p, q)
+
+  pub product-folds : k ≡ mulKind → some (mul binary64 u v) ≡ fold k x y
+  unfolding fold
+  product-folds e = rw (e, p, q)
+
+  pub quotient-folds : k ≡ divKind → eq v zero64 ≡ false → some (div binary64 u v) ≡ fold k x y
+  unfolding fold
+  quotient-folds e z = rw (e, ← p, ← q, z) refl
+
+  pub by-zero-declined : k ≡ divKind → eq v zero64 ≡ true → none ≡ fold k x y
+  unfolding fold
+  by-zero-declined e z = rw (e, ← q, z) refl
+
+pub other-declined : (k : ℕ) (x y : Float) → (k ≡ addKind → ⊥) → (k ≡ subKind → ⊥) → (k ≡ mulKind → ⊥) → (k ≡ divKind → ⊥) → none ≡ fold k x y
+unfolding fold
+other-declined k x y a s m d = rw (ne-eqb k addKind a, ne-eqb k subKind s, ne-eqb k mulKind m, ne-eqb k divKind d) refl

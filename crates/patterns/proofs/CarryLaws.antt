@@ -1,0 +1,136 @@
+-- Building what a replacement says, one node after another.
+use Prim.Native.Nat.{ℕ, zero, suc, _+_, _*_, _/_, _≤_, _<_}
+use mathlib.Core.Path.{_≡_, refl, sym, ap, ap₂, _∙_, subst}
+use mathlib.Core.Bool.{Bool, true, false}
+use mathlib.Core.List.{List, [], _∷_}
+use mathlib.Core.Option.{Option, none, some}
+use lib.ListN.{length, getD}
+use native.Mathlib.Omega.{arith}
+use Rattle.arena.specs.declared.DagArena.{DagArena}
+use Rattle.definitions.specs.Node as N
+use Rattle.definitions.specs.Intern as I
+use Rattle.store.specs.View.{nodesIn, lent, Sound, Kept, Builds, plainBuilt, listed}
+use Rattle.store.specs.View as View
+use Rattle.store.specs.Lookup.{Fits}
+use Rattle.store.specs.declared.Built.{Built}
+use Rattle.store.specs.declared.Answer.{Answer}
+use Rattle.store.specs.declared.Answer.the-variants as A
+use Rattle.store.proofs.Keeping.{kept-refl, kept-trans}
+use Rattle.patterns.specs.Deciding.{TwoOperands, Operand, Low, ResultLow, besideConstant, carried, plainResult}
+use Rattle.patterns.specs.Applied.{Applies, appliedOf, matchedOf, plainMatched, MatchedLow}
+use Rattle.patterns.specs.declared.Replacement.{Replacement}
+use Rattle.patterns.specs.declared.Replacement.the-variants.{Id}
+use Rattle.patterns.specs.declared.PatternResult.{PatternResult}
+use Rattle.patterns.specs.declared.PatternResult.the-variants as R
+use Rattle.patterns.specs.declared.Applied.{Applied}
+use Rattle.patterns.specs.declared.Matched.{Matched}
+use Rattle.patterns.specs.declared.Matched.the-variants as M
+
+-- ---- nodes that may be interned
+no-children : (j : ℕ) → _≡_ {A = ℕ} (getD (0 ∷ 0 ∷ 0 ∷ 0 ∷ []) j 0) 0
+no-children zero = refl
+no-children (suc zero) = refl
+no-children (suc (suc zero)) = refl
+no-children (suc (suc (suc zero))) = refl
+no-children (suc (suc (suc (suc j)))) = refl
+
+pub constant-fits : (count b : ℕ) → Fits count N.constantKind b 0 0 (0 ∷ 0 ∷ 0 ∷ 0 ∷ [])
+unfolding listed
+constant-fits count b = record { listing = refl; unmarked = omega arith; few = omega arith; lower = λ j h. absurd (omega arith); unused = λ j h. no-children j }
+
+both-low : (a b count : ℕ) → a < count → b < count → (j : ℕ) → j < 2 → getD (a ∷ b ∷ 0 ∷ 0 ∷ []) j 0 < count
+both-low a b count x y zero l = x
+both-low a b count x y (suc zero) l = y
+both-low a b count x y (suc (suc j)) l = absurd (omega arith)
+
+none-after : (a b j : ℕ) → 2 ≤ j → getD (a ∷ b ∷ 0 ∷ 0 ∷ []) j 0 ≡ 0
+none-after a b zero h = absurd (omega arith)
+none-after a b (suc zero) h = absurd (omega arith)
+none-after a b (suc (suc zero)) h = refl
+none-after a b (suc (suc (suc zero))) h = refl
+none-after a b (suc (suc (suc (suc j)))) h = refl
+
+pub operator-fits : (count k a b : ℕ) → TwoOperands count k a b → Fits count k 0 3 2 (a ∷ b ∷ 0 ∷ 0 ∷ [])
+operator-fits count k a b h = record {
+  listing = h .listing;
+  unmarked = omega arith;
+  few = omega arith;
+  lower = both-low a b count (h .left) (h .right);
+  unused = none-after a b;
+}
+
+-- ---- an answer of the store, as one of try_apply
+matched-is : (a : Answer) (ns : List N.Node) → plainMatched (matchedOf a) ns ≡ some (plainBuilt a ns)
+matched-is (A.Id i) ns = refl
+matched-is (A.Refused k) ns = refl
+
+matched-low : (a : Answer) (count : ℕ) → View.Low a count → MatchedLow (matchedOf a) count
+matched-low (A.Id i) count h = h
+matched-low (A.Refused k) count h = tt
+
+not-declined : {B : Type 0} (a : Answer) → matchedOf a ≡ M.Declined → B
+not-declined (A.Id i) e = absurd (let z : _≡_ {A = ℕ} 0 1 = cc in omega arith)
+not-declined (A.Refused k) e = absurd (let z : _≡_ {A = ℕ} 0 1 = cc in omega arith)
+
+module _ {w slots : List ℕ} {s : DagArena} where
+  -- nothing is built
+  pub builds-id : (i : ℕ) → Sound w slots s → i < s .count → Builds w slots s (I.built (nodesIn w (s .count)) i) w slots (record { answer = A.Id i; arena = s })
+  builds-id i h l = record { answer = refl; kept = kept-refl w slots s h; low = l }
+
+  module _ {m : I.Built} {w₁ slots₁ : List ℕ} {q : Built} (first : Builds w slots s m w₁ slots₁ q) where
+    same-lent : lent w₁ slots₁ ≡ lent w slots
+    same-lent = ap₂ (λ (a b : ℕ). record { nodes = a / 10; slots = b }) (first .kept .long) (first .kept .wide)
+
+    -- stopped at the first node
+    pub then-stopped : (f : List N.Node → ℕ → I.Built) (k : ℕ) → q .answer ≡ A.Refused k → Builds w slots s (I.then m f) w₁ slots₁ (record { answer = A.Refused k; arena = q .arena })
+    then-stopped f k e = record {
+      answer = subst (λ (x : I.Built). I.stopped (nodesIn w₁ (q .arena .count)) k ≡ I.then x f) (ap (λ (x : Answer). plainBuilt x (nodesIn w₁ (q .arena .count))) (sym e) ∙ first .answer) refl;
+      kept = first .kept;
+      low = tt;
+    }
+
+    -- a second node over the first
+    pub then-built : (F : I.Lent → List N.Node → ℕ → I.Built) (i : ℕ) → q .answer ≡ A.Id i → {w₂ slots₂ : List ℕ} {r : Built} → Builds w₁ slots₁ (q .arena) (F (lent w₁ slots₁) (nodesIn w₁ (q .arena .count)) i) w₂ slots₂ r → Builds w slots s (I.then m (F (lent w slots))) w₂ slots₂ r
+    then-built F i e {w₂} {slots₂} {r} second = record {
+      answer =
+          second .answer ∙ ap (λ (x : I.Lent). F x (nodesIn w₁ (q .arena .count)) i) same-lent
+          ∙ ap (λ (x : I.Built). I.then x (F (lent w slots))) (ap (λ (x : Answer). plainBuilt x (nodesIn w₁ (q .arena .count))) (sym e) ∙ first .answer);
+      kept = kept-trans w slots s w₁ slots₁ (q .arena) w₂ slots₂ (r .arena) (first .kept) (second .kept);
+      low = second .low;
+    }
+
+    pub low-id : (i : ℕ) → q .answer ≡ A.Id i → i < q .arena .count
+    low-id i e = subst (λ (x : Answer). View.Low x (q .arena .count)) e (first .low)
+
+    -- the operands of the second node are those of the grown store
+    pub constant-left : {k other : ℕ} (i : ℕ) → q .answer ≡ A.Id i → Operand (s .count) k other → TwoOperands (q .arena .count) k i other
+    constant-left i e h = record { left = low-id i e; right = omega (arith, h .below, first .kept .count); listing = h .listing }
+
+    pub constant-right : {k other : ℕ} (i : ℕ) → q .answer ≡ A.Id i → Operand (s .count) k other → TwoOperands (q .arena .count) k other i
+    constant-right i e h = record { left = omega (arith, h .below, first .kept .count); right = low-id i e; listing = h .listing }
+
+  -- the side that is asked for
+  pub on-side : {side : Bool} (t : Bool) → side ≡ t → (k bits other : ℕ) {w′ slots′ : List ℕ} {r : Built} → Builds w slots s (besideConstant t (lent w slots) (nodesIn w (s .count)) k bits other) w′ slots′ r → Builds w slots s (besideConstant side (lent w slots) (nodesIn w (s .count)) k bits other) w′ slots′ r
+  on-side t e k bits other {w′} {slots′} {r} b = subst (λ (x : Bool). Builds w slots s (besideConstant x (lent w slots) (nodesIn w (s .count)) k bits other) w′ slots′ r) (sym e) b
+
+  -- a replacement that is known by its variant
+  pub carries : {p q : Replacement} → p ≡ q → {w′ slots′ : List ℕ} {r : Built} → Builds w slots s (carried (lent w slots) (nodesIn w (s .count)) q) w′ slots′ r → Builds w slots s (carried (lent w slots) (nodesIn w (s .count)) p) w′ slots′ r
+  carries e {w′} {slots′} {r} b = subst (λ (x : Replacement). Builds w slots s (carried (lent w slots) (nodesIn w (s .count)) x) w′ slots′ r) (sym e) b
+
+  -- ---- the answer of try_apply
+  pub applies-built : {p : PatternResult} {x : Replacement} {plain : Option I.Built} {w′ slots′ : List ℕ} {q : Built} {a : Applied} → p ≡ R.Fits x → plainResult (lent w slots) (nodesIn w (s .count)) p ≡ plain → Builds w slots s (carried (lent w slots) (nodesIn w (s .count)) x) w′ slots′ q → a ≡ appliedOf q → Applies w slots s plain w′ slots′ a
+  applies-built {plain = plain} {w′ = w′} {slots′ = slots′} {q = q} e f b g = subst (λ (a : Applied). Applies w slots s plain w′ slots′ a) (sym g) (record {
+    is = matched-is (q .answer) (nodesIn w′ (q .arena .count)) ∙ ap some (b .answer) ∙ ap (plainResult (lent w slots) (nodesIn w (s .count))) (sym e) ∙ f;
+    kept = b .kept;
+    low = matched-low (q .answer) (q .arena .count) (b .low);
+    same = λ e. not-declined (q .answer) e;
+  })
+
+  pub applies-none : {p : PatternResult} {plain : Option I.Built} → p ≡ R.Declined → plainResult (lent w slots) (nodesIn w (s .count)) p ≡ plain → Sound w slots s → Applies w slots s plain w slots (record { matched = M.Declined; arena = s })
+  applies-none e f h = record { is = ap (plainResult (lent w slots) (nodesIn w (s .count))) (sym e) ∙ f; kept = kept-refl w slots s h; low = tt; same = λ e. (refl, refl, refl) }
+
+pub known-low : (count : ℕ) {p q : Replacement} → p ≡ q → Low count p → Low count q
+known-low count e l = subst (Low count) e l
+
+pub known-result-low : (count : ℕ) {p q : PatternResult} → p ≡ q → ResultLow count p → ResultLow count q
+known-result-low count e l = subst (ResultLow count) e l

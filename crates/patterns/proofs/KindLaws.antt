@@ -1,0 +1,134 @@
+-- The patterns of a kind over its children, first that fits.
+use Prim.Native.Nat.{ℕ, zero, suc, _≤_, _<_}
+use mathlib.Core.Path.{_≡_, refl, sym, ap, _∙_, subst}
+use mathlib.Core.Bool.{Bool, true, false}
+use mathlib.Core.List.{List, [], _∷_}
+use mathlib.Core.Option.{Option, none, some}
+use mathlib.Core.Logic.{_⊎_, inl, inr}
+use lib.ListN.{length, getD, take}
+use lib.Dec.{eqb}
+use lib.Seq.{ext-getD, length-take-le}
+use lib.Ieee.{Float}
+use native.Mathlib.Omega.{arith}
+use borrow.Author.Tests.{eq-eqb, ne-eqb}
+use Rattle.definitions.specs.Node.{Node, at, addKind, subKind, mulKind, divKind, powKind, negKind}
+use Rattle.definitions.specs.Intern.{Lent, Built}
+use Rattle.definitions.specs.Patterns.{orElse, constantValue, addZero, subIdentity, mulIdentity, divIdentity, powIdentity, negDouble, identities, fold, folded, foldBoth, constantFold, mulCoefMerge, addCoefMerge, merges, tryApply}
+use Rattle.store.specs.View.{nodesIn}
+use Rattle.patterns.specs.Deciding.{Decides, plainResult, declines}
+use Rattle.patterns.specs.declared.PatternResult.{PatternResult}
+use Rattle.patterns.specs.declared.PatternResult.the-variants.{Fits, Declined}
+
+abbrev Plain : Type 0
+Plain = Lent → List Node → Option Built
+
+-- ---- first that fits
+first-is : (l : Lent) (ns : List Node) (r : PatternResult) (x y : Option Built) → declines r ≡ false → plainResult l ns r ≡ x → plainResult l ns r ≡ orElse x y
+first-is l ns (Fits p) x y d e = subst (λ (o : Option Built). plainResult l ns (Fits p) ≡ orElse o y) e refl
+first-is l ns Declined x y d e = absurd (let z : _≡_ {A = ℕ} 0 1 = cc in omega arith)
+
+second-is : (l : Lent) (ns : List Node) (r : PatternResult) (x y z : Option Built) → declines r ≡ true → plainResult l ns r ≡ x → z ≡ y → z ≡ orElse x y
+second-is l ns (Fits p) x y z d e f = absurd (let z : _≡_ {A = ℕ} 0 1 = cc in omega arith)
+second-is l ns Declined x y z d e f = subst (λ (o : Option Built). z ≡ orElse o y) e f
+
+module _ {w : List ℕ} {count : ℕ} {f : Plain} {r : PatternResult} where
+  pub first-fits : (g : Plain) → declines r ≡ false → Decides w count f r → Decides w count (λ l ns. orElse (f l ns) (g l ns)) r
+  first-fits g d e = record { is = λ l. first-is l (nodesIn w count) r _ _ d (e .is l); low = e .low }
+
+  pub second-fits : {g : Plain} {s : PatternResult} → declines r ≡ true → Decides w count f r → Decides w count g s → Decides w count (λ l ns. orElse (f l ns) (g l ns)) s
+  second-fits d e i = record { is = λ l. second-is l (nodesIn w count) r _ _ _ d (e .is l) (i .is l); low = i .low }
+
+  -- a pattern that is another's
+  pub decides-as : {g : Plain} → ((l : Lent) (ns : List Node) → f l ns ≡ g l ns) → Decides w count f r → Decides w count g r
+  decides-as e d = record { is = λ l. d .is l ∙ e l (nodesIn w count); low = d .low }
+
+-- ---- by kinds
+module _ {k : ℕ} (a b : ℕ) where
+  pub add-identity : k ≡ addKind → (l : Lent) (ns : List Node) → addZero l ns a b ≡ identities l ns k a b
+  unfolding identities
+  add-identity e l ns = rw e refl
+
+  pub sub-identity : k ≡ subKind → (l : Lent) (ns : List Node) → subIdentity l ns a b ≡ identities l ns k a b
+  unfolding identities
+  sub-identity e l ns = rw e refl
+
+  pub mul-identity : k ≡ mulKind → (l : Lent) (ns : List Node) → mulIdentity l ns a b ≡ identities l ns k a b
+  unfolding identities
+  mul-identity e l ns = rw e refl
+
+  pub div-identity : k ≡ divKind → (l : Lent) (ns : List Node) → divIdentity l ns a b ≡ identities l ns k a b
+  unfolding identities
+  div-identity e l ns = rw e refl
+
+  pub pow-identity : k ≡ powKind → (l : Lent) (ns : List Node) → powIdentity l ns a b ≡ identities l ns k a b
+  unfolding identities
+  pow-identity e l ns = rw e refl
+
+  pub mul-merges : k ≡ mulKind → (l : Lent) (ns : List Node) → mulCoefMerge l ns a b ≡ merges l ns k a b
+  unfolding merges
+  mul-merges e l ns = rw e refl
+
+  pub add-merges : k ≡ addKind → (l : Lent) (ns : List Node) → addCoefMerge l ns a b ≡ merges l ns k a b
+  unfolding merges
+  add-merges e l ns = rw e refl
+
+pub no-identity : (k a b : ℕ) → (k ≡ addKind → ⊥) → (k ≡ subKind → ⊥) → (k ≡ mulKind → ⊥) → (k ≡ divKind → ⊥) → (k ≡ powKind → ⊥) → (l : Lent) (ns : List Node) → none ≡ identities l ns k a b
+unfolding identities
+no-identity k a b x y z u v l ns = rw (ne-eqb k addKind x, ne-eqb k subKind y, ne-eqb k mulKind z, ne-eqb k divKind u, ne-eqb k powKind v) refl
+
+pub no-merge : (k a b : ℕ) → (k ≡ mulKind → ⊥) → (k ≡ addKind → ⊥) → (l : Lent) (ns : List Node) → none ≡ merges l ns k a b
+unfolding merges
+no-merge k a b x y l ns = rw (ne-eqb k mulKind x, ne-eqb k addKind y) refl
+
+no-fold : (k a b : ℕ) → (k ≡ addKind → ⊥) → (k ≡ subKind → ⊥) → (k ≡ mulKind → ⊥) → (k ≡ divKind → ⊥) → (l : Lent) (ns : List Node) → none ≡ constantFold l ns k a b
+unfolding constantFold fold
+no-fold k a b x y z u l ns = go (constantValue (at ns a)) (constantValue (at ns b))
+  where
+    go : (s t : Option Float) → none ≡ foldBoth l ns k s t
+    go none t = refl
+    go (some s) none = refl
+    go (some s) (some t) = rw (ne-eqb k addKind x, ne-eqb k subKind y, ne-eqb k mulKind z, ne-eqb k divKind u) refl
+
+pub nothing : {w : List ℕ} {count : ℕ} {f : Plain} → ((l : Lent) (ns : List Node) → none ≡ f l ns) → Decides w count f Declined
+nothing {w} {count} e = record { is = λ l. e l (nodesIn w count); low = tt }
+
+-- ---- by children
+no-binary : (l : Lent) (ns : List Node) (k a b : ℕ) → (k < addKind) ⊎ (powKind < k) → none ≡ tryApply l ns k (a ∷ b ∷ [])
+unfolding tryApply
+no-binary l ns k a b h =
+    let n : (j : ℕ) → addKind ≤ j → j ≤ powKind → k ≡ j → ⊥ = λ j p q e. elim h [ inl x ↦ omega arith | inr x ↦ omega arith ] in
+    let i = no-identity k a b (n 2 (omega arith) (omega arith)) (n 3 (omega arith) (omega arith)) (n 4 (omega arith) (omega arith)) (n 5 (omega arith) (omega arith)) (n 6 (omega arith) (omega arith)) l ns in
+    let f = no-fold k a b (n 2 (omega arith) (omega arith)) (n 3 (omega arith) (omega arith)) (n 4 (omega arith) (omega arith)) (n 5 (omega arith) (omega arith)) l ns in
+    let m = no-merge k a b (n 4 (omega arith) (omega arith)) (n 2 (omega arith) (omega arith)) l ns in
+    rw (← i, ← f, ← m) refl
+
+no-pattern : (l : Lent) (ns : List Node) (k : ℕ) (c : List ℕ) → (length c ≡ 1 → k ≡ negKind → ⊥) → (length c ≡ 2 → (k < addKind) ⊎ (powKind < k)) → none ≡ tryApply l ns k c
+unfolding tryApply
+no-pattern l ns k [] u v = refl
+no-pattern l ns k (a ∷ []) u v = rw (ne-eqb k negKind (u refl)) refl
+no-pattern l ns k (a ∷ b ∷ []) u v = no-binary l ns k a b (v refl)
+no-pattern l ns k (a ∷ b ∷ c ∷ r) u v = refl
+
+four : (c : List ℕ) → length c ≡ 4 → c ≡ getD c 0 0 ∷ getD c 1 0 ∷ getD c 2 0 ∷ getD c 3 0 ∷ []
+four c e = ext-getD 0 c (getD c 0 0 ∷ getD c 1 0 ∷ getD c 2 0 ∷ getD c 3 0 ∷ []) e (λ i h. go i (rw e at h))
+  where
+    go : (i : ℕ) → i < 4 → getD c i 0 ≡ getD (getD c 0 0 ∷ getD c 1 0 ∷ getD c 2 0 ∷ getD c 3 0 ∷ []) i 0
+    go zero h = refl
+    go (suc zero) h = refl
+    go (suc (suc zero)) h = refl
+    go (suc (suc (suc zero))) h = refl
+    go (suc (suc (suc (suc i)))) h = absurd (omega arith)
+
+module _ (k n : ℕ) (c : List ℕ) (len : length c ≡ 4) where
+  pub one-child : n ≡ 1 → k ≡ negKind → (l : Lent) (ns : List Node) → negDouble ns (getD c 0 0) ≡ tryApply l ns k (take n c)
+  unfolding tryApply
+  one-child e h l ns = rw (e, h) (ap (λ (d : List ℕ). tryApply l ns negKind (take 1 d)) (sym (four c len)))
+
+  pub two-children : n ≡ 2 → (l : Lent) (ns : List Node) → tryApply l ns k (getD c 0 0 ∷ getD c 1 0 ∷ []) ≡ tryApply l ns k (take n c)
+  two-children e l ns = rw e (ap (λ (d : List ℕ). tryApply l ns k (take 2 d)) (sym (four c len)))
+
+  -- no pattern for the number of children, or for the kind
+  pub nothing-fits : n ≤ 4 → (n ≡ 1 → k ≡ negKind → ⊥) → (n ≡ 2 → (k < addKind) ⊎ (powKind < k)) → (l : Lent) (ns : List Node) → none ≡ tryApply l ns k (take n c)
+  nothing-fits h u v l ns =
+      let e : length (take n c) ≡ n = length-take-le n c (omega arith) in
+      no-pattern l ns k (take n c) (λ x. u (sym e ∙ x)) (λ x. v (sym e ∙ x))

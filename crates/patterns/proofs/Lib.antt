@@ -1,0 +1,7 @@
+pub mod Values
+pub mod Children
+pub mod IdentityLaws
+pub mod FoldLaws
+pub mod MergeLaws
+pub mod KindLaws
+pub mod CarryLaws

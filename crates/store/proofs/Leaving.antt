@@ -1,0 +1,56 @@
+-- What a call leaves, in the three cases that every public call has: not sound, refused at once, and done.
+use Prim.Native.Nat.{ℕ, _*_}
+use mathlib.Core.Path.{_≡_, refl, sym, ap, _∙_}
+use mathlib.Core.Bool.{true}
+use mathlib.Core.List.{List}
+use lib.ListN.{length}
+use Rattle.arena.specs.Layout.{nodeWords}
+use Rattle.definitions.specs.Limits.{mostDoublings}
+use Rattle.definitions.specs.Refusals.{notSound}
+use Rattle.definitions.specs.Intern.{Lent, tableSizeFrom}
+use Rattle.definitions.specs.Machine.{Call, Answer, refused, After, State, call}
+use Rattle.store.specs.View.{lent, Kept}
+use Rattle.store.specs.Memory.{Memory, model, changesNothing, Leaves}
+use Rattle.store.proofs.Sizes.{grown-is}
+use Rattle.store.proofs.Keeping.{kept-refl}
+
+abbrev pub SoundMemory : Memory → Type 0
+SoundMemory m = model .Sound m
+
+abbrev pub KeptMemory : Memory → Memory → Type 0
+KeptMemory m m′ = Kept (m .words) (m .slots) (m .arena) (m′ .words) (m′ .slots) (m′ .arena)
+
+-- an answer, and the plain machine's state in a memory
+abbrev pub after : Answer → Memory → After
+after a m = record { answer = a; left = model .view m }
+
+module _ (c : Call) (m : Memory) where
+  -- "20 store .. not sound"
+  pub leaves-unsound : (SoundMemory m → ⊥) → Leaves c m (refused notSound) m
+  leaves-unsound n = record {
+    called = record { unsound = λ _. (refl, refl); answer = λ h. absurd (n h); left = λ h. absurd (n h); sound = λ h. h; same-lent = refl };
+    size = λ h. absurd (n h);
+    words-past = refl;
+    slots-past = refl;
+    unchanged = λ number e u. refl;
+  }
+
+  -- the plain machine's answer, over a memory with its nodes
+  pub leaves-kept : (a : Answer) (m′ : Memory) → SoundMemory m → KeptMemory m m′ → call (model .lent m) (model .view m) c ≡ after a m′ → ((number : ℕ) → a ≡ refused number → changesNothing c number ≡ true → m′ ≡ m) → Leaves c m a m′
+  leaves-kept a m′ h k e u = record {
+    called = record {
+      unsound = λ n. absurd (n h);
+      answer = λ _. sym (ap (λ (x : After). x .answer) e);
+      left = λ _. sym (ap (λ (x : After). x .left) e);
+      sound = λ _. k .whole;
+      same-lent = rw (k .long, k .wide) refl;
+    };
+    size = λ _. grown-is (m .arena .size) (m′ .arena .count) (m′ .arena .size) (h .table .doubled) (k .whole .nodes .formed .many) (k .whole .table .load) (k .grown);
+    words-past = k .words-past;
+    slots-past = k .slots-past;
+    unchanged = u;
+  }
+
+  -- a refusal that leaves all as it is
+  pub leaves-refused : (number : ℕ) → SoundMemory m → call (model .lent m) (model .view m) c ≡ after (refused number) m → Leaves c m (refused number) m
+  leaves-refused number h e = leaves-kept (refused number) m h (kept-refl (m .words) (m .slots) (m .arena) h) e (λ _ _ _. refl)

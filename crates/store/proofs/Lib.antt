@@ -1,0 +1,9 @@
+pub mod ChildLists
+pub mod Viewing
+pub mod Sizes
+pub mod Keeping
+pub mod Refining
+pub mod Reading
+pub mod NewNodes
+pub mod Marking
+pub mod Leaving

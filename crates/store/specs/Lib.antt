@@ -1,0 +1,5 @@
+pub mod Sound
+pub mod View
+pub mod Lookup
+pub mod Memory
+pub mod Interning
