@@ -1,0 +1,11 @@
+pub mod Below
+pub mod Chains
+pub mod Weights
+pub mod Reading
+pub mod Writing
+pub mod Flattening
+pub mod Filtering
+pub mod Halving
+pub mod Summing
+pub mod Pruning
+pub mod Calling

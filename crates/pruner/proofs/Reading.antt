@@ -1,0 +1,47 @@
+-- What is read of a sound store's nodes.
+use Prim.Native.Nat.{ℕ, suc, _<_, _≤_}
+use mathlib.Core.Path.{_≡_, refl, sym, ap, _∙_, subst}
+use mathlib.Core.Bool.{Bool, true, false, _&&_, false≢true}
+use mathlib.Core.List.{List}
+use lib.ListN.{length}
+use lib.Dec.{leb, eqb}
+use native.Mathlib.Omega.{arith}
+use borrow.Author.Tests.{leb-true}
+use Rattle.definitions.specs.Limits.{mostChildren}
+use Rattle.definitions.specs.Node.{Node, at, addKind}
+use Rattle.arena.specs.declared.DagArena.{DagArena}
+use Rattle.arena.specs.Kind.{operatorArity}
+use Rattle.store.specs.View.{nodesIn, Sound, listed}
+use Rattle.store.specs.Lookup.{Lookup}
+use Rattle.store.proofs.Viewing.{plain-length}
+use Rattle.store.proofs.Reading as R
+use Rattle.pruner.specs.Terms.{Readable}
+use Rattle.pruner.proofs.Below.{lower-of}
+use Rattle.pruner.proofs.Chains.{Layered}
+
+both : (a b : Bool) → a && b ≡ true → (a ≡ true) × (b ≡ true)
+both true b h = (refl, h)
+both false b h = absurd (false≢true h)
+
+-- "Add and Mul one to four" children
+add-filled : (kind payload arity : ℕ) → listed kind payload arity ≡ true → kind ≡ addKind → 0 < arity
+unfolding listed operatorArity
+add-filled kind payload arity h e =
+    let t = both (eqb payload 0) (leb 1 arity && leb arity 4) (subst (λ (k : ℕ). listed k payload arity ≡ true) e h) in
+    leb-true 1 arity (both (leb 1 arity) (leb arity 4) (t .1) .0)
+
+pub readable : (words slots : List ℕ) (s : DagArena) → Sound words slots s → Readable words (s .count)
+readable words slots s h = record { lookup = R.lookup-of words slots s h; filled = λ i l e. add-filled _ _ _ (R.listed-at words slots s h i l) e }
+
+module _ (words : List ℕ) (count : ℕ) (r : Readable words count) where
+  pub layered : Layered (nodesIn words count)
+  layered = record {
+    low = λ i h. lower-of i (at (nodesIn words count) i .children) (R.child-low words count i (r .lookup i (below i h)));
+    filled = λ i h e. r .filled i (below i h) e;
+  }
+    where
+      below : (i : ℕ) → i < length (nodesIn words count) → i < count
+      below i h = omega (arith, plain-length words count)
+
+  pub few-children : (i : ℕ) → i < count → length (at (nodesIn words count) i .children) ≤ mostChildren
+  few-children i h = R.few words count i (r .lookup i h)

@@ -1,0 +1,159 @@
+// Pruning (01, "simplifier: pruning"): an additive chain without the terms whose magnitude is below a threshold.
+pub mod chain;
+pub mod filter;
+pub mod refusals;
+pub mod sum;
+pub mod threshold;
+ghost use Prim.Native.Nat.{_<_};
+ghost use lib.Ieee.{binary64, ofBits};
+ghost use Rattle.definitions.specs.Machine as M;
+ghost use Rattle.definitions.specs.Prune as Prune;
+ghost use Rattle.definitions.specs.Threshold as T;
+ghost use Rattle.store.specs.View.{Sound, nodesIn, lent};
+ghost use Rattle.pruner.specs.Answers.{thresholdOf, meaning, Prunes};
+ghost use Rattle.store.specs.Memory.{memory, Leaves};
+use arena::DagArena;
+use chain::Flattened;
+use chain::MOST_TERMS;
+use threshold::Threshold;
+
+// 01: "1 constant (payload the binary64 bits), 2 to 8 operator Add, ..".
+pub const CONSTANT: u64 = 1;
+pub const ADD: u64 = 2;
+
+pub enum Answer {
+    // The id that stands for the pruned chain, and the numbers of terms kept and dropped.
+    Pruned { id: u64, kept: u64, dropped: u64 },
+    // The number of a refusal.
+    Refused(u64),
+}
+
+// An answer, and the store's count and size after it.
+pub struct Outcome {
+    pub answer: Answer,
+    pub arena: DagArena,
+}
+
+// The chain under an Add: flattened, filtered and summed again.
+fn prune_chain(nodes: &mut [u64], slots: &mut [u32], arena: DagArena, root: u64, threshold: u64) -> Outcome
+    requires { ⌜ (root < arena .count) × Sound (now nodes) (now slots) arena ⌝ }
+    ensures { λ r. ⌜ Prunes (memory (now (nodes .entry)) (now (slots .entry)) arena) (M.pruneChain (lent (now (nodes .entry)) (now (slots .entry))) (nodesIn (now (nodes .entry)) (arena .count)) (ofBits binary64 threshold) (Prune.chain (nodesIn (now (nodes .entry)) (arena .count)) root)) (r .answer) (memory (now (nodes .exit)) (now (slots .exit)) (r .arena)) ⌝ }
+{
+    let mut terms = [0u64; MOST_TERMS];
+    let count = arena.count;
+    match chain::flatten(nodes, count, root, &mut terms) {
+        Flattened::TooMany => Outcome {
+            answer: Answer::Refused(refusals::TOO_MANY_TERMS),
+            arena,
+        },
+        Flattened::Terms(found) => {
+            let kept = filter::filter(nodes, count, threshold, &mut terms, found);
+            let built = sum::balanced_add(nodes, slots, arena, &terms[..kept]);
+            let after = built.arena;
+            let answer = built.answer;
+            match answer {
+                store::Answer::Refused(number) => Outcome {
+                    answer: Answer::Refused(number),
+                    arena: after,
+                },
+                store::Answer::Id(id) => Outcome {
+                    answer: Answer::Pruned {
+                        id,
+                        kept: kept as u64,
+                        dropped: (found - kept) as u64,
+                    },
+                    arena: after,
+                },
+            }
+        }
+    }
+}
+
+// 01: "A root that is no Add has no chain and is answered itself, 1 kept, 0 dropped."
+fn prune_additive_chain(
+    nodes: &mut [u64],
+    slots: &mut [u32],
+    arena: DagArena,
+    root: u64,
+    threshold: u64,
+) -> Outcome
+    requires { ⌜ (root < arena .count) × Sound (now nodes) (now slots) arena ⌝ }
+    ensures { λ r. ⌜ Prunes (memory (now (nodes .entry)) (now (slots .entry)) arena) (M.pruneAt (lent (now (nodes .entry)) (now (slots .entry))) (nodesIn (now (nodes .entry)) (arena .count)) root (T.bits threshold)) (r .answer) (memory (now (nodes .exit)) (now (slots .exit)) (r .arena)) ⌝ }
+{
+    if store::kind(nodes, arena.count, root) == ADD {
+        return prune_chain(nodes, slots, arena, root, threshold);
+    }
+    Outcome {
+        answer: Answer::Pruned {
+            id: root,
+            kept: 1,
+            dropped: 0,
+        },
+        arena,
+    }
+}
+
+// A prune on a store that is known to be sound.
+pub fn prune_sound(
+    nodes: &mut [u64],
+    slots: &mut [u32],
+    arena: DagArena,
+    root: u32,
+    threshold: Threshold,
+) -> Outcome
+    requires { ⌜ Sound (now nodes) (now slots) arena ⌝ }
+    ensures { λ r. ⌜ Prunes (memory (now (nodes .entry)) (now (slots .entry)) arena) (M.pruneCall (lent (now (nodes .entry)) (now (slots .entry))) (nodesIn (now (nodes .entry)) (arena .count)) root (thresholdOf threshold)) (r .answer) (memory (now (nodes .exit)) (now (slots .exit)) (r .arena)) ⌝ }
+{
+    let id = root as u64;
+    if arena.count <= id {
+        return Outcome {
+            answer: Answer::Refused(refusals::BAD_OPERAND),
+            arena,
+        };
+    }
+    match threshold {
+        Threshold::Bits(bits) => prune_additive_chain(nodes, slots, arena, id, bits),
+        Threshold::Refusing(number) => Outcome {
+            answer: Answer::Refused(number),
+            arena,
+        },
+    }
+}
+
+// A prune of an id at a threshold, both of any value, on any store.
+pub fn prune(
+    nodes: &mut [u64],
+    slots: &mut [u32],
+    arena: DagArena,
+    root: u32,
+    threshold: u64,
+) -> Outcome
+    ensures { λ r. ⌜ Leaves (M.prune root threshold) (memory (now (nodes .entry)) (now (slots .entry)) arena) (meaning (r .answer)) (memory (now (nodes .exit)) (now (slots .exit)) (r .arena)) ⌝ }
+{
+    if !store::audit(nodes, slots, arena) {
+        return Outcome {
+            answer: Answer::Refused(refusals::NOT_SOUND),
+            arena,
+        };
+    }
+    prune_sound(nodes, slots, arena, root, threshold::given(threshold))
+}
+
+// A prune of an id by a setting. 01: "a prune by setting is the prune at that threshold".
+pub fn prune_by_setting(
+    nodes: &mut [u64],
+    slots: &mut [u32],
+    arena: DagArena,
+    root: u32,
+    setting: u32,
+) -> Outcome
+    ensures { λ r. ⌜ Leaves (M.pruneBySetting root setting) (memory (now (nodes .entry)) (now (slots .entry)) arena) (meaning (r .answer)) (memory (now (nodes .exit)) (now (slots .exit)) (r .arena)) ⌝ }
+{
+    if !store::audit(nodes, slots, arena) {
+        return Outcome {
+            answer: Answer::Refused(refusals::NOT_SOUND),
+            arena,
+        };
+    }
+    prune_sound(nodes, slots, arena, root, threshold::of_setting(setting))
+}

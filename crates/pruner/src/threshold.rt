@@ -1,0 +1,38 @@
+// A prune's threshold, handed in as bits or as a setting.
+ghost use mathlib.Core.Path.{_≡_};
+ghost use Rattle.definitions.specs.Threshold as T;
+ghost use Rattle.definitions.specs.Settings as Settings;
+ghost use Rattle.pruner.specs.Answers.{thresholdOf};
+use crate::refusals::BAD_SETTING;
+use crate::refusals::BAD_THRESHOLD;
+
+// The bits of the largest threshold, infinity. Every number above them has a NaN's bits or the sign bit.
+const INFINITY_BITS: u64 = 0x7ff0_0000_0000_0000;
+
+pub enum Threshold {
+    // The binary64 bits of a threshold.
+    Bits(u64),
+    // The refusal of what was handed in.
+    Refusing(u64),
+}
+
+// 01: 7 is "threshold NaN or sign bit set".
+pub fn given(bits: u64) -> Threshold
+    ensures { λ r. ⌜ thresholdOf r ≡ T.given bits ⌝ }
+{
+    if bits <= INFINITY_BITS {
+        Threshold::Bits(bits)
+    } else {
+        Threshold::Refusing(BAD_THRESHOLD)
+    }
+}
+
+// 01: "a prune by setting is the prune at that threshold".
+pub fn of_setting(setting: u32) -> Threshold
+    ensures { λ r. ⌜ thresholdOf r ≡ Settings.setting setting ⌝ }
+{
+    match settings::threshold(setting) {
+        settings::Setting::Threshold(bits) => Threshold::Bits(bits),
+        settings::Setting::NotListed => Threshold::Refusing(BAD_SETTING),
+    }
+}
