@@ -4,30 +4,21 @@ use Rattle.store.proofs.NewNodes.{new-formed, new-plain}
 use borrow.Author.Needs.{needs}
 use Rattle.store.proofs.interning.intern.Statement.{statement}
 use Rattle.store.proofs.interning.intern.Tie as tie
-use Rattle.store.proofs.interning.intern.Reads as reads
-use Rattle.store.proofs.interning.intern.Lts as lts
-use Rattle.arena.proofs.node.DagNode.new.Reads as new-reads
-use Rattle.store.proofs.interning.intern_node.Reads as intern-node-reads
 
--- src/interning.rt:56:9
 new-requires : tie.Need-new-requires
 new-requires c κs = search needs
 
--- src/interning.rt:57:5
 intern-node-requires : tie.Need-intern-node-requires
 intern-node-requires c κs = 
     let e = c .before .before .before .before .before in
     (subst (WellFormed _) (sym (c .before .before .new .ensures)) (new-formed _ _ _ _ _ _ (e .pre .0)), e .pre .1)
 
--- src/interning.rt:43:1
 same-length : tie.Need-same-length
 same-length c = search needs
 
--- src/interning.rt:43:1
 same-length-2 : tie.Need-same-length-2
 same-length-2 c = search needs
 
--- src/interning.rt:43:1
 returns : tie.Need-returns
 returns c = 
     let e = c .before .before .before .before .before .before .before .before .before .before in

@@ -6,66 +6,50 @@ use Rattle.store.proofs.Refining.{seen}
 use borrow.Author.Needs.{needs}
 use Rattle.store.proofs.interning.intern_node.Statement.{statement}
 use Rattle.store.proofs.interning.intern_node.Tie as tie
-use Rattle.store.proofs.interning.intern_node.Reads as reads
-use Rattle.store.proofs.interning.intern_node.Lts as lts
-use Rattle.dedup.proofs.get_or_insert.Reads as get-or-insert-reads
 
 children : (s : tie.Start) → length (s .args .key .children) ≡ mostChildren
 children s = search needs
 
--- src/interning.rt:23:9
 get-or-insert-requires : tie.Need-get-or-insert-requires
 get-or-insert-requires c κs = search needs
 
--- src/interning.rt:27:28
 enum-known-answer : tie.Need-enum-known-answer
 enum-known-answer c = search needs
 
--- src/interning.rt:31:28
 enum-known-answer-2 : tie.Need-enum-known-answer-2
 enum-known-answer-2 c = search needs
 
--- src/interning.rt:35:32
 enum-known-answer-3 : tie.Need-enum-known-answer-3
 enum-known-answer-3 c = search needs
 
--- src/interning.rt:19:1
 same-length : tie.Need-same-length
 same-length c = search needs
 
--- src/interning.rt:19:1
 same-length-2 : tie.Need-same-length-2
 same-length-2 c = search needs
 
--- src/interning.rt:19:1
 returns : tie.Need-returns
 returns c = 
     let e = c .before .before .before .before .before .before .before .before .before .before .before .before .before in
     seen _ _ _ _ (children e) (e .pre .0) (e .pre .1) _ _ _ (c .before .before .before .before .before .before .before .before .get-or-insert .ensures) (search needs) (search needs) (Old _) (c .before .answer .given .1)
 
--- src/interning.rt:19:1
 same-length-3 : tie.Need-same-length-3
 same-length-3 c = search needs
 
--- src/interning.rt:19:1
 same-length-4 : tie.Need-same-length-4
 same-length-4 c = search needs
 
--- src/interning.rt:19:1
 returns-2 : tie.Need-returns-2
 returns-2 c = 
     let e = c .before .before .before .before .before .before .before .before .before .before .before .before .before in
     seen _ _ _ _ (children e) (e .pre .0) (e .pre .1) _ _ _ (c .before .before .before .before .before .before .before .before .get-or-insert .ensures) (search needs) (search needs) (New _) (c .before .answer2 .given .1)
 
--- src/interning.rt:19:1
 same-length-5 : tie.Need-same-length-5
 same-length-5 c = search needs
 
--- src/interning.rt:19:1
 same-length-6 : tie.Need-same-length-6
 same-length-6 c = search needs
 
--- src/interning.rt:19:1
 returns-3 : tie.Need-returns-3
 returns-3 c = 
     let e = c .before .before .before .before .before .before .before .before .before .before .before .before .before in

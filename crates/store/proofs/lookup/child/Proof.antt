@@ -3,30 +3,22 @@ use native.Mathlib.Omega.{arith}
 use borrow.Author.Needs.{needs}
 use Rattle.store.proofs.lookup.child.Statement.{statement}
 use Rattle.store.proofs.lookup.child.Tie as tie
-use Rattle.store.proofs.lookup.child.Reads as reads
-use Rattle.store.proofs.lookup.child.Lts as lts
 
--- src/lookup.rt:55:11
 mul-result : tie.Need-mul-result
 mul-result c = search needs
 
--- src/lookup.rt:55:11
 add-result : tie.Need-add-result
 add-result c = search needs
 
--- src/lookup.rt:55:11
 add-result-2 : tie.Need-add-result-2
 add-result-2 c = let few = R.few _ _ _ (c .pre .1) in let h = c .pre .0 in let b = c .pre .1 .below in let f = c .pre .1 .nodes .formed .fits in let m = c .pre .1 .nodes .formed .many in omega arith
 
--- src/lookup.rt:55:5
 mul-result-2 : tie.Need-mul-result-2
 mul-result-2 c = let few = R.few _ _ _ (c .pre .1) in let h = c .pre .0 in let b = c .pre .1 .below in let f = c .pre .1 .nodes .formed .fits in let m = c .pre .1 .nodes .formed .many in omega arith
 
--- src/lookup.rt:55:5
 shared-slice-read-result : tie.Need-shared-slice-read-result
 shared-slice-read-result c = let few = R.few _ _ _ (c .before .pre .1) in let h = c .before .pre .0 in let b = c .before .pre .1 .below in let f = c .before .pre .1 .nodes .formed .fits in let m = c .before .pre .1 .nodes .formed .many in omega arith
 
--- src/lookup.rt:51:1
 returns : tie.Need-returns
 returns c = R.child-is _ _ _ (c .before .pre .1) _ (c .before .pre .0)
 

@@ -2,26 +2,19 @@ use Rattle.store.proofs.Reading as R
 use borrow.Author.Needs.{needs}
 use Rattle.store.proofs.lookup.kind.Statement.{statement}
 use Rattle.store.proofs.lookup.kind.Tie as tie
-use Rattle.store.proofs.lookup.kind.Reads as reads
-use Rattle.store.proofs.lookup.kind.Lts as lts
 
--- src/lookup.rt:23:11
 mul-result : tie.Need-mul-result
 mul-result c = search needs
 
--- src/lookup.rt:23:11
 add-result : tie.Need-add-result
 add-result c = search needs
 
--- src/lookup.rt:23:5
 mul-result-2 : tie.Need-mul-result-2
 mul-result-2 c = search needs
 
--- src/lookup.rt:23:5
 shared-slice-read-result : tie.Need-shared-slice-read-result
 shared-slice-read-result c = search needs
 
--- src/lookup.rt:19:1
 returns : tie.Need-returns
 returns c = R.kind-is _ _ _ (c .before .pre)
 

@@ -1,0 +1,99 @@
+-- The constructors' shared work is the plain machine's store call.
+use Prim.Native.Nat.{ℕ, _≤_, _<_}
+use mathlib.Core.Path.{_≡_, refl, sym, ap, _∙_, subst}
+use mathlib.Core.Bool.{Bool, true, false, cond}
+use mathlib.Core.List.{List}
+use lib.ListN.{length, getD, take}
+use native.Mathlib.Omega.{arith}
+use Rattle.arena.specs.declared.DagArena.{DagArena}
+use Rattle.arena.specs.declared.node.DagNode.{DagNode}
+use Rattle.arena.specs.Kind as Kind
+use Rattle.arena.specs.Node.{newNode}
+use Rattle.definitions.specs.Node as N
+use Rattle.definitions.specs.Intern as I
+use Rattle.definitions.specs.Refusals.{notSound, badOperand, badCode, badChildCount}
+use Rattle.definitions.specs.Machine as M
+use Rattle.definitions.specs.Machine.{call, storeCall, storedAs, requested, request, allBelow, onNodes, outcome, refused}
+use Rattle.store.specs.declared.Built.{Built}
+use Rattle.store.specs.declared.Answer.{Answer}
+use Rattle.store.specs.declared.Answer.the-variants.{Id, Refused}
+use Rattle.store.specs.Sound.{Sound}
+use Rattle.store.specs.View.{plainNode, nodesIn, lent, plainBuilt}
+use Rattle.store.specs.Lookup.{Places, Fits}
+use Rattle.store.specs.Memory.{memory, answerOf}
+use Rattle.store.specs.Interning.{Interns}
+use Rattle.store.proofs.NewNodes.{new-plain}
+use Rattle.store.proofs.Viewing.{plain-length}
+use Rattle.store.proofs.Leaving.{leaves-unsound, leaves-kept, leaves-refused}
+use Rattle.builder.specs.Stores.{Stores, StoresAll, Asked}
+use Rattle.builder.proofs.Operands.{below-each, place-at}
+
+-- an answer that only gives a number
+abbrev pub refusal : ℕ → DagArena → Built
+refusal number arena = record { answer = Refused number; arena = arena }
+
+pub stores-unsound : (listed : Bool) (kind payload flags : ℕ) (operands w slots : List ℕ) (s : DagArena) → (Sound w slots s → ⊥) → StoresAll listed kind payload flags operands w slots s w slots (refusal notSound s)
+stores-unsound listed kind payload flags operands w slots s n c e = leaves-unsound (M.store c) (memory w slots s) n
+
+-- an answer, plainly
+answered : (a : Answer) (ns : List N.Node) → storedAs (plainBuilt a ns) ≡ outcome (answerOf a) ns
+answered (Id id) ns = refl
+answered (Refused number) ns = refl
+
+refused-is : (a : Answer) (number : ℕ) → answerOf a ≡ refused number → a ≡ Refused number
+refused-is (Id id) number e = absurd (let z : _≡_ {A = ℕ} 0 1 = cc in omega arith)
+refused-is (Refused k) number e = cc
+
+module _ (listed : Bool) (kind payload flags : ℕ) (operands w slots : List ℕ) (s : DagArena) (asked : Asked listed kind payload flags) (h : Sound w slots s) where
+  abbrev ns : List N.Node
+  ns = nodesIn w (s .count)
+
+  abbrev wanted : M.Request
+  wanted = request listed (N.node kind payload flags operands)
+
+  called : (c : M.Store) (o : M.Outcome) → requested c ≡ wanted → storeCall (lent w slots) ns wanted ≡ o → call (lent w slots) (M.state ns) (M.store c) ≡ onNodes (M.state ns) o
+  unfolding call
+  called c o e f = ap (λ (q : M.Request). onNodes (M.state ns) (storeCall (lent w slots) ns q)) e ∙ ap (onNodes (M.state ns)) f
+
+  refuses : (number : ℕ) → storeCall (lent w slots) ns wanted ≡ outcome (refused number) ns → StoresAll listed kind payload flags operands w slots s w slots (refusal number s)
+  refuses number f c e = leaves-refused (M.store c) (memory w slots s) number h (called c _ e f)
+
+  -- 5
+  pub refuse-code : listed ≡ false → StoresAll listed kind payload flags operands w slots s w slots (refusal badCode s)
+  unfolding storeCall
+  refuse-code l = refuses badCode (rw l refl)
+
+  module _ (l : listed ≡ true) where
+    -- 6
+    pub refuse-count : (r : Bool) → r ≡ Kind.listed kind payload (length operands) → r ≡ false → StoresAll listed kind payload flags operands w slots s w slots (refusal badChildCount s)
+    unfolding storeCall
+    refuse-count r k f = refuses badChildCount (rw (l, asked .counts l (length operands), ← k, f) refl)
+
+    module _ (k : Kind.listed kind payload (length operands) ≡ true) where
+      -- 4
+      pub refuse-operand : (r : Bool) → r ≡ allBelow (s .count) operands → r ≡ false → StoresAll listed kind payload flags operands w slots s w slots (refusal badOperand s)
+      unfolding storeCall
+      refuse-operand r b f = refuses badOperand (rw (l, asked .counts l (length operands), k, plain-length w (s .count), ← b, f) refl)
+
+      module _ (b : allBelow (s .count) operands ≡ true) (places : List ℕ) (p : Places places operands) where
+        pub fits : Fits (s .count) kind payload flags (length operands) places
+        fits = record {
+          listing = k;
+          unmarked = asked .unmarked l;
+          few = p .few;
+          lower = λ j m. rw (place-at places operands p j m) (below-each (s .count) operands b j m);
+          unused = p .unused;
+        }
+
+        passed : storeCall (lent w slots) ns wanted ≡ storedAs (I.intern (lent w slots) ns (N.node kind payload flags operands))
+        unfolding storeCall
+        passed = rw (l, asked .counts l (length operands), k, plain-length w (s .count), b) refl
+
+        -- the id of the node, 21 or 22
+        pub interned : (key : DagNode) → key ≡ newNode kind payload flags (length operands) places → (w′ slots′ : List ℕ) (r : Built) → Interns w slots s (plainNode key) w′ slots′ r → StoresAll listed kind payload flags operands w slots s w′ slots′ r
+        interned key q w′ slots′ r i c e =
+            let plain : plainNode key ≡ N.node kind payload flags operands = ap plainNode q ∙ new-plain (s .count) kind payload flags (length operands) places fits ∙ ap (N.node kind payload flags) (p .taken) in
+            let o : storedAs (I.intern (lent w slots) ns (N.node kind payload flags operands)) ≡ outcome (answerOf (r .answer)) (nodesIn w′ (r .arena .count)) =
+                ap (λ (n : N.Node). storedAs (I.intern (lent w slots) ns n)) (sym plain) ∙ ap storedAs (sym (i .builds .answer)) ∙ answered (r .answer) (nodesIn w′ (r .arena .count)) in
+            leaves-kept (M.store c) (memory w slots s) (answerOf (r .answer)) (memory w′ slots′ (r .arena)) h (i .builds .kept) (called c _ e (passed ∙ o))
+            (λ number a _. i .unchanged number (refused-is (r .answer) number a))

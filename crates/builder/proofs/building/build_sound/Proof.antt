@@ -1,0 +1,59 @@
+-- `builder::building::build_sound` meets its contract: one law for each answer.
+use mathlib.Core.Path.{sym, subst, _∙_}
+use borrow.Author.Tests.{not-true, not-false}
+use Rattle.arena.specs.Nodes.{WellFormed}
+use Rattle.arena.proofs.Listing.{listed-few}
+use Rattle.store.proofs.NewNodes.{new-formed}
+use Rattle.builder.proofs.Requesting.{refuse-code, refuse-count, refuse-operand, fits, interned}
+use borrow.Author.Needs.{needs}
+use Rattle.builder.proofs.building.build_sound.Statement.{statement}
+use Rattle.builder.proofs.building.build_sound.Tie as tie
+
+returns : tie.Need-returns
+returns c = refuse-code _ _ _ _ _ _ _ _ (c .before .before .before .before .pre .0) (c .before .before .before .before .pre .1) (not-true _ (c .if1 .taken))
+
+is-listed-requires : tie.Need-is-listed-requires
+is-listed-requires c κs = search needs
+
+returns-2 : tie.Need-returns-2
+returns-2 c = refuse-count _ _ _ _ _ _ _ _ (c .before .before .before .before .before .before .pre .0) (c .before .before .before .before .before .before .pre .1) (not-false _ (c .before .before .if1 .left)) _ (c .before .is-listed .ensures) (not-true _ (c .if2 .taken))
+
+all-below-requires : tie.Need-all-below-requires
+all-below-requires c κs = search needs
+
+returns-3 : tie.Need-returns-3
+returns-3 c = refuse-operand _ _ _ _ _ _ _ _ (c .before .before .before .before .before .before .before .before .pre .0) (c .before .before .before .before .before .before .before .before .pre .1) (not-false _ (c .before .before .before .before .if1 .left)) (sym (c .before .before .before .is-listed .ensures) ∙ not-false _ (c .before .before .if2 .left)) _ (c .before .all-below .ensures) (not-true _ (c .if3 .taken))
+
+child-places-requires : tie.Need-child-places-requires
+child-places-requires c κs = listed-few _ _ _ (sym (c .before .before .before .is-listed .ensures) ∙ not-false _ (c .before .before .if2 .left))
+
+new-requires : tie.Need-new-requires
+new-requires c κs = search needs
+
+intern-node-requires : tie.Need-intern-node-requires
+intern-node-requires c κs = (subst (WellFormed _) (sym (c .before .before .new .ensures)) (new-formed _ _ _ _ _ _ (fits _ _ _ _ _ _ _ _ (c .before .before .before .before .before .before .before .before .before .before .before .before .pre .0) (c .before .before .before .before .before .before .before .before .before .before .before .before .pre .1) (not-false _ (c .before .before .before .before .before .before .before .before .if1 .left)) (sym (c .before .before .before .before .before .before .before .is-listed .ensures) ∙ not-false _ (c .before .before .before .before .before .before .if2 .left)) (sym (c .before .before .before .before .before .all-below .ensures) ∙ not-false _ (c .before .before .before .before .if3 .left)) _ (c .before .before .before .child-places .ensures))), c .before .before .before .before .before .before .before .before .before .before .before .before .pre .1)
+
+same-length : tie.Need-same-length
+same-length c = search needs
+
+same-length-2 : tie.Need-same-length-2
+same-length-2 c = search needs
+
+returns-4 : tie.Need-returns-4
+returns-4 c = interned _ _ _ _ _ _ _ _ (c .before .before .before .before .before .before .before .before .before .before .before .before .before .before .before .before .before .pre .0) (c .before .before .before .before .before .before .before .before .before .before .before .before .before .before .before .before .before .pre .1) (not-false _ (c .before .before .before .before .before .before .before .before .before .before .before .before .before .if1 .left)) (sym (c .before .before .before .before .before .before .before .before .before .before .before .before .is-listed .ensures) ∙ not-false _ (c .before .before .before .before .before .before .before .before .before .before .before .if2 .left)) (sym (c .before .before .before .before .before .before .before .before .before .before .all-below .ensures) ∙ not-false _ (c .before .before .before .before .before .before .before .before .before .if3 .left)) _ (c .before .before .before .before .before .before .before .before .child-places .ensures) _ (c .before .before .before .before .before .before .before .new .ensures) _ _ _ (c .before .before .before .before .intern-node .ensures)
+
+pub build-sound-spec : {M : Type 1} → statement M
+build-sound-spec =
+    tie.close
+    (tie.spec
+    returns
+    is-listed-requires
+    returns-2
+    all-below-requires
+    returns-3
+    child-places-requires
+    new-requires
+    intern-node-requires
+    same-length
+    same-length-2
+    returns-4)

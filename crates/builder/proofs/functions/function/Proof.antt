@@ -1,0 +1,21 @@
+use mathlib.Core.Path.{refl}
+use Rattle.definitions.specs.Machine as M
+use Rattle.builder.proofs.Codes.{asked-function}
+use borrow.Author.Needs.{needs}
+use Rattle.builder.proofs.functions.function.Statement.{statement}
+use Rattle.builder.proofs.functions.function.Tie as tie
+
+build-requires : tie.Need-build-requires
+build-requires c κs = asked-function _ (search needs)
+
+same-length : tie.Need-same-length
+same-length c = search needs
+
+same-length-2 : tie.Need-same-length-2
+same-length-2 c = search needs
+
+returns : tie.Need-returns
+returns c = c .before .before .before .before .build .ensures (M.function _ _) refl
+
+pub function-spec : {M : Type 1} → statement M
+function-spec = tie.close (tie.spec build-requires same-length same-length-2 returns)

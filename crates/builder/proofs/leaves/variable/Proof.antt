@@ -1,0 +1,25 @@
+use mathlib.Core.Path.{refl}
+use Rattle.definitions.specs.Machine as M
+use Rattle.builder.proofs.Codes.{asked-variable}
+use borrow.Author.Needs.{needs}
+use Rattle.builder.proofs.leaves.variable.Statement.{statement}
+use Rattle.builder.proofs.leaves.variable.Tie as tie
+
+slice-aggregate-build : tie.Need-slice-aggregate-build
+slice-aggregate-build c = search needs
+
+build-requires : tie.Need-build-requires
+build-requires c κs = asked-variable _ (search needs)
+
+same-length : tie.Need-same-length
+same-length c = search needs
+
+same-length-2 : tie.Need-same-length-2
+same-length-2 c = search needs
+
+returns : tie.Need-returns
+returns c = c .before .before .before .before .build .ensures (M.variable _) refl
+
+pub variable-spec : {M : Type 1} → statement M
+variable-spec =
+    tie.close (tie.spec slice-aggregate-build build-requires same-length same-length-2 returns)

@@ -1,0 +1,110 @@
+// What all constructors share.
+ghost use mathlib.Core.Path.{_≡_};
+ghost use Prim.Native.Nat.{ℕ, _≤_};
+ghost use lib.ListN.{length};
+ghost use Rattle.arena.specs.Layout.{mostChildren};
+ghost use Rattle.definitions.specs.Machine.{allBelow};
+ghost use Rattle.store.specs.Sound.{Sound};
+ghost use Rattle.store.specs.Lookup.{Places};
+ghost use Rattle.builder.specs.Stores.{StoresAll, Asked};
+use arena::DagArena;
+use arena::DagNode;
+use arena::MOST_CHILDREN;
+use arena::kind::is_listed;
+use crate::BAD_CHILD_COUNT;
+use crate::BAD_CODE;
+use crate::BAD_OPERAND;
+use crate::NOT_SOUND;
+use store::Answer;
+use store::Built;
+use store::audit;
+use store::intern_node;
+
+// Whether all operands are ids below the count.
+fn all_below(operands: &[u32], count: u64) -> bool
+    ensures { λ r. ⌜ r ≡ allBelow count (now (operands .entry)) ⌝ }
+{
+    let mut j: usize = 0;
+    while j < operands.len() {
+        if count <= operands[j] as u64 {
+            return false;
+        }
+        j += 1;
+    }
+    true
+}
+
+// The operands as child places.
+fn child_places(operands: &[u32]) -> [u64; MOST_CHILDREN]
+    requires { ⌜ length (now operands) ≤ mostChildren ⌝ }
+    ensures { λ r. ⌜ Places r (now (operands .entry)) ⌝ }
+{
+    let mut children = [0; MOST_CHILDREN];
+    let mut j: usize = 0;
+    while j < operands.len() {
+        children[j] = operands[j] as u64;
+        j += 1;
+    }
+    children
+}
+
+// The id of a node over these operands, or 5, 6, 4, 21 or 22, on a store that is known to be sound.
+pub fn build_sound(
+    nodes: &mut [u64],
+    slots: &mut [u32],
+    arena: DagArena,
+    listed: bool,
+    kind: u64,
+    payload: u64,
+    flags: u64,
+    operands: &[u32],
+) -> Built
+    requires { ⌜ Asked listed kind payload flags × Sound (now nodes) (now slots) arena ⌝ }
+    ensures { λ r. ⌜ StoresAll listed kind payload flags (now (operands .entry)) (now (nodes .entry)) (now (slots .entry)) arena (now (nodes .exit)) (now (slots .exit)) r ⌝ }
+{
+    if !listed {
+        return Built {
+            answer: Answer::Refused(BAD_CODE),
+            arena,
+        };
+    }
+    let arity = operands.len() as u64;
+    if !is_listed(kind, payload, arity) {
+        return Built {
+            answer: Answer::Refused(BAD_CHILD_COUNT),
+            arena,
+        };
+    }
+    if !all_below(operands, arena.count) {
+        return Built {
+            answer: Answer::Refused(BAD_OPERAND),
+            arena,
+        };
+    }
+    let children = child_places(operands);
+    let key = DagNode::new(kind, payload, flags, arity, children);
+    intern_node(nodes, slots, arena, key)
+}
+
+// The same after the audit: 20 comes first.
+pub fn build(
+    nodes: &mut [u64],
+    slots: &mut [u32],
+    arena: DagArena,
+    listed: bool,
+    kind: u64,
+    payload: u64,
+    flags: u64,
+    operands: &[u32],
+) -> Built
+    requires { ⌜ Asked listed kind payload flags ⌝ }
+    ensures { λ r. ⌜ StoresAll listed kind payload flags (now (operands .entry)) (now (nodes .entry)) (now (slots .entry)) arena (now (nodes .exit)) (now (slots .exit)) r ⌝ }
+{
+    if !audit(nodes, slots, arena) {
+        return Built {
+            answer: Answer::Refused(NOT_SOUND),
+            arena,
+        };
+    }
+    build_sound(nodes, slots, arena, listed, kind, payload, flags, operands)
+}

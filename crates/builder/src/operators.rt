@@ -1,0 +1,95 @@
+// Operators. 01: "`add` and `mul` give flags 3, other constructors 0; `operator` takes flags 0 to 3."
+ghost use mathlib.Core.Path.{_≡_};
+ghost use mathlib.Core.Bool.{_&&_};
+ghost use lib.Dec.{leb};
+ghost use Rattle.definitions.specs.Machine as M;
+ghost use Rattle.builder.specs.Stores.{Stores};
+use arena::ASSOCIATIVE;
+use arena::COMMUTATIVE;
+use arena::DagArena;
+use arena::kind::ADD;
+use arena::kind::DIV;
+use arena::kind::MOD;
+use arena::kind::MUL;
+use arena::kind::NEG;
+use arena::kind::POW;
+use arena::kind::SUB;
+use crate::building::build;
+use store::Built;
+
+// The flags of `add` and `mul`.
+const REORDERABLE: u64 = COMMUTATIVE + ASSOCIATIVE;
+// Operator codes run from 0 Add to 6 Neg.
+const LAST_CODE: u32 = 6;
+const LAST_FLAGS: u32 = 3;
+
+// The sum of two.
+pub fn add(nodes: &mut [u64], slots: &mut [u32], arena: DagArena, a: u32, b: u32) -> Built
+    ensures { λ r. ⌜ Stores (M.add a b) (now (nodes .entry)) (now (slots .entry)) arena (now (nodes .exit)) (now (slots .exit)) r ⌝ }
+{
+    let operands = [a, b];
+    build(nodes, slots, arena, true, ADD, 0, REORDERABLE, &operands)
+}
+
+// The first minus the second.
+pub fn sub(nodes: &mut [u64], slots: &mut [u32], arena: DagArena, a: u32, b: u32) -> Built
+    ensures { λ r. ⌜ Stores (M.sub a b) (now (nodes .entry)) (now (slots .entry)) arena (now (nodes .exit)) (now (slots .exit)) r ⌝ }
+{
+    let operands = [a, b];
+    build(nodes, slots, arena, true, SUB, 0, 0, &operands)
+}
+
+// The product of two.
+pub fn mul(nodes: &mut [u64], slots: &mut [u32], arena: DagArena, a: u32, b: u32) -> Built
+    ensures { λ r. ⌜ Stores (M.mul a b) (now (nodes .entry)) (now (slots .entry)) arena (now (nodes .exit)) (now (slots .exit)) r ⌝ }
+{
+    let operands = [a, b];
+    build(nodes, slots, arena, true, MUL, 0, REORDERABLE, &operands)
+}
+
+// The first over the second.
+pub fn div(nodes: &mut [u64], slots: &mut [u32], arena: DagArena, a: u32, b: u32) -> Built
+    ensures { λ r. ⌜ Stores (M.div a b) (now (nodes .entry)) (now (slots .entry)) arena (now (nodes .exit)) (now (slots .exit)) r ⌝ }
+{
+    let operands = [a, b];
+    build(nodes, slots, arena, true, DIV, 0, 0, &operands)
+}
+
+// The first to the power of the second.
+pub fn pow(nodes: &mut [u64], slots: &mut [u32], arena: DagArena, a: u32, b: u32) -> Built
+    ensures { λ r. ⌜ Stores (M.pow a b) (now (nodes .entry)) (now (slots .entry)) arena (now (nodes .exit)) (now (slots .exit)) r ⌝ }
+{
+    let operands = [a, b];
+    build(nodes, slots, arena, true, POW, 0, 0, &operands)
+}
+
+// The first modulo the second.
+pub fn modulo(nodes: &mut [u64], slots: &mut [u32], arena: DagArena, a: u32, b: u32) -> Built
+    ensures { λ r. ⌜ Stores (M.modulo a b) (now (nodes .entry)) (now (slots .entry)) arena (now (nodes .exit)) (now (slots .exit)) r ⌝ }
+{
+    let operands = [a, b];
+    build(nodes, slots, arena, true, MOD, 0, 0, &operands)
+}
+
+// The opposite.
+pub fn neg(nodes: &mut [u64], slots: &mut [u32], arena: DagArena, a: u32) -> Built
+    ensures { λ r. ⌜ Stores (M.neg a) (now (nodes .entry)) (now (slots .entry)) arena (now (nodes .exit)) (now (slots .exit)) r ⌝ }
+{
+    let operands = [a];
+    build(nodes, slots, arena, true, NEG, 0, 0, &operands)
+}
+
+// Whether code and flags are listed.
+fn is_operator(code: u32, flags: u32) -> bool
+    ensures { λ r. ⌜ r ≡ (leb code 6 && leb flags 3) ⌝ }
+{
+    if code <= LAST_CODE { flags <= LAST_FLAGS } else { false }
+}
+
+// Any operator, by its code, with any flags and operands.
+pub fn operator(nodes: &mut [u64], slots: &mut [u32], arena: DagArena, code: u32, flags: u32, operands: &[u32]) -> Built
+    ensures { λ r. ⌜ Stores (M.operator code flags (now (operands .entry))) (now (nodes .entry)) (now (slots .entry)) arena (now (nodes .exit)) (now (slots .exit)) r ⌝ }
+{
+    let listed = is_operator(code, flags);
+    build(nodes, slots, arena, listed, ADD + code as u64, 0, flags as u64, operands)
+}
