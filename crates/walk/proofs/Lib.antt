@@ -1,0 +1,9 @@
+pub mod ChildPlaces
+pub mod Rebuilding
+pub mod Stacks
+pub mod Gathering
+pub mod Descending
+pub mod Turning
+pub mod Running
+pub mod Refusing
+pub mod Calling

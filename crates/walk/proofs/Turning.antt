@@ -1,0 +1,270 @@
+-- A turn of the code is a turn of the plain machine.
+use Prim.Native.Nat.{ℕ, suc, _+_, _-_, _*_, _≤_, _<_}
+use mathlib.Core.Path.{_≡_, refl, sym, ap, ap₂, _∙_, subst}
+use mathlib.Core.Bool.{Bool, true, false, cond}
+use mathlib.Core.List.{List, [], _∷_}
+use lib.ListN.{length, getD, take, drop, set, length-set}
+use lib.Dec.{leb, ltb}
+use native.Mathlib.Omega.{arith}
+use borrow.Author.Tests.{le-leb, lt-leb, lt-ltb, le-ltb}
+use Rattle.definitions.specs.Node.{Node, at}
+use Rattle.definitions.specs.Intern.{Lent}
+use Rattle.definitions.specs.Walk as W
+use Rattle.definitions.specs.Walk.{Frame, frame, Turn, go, stop, standard, turn, descend, ascend, finish, reverseOnto, rebuildOrMatch}
+use Rattle.store.specs.View.{Low}
+use Rattle.store.specs.Lookup.{Lookup}
+use Rattle.store.specs.declared.Answer.{Answer}
+use Rattle.store.specs.declared.Answer.the-variants.{Id, Refused}
+use Rattle.store.proofs.Reading as R
+use Rattle.store.proofs.Viewing.{plain-length}
+use Rattle.store.proofs.Keeping.{kept-refl}
+use Rattle.walk.specs.declared.state.Progress.{Progress}
+use Rattle.walk.specs.declared.state.Status.{Status}
+use Rattle.walk.specs.declared.state.Status.the-variants.{Going, Stopped}
+use Rattle.walk.specs.Memory.{Memory, memory, Sound, nodesOf, lentOf, Keeps}
+use Rattle.walk.specs.Rebuild.{Rebuildable, newChildren, finished, Finishes}
+use Rattle.walk.specs.Stack.{Stack, stack, framesOf, valuesOf, framesIn, valuesIn, topId, topCursor, topFrame, framesUnder, AllBelow, held, Valid, Whole, Invariant, Gathered}
+use Rattle.walk.specs.Turns.{Descendable, Descends, Ready, turned, turnOf, Turns}
+use Rattle.walk.proofs.Stacks as S
+use Rattle.walk.proofs.Descending.{frames-are}
+
+-- ---- the plain machine's turn, case by case
+
+module _ (l : Lent) (limit : ℕ) (ns : List Node) (f : Frame) (fs : List Frame) (vs : List ℕ) where
+  abbrev arity : ℕ
+  arity = length (at ns (f .id) .children)
+
+  limited : limit ≤ f .depth → turn standard l limit ns f fs vs ≡ go ns fs (f .id ∷ drop (f .cursor) vs)
+  unfolding turn
+  limited h =
+      ap (λ (b : Bool). cond b (go ns fs (f .id ∷ drop (f .cursor) vs)) (cond (ltb (f .cursor) arity) (descend standard ns f fs vs) (ascend standard l ns f fs vs)))
+      (le-leb limit (f .depth) h)
+
+  module _ (h : f .depth < limit) where
+    within : turn standard l limit ns f fs vs ≡ cond (ltb (f .cursor) arity) (descend standard ns f fs vs) (ascend standard l ns f fs vs)
+    unfolding turn
+    within =
+        ap (λ (b : Bool). cond b (go ns fs (f .id ∷ drop (f .cursor) vs)) (cond (ltb (f .cursor) arity) (descend standard ns f fs vs) (ascend standard l ns f fs vs)))
+        (lt-leb limit (f .depth) h)
+
+    descending : f .cursor < arity → turn standard l limit ns f fs vs ≡ descend standard ns f fs vs
+    descending c = within ∙ ap (λ (b : Bool). cond b (descend standard ns f fs vs) (ascend standard l ns f fs vs)) (lt-ltb (f .cursor) arity c)
+
+    ascending : arity ≡ f .cursor
+        → turn standard l limit ns f fs vs ≡ finish standard fs (drop (f .cursor) vs) (rebuildOrMatch l ns (f .id) (reverseOnto (take (f .cursor) vs) []))
+    unfolding ascend
+    ascending c =
+        within ∙ ap (λ (b : Bool). cond b (descend standard ns f fs vs) (ascend standard l ns f fs vs)) (le-ltb (f .cursor) arity (omega (arith, c)))
+        ∙ ap (λ (x : ℕ). finish standard fs (drop x vs) (rebuildOrMatch l ns (f .id) (reverseOnto (take x vs) []))) c
+
+-- ---- what a turn knows
+
+module _ (m : Memory) (limit : ℕ) (k : Stack) (r : Ready m limit k) where
+  abbrev ns : List Node
+  ns = nodesOf m
+
+  abbrev top : ℕ
+  top = k .frames - 1
+
+  abbrev id : ℕ
+  id = topId k
+
+  abbrev cursor : ℕ
+  cursor = topCursor k
+
+  abbrev from : ℕ
+  from = k .filled - topCursor k
+
+  abbrev fs : List Frame
+  fs = framesUnder k
+
+  abbrev vs : List ℕ
+  vs = valuesIn k
+
+  abbrev I : Invariant (nodesOf m) limit k
+  I = r .invariant
+
+  count-is : length ns ≡ m .arena .count
+  count-is = plain-length (m .words) (m .arena .count)
+
+  valid : Valid ns (topFrame k ∷ fs) vs
+  valid = subst (λ (x : List Frame). Valid ns x vs) (frames-are k (r .some)) (I .valid)
+
+  pub below : topId k < m .arena .count
+  below = omega (arith, valid .0, count-is)
+
+  lookup : (i : ℕ) → i < m .arena .count → Lookup (m .words) (m .arena .count) i
+  lookup = R.lookup-of (m .words) (m .slots) (m .arena) (r .sound)
+
+  pub may-read : Lookup (m .words) (m .arena .count) (topId k)
+  may-read = lookup id below
+
+  all-few : (i : ℕ) → i < length ns → length (at ns i .children) ≤ 4
+  all-few i h = R.few (m .words) (m .arena .count) i (lookup i (omega (arith, count-is)))
+
+  few : length (at ns id .children) ≤ 4
+  few = all-few id (valid .0)
+
+  filled-is : k .filled ≡ cursor + held fs
+  filled-is = sym (S.values-length (k .values) (k .filled)) ∙ valid .3
+
+  -- the bounds of what is read and written
+  pub record Bounds : Type 0 where
+    pub some : 1 ≤ k .frames
+    pub frames : k .frames ≤ 256
+    pub ids : length (k .ids) ≡ 256
+    pub cursors : length (k .cursors) ≡ 256
+    pub values : length (k .values) ≡ 1024
+    pub results : topCursor k ≤ k .filled
+    pub room : k .filled < 1024
+    pub small : topCursor k ≤ 4
+
+  pub bounds : Bounds
+  bounds = record {
+    some = r .some;
+    frames = omega (arith, I .deep, I .listed);
+    ids = I .whole .ids;
+    cursors = I .whole .cursors;
+    values = I .whole .values;
+    results = omega (arith, filled-is);
+    room = omega (arith, filled-is, S.few-held ns all-few fs (valid .2), S.frames-length (k .ids) (k .cursors) top, valid .1, few, I .deep, I .listed);
+    small = omega (arith, valid .1, few);
+  }
+
+  turn-is : turnOf (lentOf m) limit ns (framesIn k) vs ≡ turn standard (lentOf m) limit ns (topFrame k) fs vs
+  turn-is = ap (λ (x : List Frame). turnOf (lentOf m) limit ns x vs) (frames-are k (r .some))
+
+  unchanged : Keeps m m
+  unchanged = kept-refl (m .words) (m .slots) (m .arena) (r .sound)
+
+  -- the values under the top frame's
+  under : drop cursor vs ≡ valuesOf (k .values) from
+  under =
+      let e : k .filled ≡ from + cursor = omega (arith, filled-is) in
+      ap (λ (x : ℕ). drop cursor (valuesOf (k .values) x)) e ∙ S.values-drop (k .values) from cursor
+
+  under-length : length (valuesOf (k .values) from) ≡ held fs
+  under-length = S.values-length (k .values) from ∙ (let h = filled-is in omega arith)
+
+  under-below : AllBelow (length ns) (valuesOf (k .values) from)
+  under-below = subst (AllBelow (length ns)) under (S.below-drop (length ns) cursor vs (valid .4))
+
+  -- the top frame leaves a value
+  module _ (m′ : Memory) (kept : Keeps m m′) (i : ℕ) (low : i < m′ .arena .count) where
+    abbrev ms : List Node
+    ms = nodesOf m′
+
+    long : length ms ≡ m′ .arena .count
+    long = plain-length (m′ .words) (m′ .arena .count)
+
+    grown : length ns ≤ length ms
+    grown = omega (arith, long, count-is, kept .count)
+
+    popped : Valid ms fs (i ∷ valuesOf (k .values) from)
+    popped =
+        S.popped ms i fs (valuesOf (k .values) from) (omega (arith, low, long))
+        (S.waiting-up ns ms grown (λ j p. kept .children j (omega (arith, count-is))) fs (valid .2))
+        under-length (S.below-up (length ns) (length ms) grown (valuesOf (k .values) from) under-below)
+
+    leaves : turn standard (lentOf m) limit ns (topFrame k) fs vs ≡ go ms fs (i ∷ valuesOf (k .values) from) → (q : Progress)
+        → q ≡ record { frames = k .frames - 1; filled = k .filled - topCursor k + 1; arena = m′ .arena; status = Going }
+        → Turns m limit k (memory (m′ .words) (m′ .slots) (q .arena)) (stack (k .ids) (k .cursors) (set (k .values) (k .filled - topCursor k) i) (q .frames) (q .filled)) (q .status)
+    leaves t q e =
+        subst (λ (x : Progress). Turns m limit k (memory (m′ .words) (m′ .slots) (x .arena)) (stack (k .ids) (k .cursors) (set (k .values) from i) (x .frames) (x .filled)) (x .status)) (sym e)
+        (record {
+          plainly = ap (go ms fs) values ∙ sym (turn-is ∙ t);
+          kept = kept;
+          goes = λ _. record {
+            listed = I .listed;
+            deep = omega (arith, I .deep);
+            whole = record { ids = I .whole .ids; cursors = I .whole .cursors; values = length-set (k .values) from i ∙ I .whole .values };
+            valid = subst (Valid ms fs) (sym values) popped;
+          };
+        })
+      where
+        values : valuesOf (set (k .values) from i) (from + 1) ≡ i ∷ valuesOf (k .values) from
+        values = S.push-value (k .values) from i (let b = bounds in omega arith)
+
+  -- ---- a frame at the limit
+
+  pub at-limit : limit ≤ k .frames - 1 → (q : Progress)
+      → q ≡ record { frames = k .frames - 1; filled = k .filled - topCursor k + 1; arena = m .arena; status = Going }
+      → Turns m limit k (memory (m .words) (m .slots) (q .arena)) (stack (k .ids) (k .cursors) (set (k .values) (k .filled - topCursor k) (topId k)) (q .frames) (q .filled)) (q .status)
+  at-limit h = leaves m unchanged id below (limited (lentOf m) limit ns (topFrame k) fs vs h ∙ ap (λ (x : List ℕ). go ns fs (id ∷ x)) under)
+
+  module _ (h : k .frames - 1 < limit) (arity : ℕ) (ea : arity ≡ length (at (nodesOf m) (topId k) .children)) where
+    -- ---- the next child
+
+    pub descendable : topCursor k < arity → Descendable (m .words) (m .arena .count) k
+    descendable c = record {
+      lookup = lookup;
+      some = r .some;
+      room = omega (arith, I .listed);
+      whole = I .whole;
+      valid = I .valid;
+      more = omega (arith, ea);
+      free = bounds .room;
+    }
+
+    pub descended : topCursor k < arity → (p : Progress) → p .arena ≡ m .arena → (k′ : Stack) (q : Progress) → Descends (nodesOf m) k p k′ q
+        → Turns m limit k (memory (m .words) (m .slots) (q .arena)) k′ (q .status)
+    descended c p a k′ q d =
+        subst (λ (s : Status). Turns m limit k (memory (m .words) (m .slots) (q .arena)) k′ s) (sym (d .status))
+        (subst (λ (s : Rattle.arena.specs.declared.DagArena.DagArena). Turns m limit k (memory (m .words) (m .slots) s) k′ Going) (sym (d .arena ∙ a))
+        (record {
+          plainly = d .plainly ∙ sym (turn-is ∙ descending (lentOf m) limit ns (topFrame k) fs vs h (omega (arith, ea)));
+          kept = unchanged;
+          goes = λ _. record { listed = I .listed; deep = omega (arith, d .near); whole = d .whole; valid = d .valid };
+        }))
+
+    -- ---- a finished frame
+
+    module _ (c : arity ≤ topCursor k) where
+      all-taken : length (at ns id .children) ≡ cursor
+      all-taken = omega (arith, ea, valid .1)
+
+      from-on : from + cursor ≡ k .filled
+      from-on = omega (arith, filled-is)
+
+      pub may-gather : (topCursor k ≤ 4) × (k .filled - topCursor k + topCursor k ≤ 1024)
+      may-gather = (bounds .small, omega (arith, from-on, bounds .room))
+
+      module _ (places : List ℕ) (g : Gathered (k .values) (k .filled - topCursor k) (topCursor k) places) where
+        pub rebuildable : Rebuildable m (topId k) places
+        rebuildable = record {
+          sound = r .sound;
+          below = below;
+          lower = λ j q. let i : j < cursor = omega (arith, all-taken) in
+              subst (λ (x : ℕ). x < m .arena .count) (sym (g .taken j i))
+              (subst (λ (x : ℕ). getD (k .values) (from + j) 0 < x) count-is (S.below-at (length ns) (k .values) (k .filled) (from + j) (valid .4) (omega (arith, from-on))));
+          unused = λ j q. g .unused j (omega (arith, all-taken));
+        }
+
+        children-are : newChildren m id places ≡ reverseOnto (take cursor vs) []
+        children-are =
+            ap (λ (x : ℕ). take x places) all-taken
+            ∙ S.gathered (k .values) from cursor places (let b = bounds in omega (arith, from-on)) (bounds .small) g
+            ∙ ap (λ (x : ℕ). reverseOnto (take cursor (valuesOf (k .values) x)) []) from-on
+
+        module _ (m′ : Memory) (answer : Answer) (f : Finishes m (topId k) places answer m′) where
+          finishing : turn standard (lentOf m) limit ns (topFrame k) fs vs ≡ finished answer (nodesOf m′) fs (valuesOf (k .values) from)
+          finishing =
+              ascending (lentOf m) limit ns (topFrame k) fs vs h all-taken
+              ∙ ap (λ (x : List ℕ). finish standard fs (drop cursor vs) (rebuildOrMatch (lentOf m) ns id x)) (sym children-are)
+              ∙ ap (λ (x : List ℕ). finish standard fs x (rebuildOrMatch (lentOf m) ns id (newChildren m id places))) under
+              ∙ sym (f .plainly fs (valuesOf (k .values) from))
+
+          answered : (x : Answer) → answer ≡ x → turn standard (lentOf m) limit ns (topFrame k) fs vs ≡ finished x (nodesOf m′) fs (valuesOf (k .values) from)
+          answered x e = finishing ∙ ap (λ (y : Answer). finished y (nodesOf m′) fs (valuesOf (k .values) from)) e
+
+          pub stops : (number : ℕ) → answer ≡ Refused number → Turns m limit k m′ k (Stopped number)
+          stops number e = record {
+            plainly = sym (turn-is ∙ answered _ e);
+            kept = f .kept;
+            goes = λ z. let zero-one : _≡_ {A = ℕ} 0 1 = cc in absurd (omega arith);
+          }
+
+          pub ends : (i : ℕ) → answer ≡ Id i → (q : Progress)
+              → q ≡ record { frames = k .frames - 1; filled = k .filled - topCursor k + 1; arena = m′ .arena; status = Going }
+              → Turns m limit k (memory (m′ .words) (m′ .slots) (q .arena)) (stack (k .ids) (k .cursors) (set (k .values) (k .filled - topCursor k) i) (q .frames) (q .filled)) (q .status)
+          ends i e = leaves m′ (f .kept) i (subst (λ (x : Answer). Low x (m′ .arena .count)) e (f .low)) (answered _ e)

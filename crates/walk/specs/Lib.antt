@@ -1,0 +1,5 @@
+pub mod Memory
+pub mod Answers
+pub mod Rebuild
+pub mod Stack
+pub mod Turns

@@ -1,0 +1,103 @@
+-- What a turn, a step and a run do, by the plain machine.
+use Prim.Native.Nat.{ℕ, _+_, _-_, _≤_, _<_}
+use mathlib.Core.Path.{_≡_}
+use mathlib.Core.List.{List, [], _∷_}
+use lib.ListN.{length}
+use Rattle.definitions.specs.Node.{Node, at}
+use Rattle.definitions.specs.Intern.{Lent}
+use Rattle.definitions.specs.Walk as W
+use Rattle.definitions.specs.Walk.{Frame, frame, Turn, go, stop, standard, walkRoot}
+use Rattle.definitions.specs.Machine as M
+use Rattle.store.specs.View.{nodesIn}
+use Rattle.store.specs.Lookup.{Lookup}
+use Rattle.walk.specs.declared.state.Progress.{Progress}
+use Rattle.walk.specs.declared.state.Walk.{Walk}
+use Rattle.walk.specs.declared.state.Status.{Status}
+use Rattle.walk.specs.declared.state.Status.the-variants.{Going, Stopped}
+use Rattle.walk.specs.declared.Outcome.{Outcome}
+use Rattle.walk.specs.Memory.{Memory, memory, Sound, nodesOf, lentOf, Keeps}
+use Rattle.walk.specs.Answers.{meaning}
+use Rattle.walk.specs.Stack.{Stack, stack, framesIn, valuesIn, topId, topCursor, topFrame, framesUnder, Valid, Whole, Invariant}
+
+-- ---- the next child
+
+-- the top frame has a next child
+pub record Descendable (words : List ℕ) (count : ℕ) (k : Stack) : Type 0 where
+  pub lookup : (id : ℕ) → id < count → Lookup words count id
+  pub some : 1 ≤ k .frames
+  pub room : k .frames < 256
+  pub whole : Whole k
+  pub valid : Valid (nodesIn words count) (framesIn k) (valuesIn k)
+  pub more : topCursor k < length (at (nodesIn words count) (topId k) .children)
+  pub free : k .filled < 1024
+
+-- "A child that is a leaf or marked is taken unwalked"; another gets a frame
+pub record Descends (ns : List Node) (k : Stack) (progress : Progress) (k′ : Stack) (r : Progress) : Type 0 where
+  pub plainly : go ns (framesIn k′) (valuesIn k′) ≡ W.descend standard ns (topFrame k) (framesUnder k) (valuesIn k)
+  pub near : k′ .frames ≤ k .frames + 1
+  pub whole : Whole k′
+  pub valid : Valid ns (framesIn k′) (valuesIn k′)
+  pub arena : r .arena ≡ progress .arena
+  pub status : r .status ≡ Going
+
+-- ---- a turn
+
+-- a walk with a frame left
+pub record Ready (m : Memory) (limit : ℕ) (k : Stack) : Type 0 where
+  pub sound : Sound m
+  pub some : 1 ≤ k .frames
+  pub invariant : Invariant (nodesOf m) limit k
+
+-- a state after a turn, as the plain machine's
+abbrev pub turned : Status → List Node → List Frame → List ℕ → Turn
+turned Going ns fs vs = go ns fs vs
+turned (Stopped number) ns fs vs = stop ns number
+
+-- the plain machine's turn at the top frame
+abbrev pub turnOf : Lent → ℕ → List Node → List Frame → List ℕ → Turn
+turnOf l limit ns [] vs = go ns [] vs
+turnOf l limit ns (f ∷ fs) vs = W.turn standard l limit ns f fs vs
+
+-- "One step is one turn of the Rust loop."
+pub record Turns (m : Memory) (limit : ℕ) (k : Stack) (m′ : Memory) (k′ : Stack) (status : Status) : Type 0 where
+  pub plainly : turned status (nodesOf m′) (framesIn k′) (valuesIn k′) ≡ turnOf (lentOf m) limit (nodesOf m) (framesIn k) (valuesIn k)
+  pub kept : Keeps m m′
+  pub goes : status ≡ Going → Invariant (nodesOf m′) limit k′
+
+-- ---- a walk's state
+
+abbrev pub stackOf : Walk → Stack
+stackOf walk = stack (walk .ids) (walk .cursors) (walk .values) (walk .progress .frames) (walk .progress .filled)
+
+-- the memory that a state goes with
+abbrev pub memoryOf : List ℕ → List ℕ → Walk → Memory
+memoryOf words slots walk = memory words slots (walk .progress .arena)
+
+-- "the root is always walked": it has the first frame, and there is no value
+pub record Starts (root limit : ℕ) (arena : Rattle.arena.specs.declared.DagArena.DagArena) (walk : Walk) : Type 0 where
+  pub frames : framesIn (stackOf walk) ≡ frame root 0 0 ∷ []
+  pub one : walk .progress .frames ≡ 1
+  pub none : walk .progress .filled ≡ 0
+  pub whole : Whole (stackOf walk)
+  pub limit-is : walk .limit ≡ limit
+  pub arena-is : walk .progress .arena ≡ arena
+  pub going : walk .progress .status ≡ Going
+
+-- a step of a state, which is given back
+pub record Steps (words slots : List ℕ) (walk : Walk) (words′ slots′ : List ℕ) (r : Walk) : Type 0 where
+  pub turns : Turns (memoryOf words slots walk) (walk .limit) (stackOf walk) (memoryOf words′ slots′ r) (stackOf r) (r .progress .status)
+  pub limit-is : r .limit ≡ walk .limit
+
+-- ---- a run
+
+-- a state that a run goes on from
+pub record Startable (m : Memory) (root : ℕ) (walk : Walk) : Type 0 where
+  pub sound : Sound m
+  pub below : root < m .arena .count
+  pub listed : walk .limit ≤ Rattle.definitions.specs.Limits.mostDepth
+  pub starts : Starts root (walk .limit) (m .arena) walk
+
+-- the whole walk of a root, with the budget
+pub record Runs (m : Memory) (root limit budget : ℕ) (m′ : Memory) (r : Outcome) : Type 0 where
+  pub plainly : M.outcome (meaning (r .answer)) (nodesOf m′) ≡ M.walkedAs root (walkRoot standard (lentOf m) limit budget (nodesOf m) root)
+  pub kept : Keeps m m′

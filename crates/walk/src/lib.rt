@@ -1,0 +1,78 @@
+// The walk (01, "engine: the walk"): rewrite_iterative with rebuild_or_match, one step a turn of the Rust's loop.
+ghost use mathlib.Core.Path.{_≡_};
+ghost use Rattle.definitions.specs.Machine as M;
+ghost use Rattle.store.specs.Memory.{memory, Leaves};
+ghost use Rattle.walk.specs.Memory.{Sound};
+ghost use Rattle.walk.specs.Answers.{meaning};
+pub mod rebuild;
+pub mod refusals;
+pub mod run;
+pub mod state;
+pub mod turn;
+use arena::DagArena;
+use state::MOST_DEPTH;
+use state::Walk;
+
+pub enum Answer {
+    // What the root was simplified to.
+    Simplified { id: u64, steps: u64 },
+    // The root, with the budget used up and frames left.
+    Spent { id: u64, steps: u64 },
+    // The number of a refusal.
+    Refused(u64),
+}
+
+// An answer, and the store's count and size after it.
+pub struct Outcome {
+    pub answer: Answer,
+    pub arena: DagArena,
+}
+
+fn refuse(number: u64, arena: DagArena) -> Outcome
+    ensures { λ r. ⌜ r ≡ record { answer = Answer.Refused number; arena = arena } ⌝ }
+{
+    Outcome {
+        answer: Answer::Refused(number),
+        arena,
+    }
+}
+
+// A walk with any arguments on a store that is known to be sound.
+pub fn simplify_sound(
+    nodes: &mut [u64],
+    slots: &mut [u32],
+    arena: DagArena,
+    root: u32,
+    depth: u32,
+    budget: u64,
+) -> Outcome
+    requires { ⌜ Sound (memory (now nodes) (now slots) arena) ⌝ }
+    ensures { λ r. ⌜ Leaves (M.simplify root depth budget) (memory (now (nodes .entry)) (now (slots .entry)) arena) (meaning (r .answer)) (memory (now (nodes .exit)) (now (slots .exit)) (r .arena)) ⌝ }
+{
+    if MOST_DEPTH < depth {
+        return refuse(refusals::BAD_CODE, arena);
+    }
+    let id = root as u64;
+    if arena.count <= id {
+        return refuse(refusals::BAD_OPERAND, arena);
+    }
+    let walk = Walk::new(arena, id, depth as usize);
+    run::run(nodes, slots, walk, id, budget)
+}
+
+// A walk with any arguments on any store, which is audited first.
+pub fn simplify(
+    nodes: &mut [u64],
+    slots: &mut [u32],
+    arena: DagArena,
+    root: u32,
+    depth: u32,
+    budget: u64,
+) -> Outcome
+    ensures { λ r. ⌜ Leaves (M.simplify root depth budget) (memory (now (nodes .entry)) (now (slots .entry)) arena) (meaning (r .answer)) (memory (now (nodes .exit)) (now (slots .exit)) (r .arena)) ⌝ }
+{
+    if !store::audit(nodes, slots, arena) {
+        return refuse(refusals::NOT_SOUND, arena);
+    }
+    simplify_sound(nodes, slots, arena, root, depth, budget)
+}

@@ -1,0 +1,49 @@
+// The walk with its budget.
+ghost use Rattle.walk.specs.Memory.{memory};
+ghost use Rattle.walk.specs.Turns.{Startable, Runs, memoryOf};
+use crate::Answer;
+use crate::Outcome;
+use crate::state::Status;
+use crate::state::Walk;
+use crate::turn;
+
+// Turns until no frame is left, a budget of them at most. 01: "Exactly if the budget is used up with frames left, the
+// answer is the root, 'spent'".
+pub fn run(nodes: &mut [u64], slots: &mut [u32], walk: Walk, root: u64, budget: u64) -> Outcome
+    requires { ⌜ Startable (memoryOf (now nodes) (now slots) walk) root walk ⌝ }
+    ensures { λ r. ⌜ Runs (memoryOf (now (nodes .entry)) (now (slots .entry)) walk) root (walk .limit) budget (memory (now (nodes .exit)) (now (slots .exit)) (r .arena)) r ⌝ }
+{
+    let mut ids = walk.ids;
+    let mut cursors = walk.cursors;
+    let mut values = walk.values;
+    let limit = walk.limit;
+    let mut progress = walk.progress;
+    let mut steps: u64 = 0;
+    while steps < budget {
+        if progress.frames == 0 {
+            break;
+        }
+        progress = turn::turn(nodes, slots, &mut ids, &mut cursors, &mut values, limit, progress);
+        let status = progress.status;
+        if let Status::Stopped(number) = status {
+            let arena = progress.arena;
+            return Outcome {
+                answer: Answer::Refused(number),
+                arena,
+            };
+        }
+        steps += 1;
+    }
+    let arena = progress.arena;
+    if progress.frames == 0 {
+        let id = values[0];
+        return Outcome {
+            answer: Answer::Simplified { id, steps },
+            arena,
+        };
+    }
+    Outcome {
+        answer: Answer::Spent { id: root, steps },
+        arena,
+    }
+}

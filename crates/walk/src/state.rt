@@ -1,0 +1,76 @@
+// The state of a walk.
+ghost use Rattle.walk.specs.Turns.{Ready, Starts, Steps, memoryOf, stackOf};
+use crate::turn;
+use arena::DagArena;
+
+// 01: "filled arrays of 256 frames and 1,024 values".
+pub const MOST_FRAMES: usize = 256;
+pub const MOST_VALUES: usize = 1_024;
+// 01: "Depth limit 0 to 255".
+pub const MOST_DEPTH: u32 = 255;
+// 01: "four child places".
+pub const MOST_CHILDREN: usize = 4;
+
+// Whether a walk goes on, or the refusal that stopped it.
+pub enum Status {
+    Going,
+    Stopped(u64),
+}
+
+// How many frames and values are in use, and the store's count and size.
+pub struct Progress {
+    pub frames: usize,
+    pub filled: usize,
+    pub arena: DagArena,
+    pub status: Status,
+}
+
+// A frame is a node under way and how many of its children have been taken; its depth is its place. Finished children
+// leave their values.
+pub struct Walk {
+    pub ids: [u64; MOST_FRAMES],
+    pub cursors: [usize; MOST_FRAMES],
+    pub values: [u64; MOST_VALUES],
+    pub limit: usize,
+    pub progress: Progress,
+}
+
+impl Walk {
+    // 01: "the root is always walked": it has the first frame.
+    pub fn new(arena: DagArena, root: u64, limit: usize) -> Walk
+        ensures { λ r. ⌜ Starts root limit arena r ⌝ }
+    {
+        let mut ids = [0u64; MOST_FRAMES];
+        ids[0] = root;
+        Walk {
+            ids,
+            cursors: [0usize; MOST_FRAMES],
+            values: [0u64; MOST_VALUES],
+            limit,
+            progress: Progress {
+                frames: 1,
+                filled: 0,
+                arena,
+                status: Status::Going,
+            },
+        }
+    }
+
+    // 01: "A walk goes on by taking its state and giving it back."
+    pub fn step(mut self, nodes: &mut [u64], slots: &mut [u32]) -> Walk
+        requires { ⌜ Ready (memoryOf (now nodes) (now slots) self) (self .limit) (stackOf self) ⌝ }
+        ensures { λ r. ⌜ Steps (now (nodes .entry)) (now (slots .entry)) self (now (nodes .exit)) (now (slots .exit)) r ⌝ }
+    {
+        let mut ids = self.ids;
+        let mut cursors = self.cursors;
+        let mut values = self.values;
+        let limit = self.limit;
+        let progress = self.progress;
+        let next = turn::turn(nodes, slots, &mut ids, &mut cursors, &mut values, limit, progress);
+        self.ids = ids;
+        self.cursors = cursors;
+        self.values = values;
+        self.progress = next;
+        self
+    }
+}
