@@ -14,6 +14,7 @@ pub mod Value
 pub mod Exact
 pub mod Chain
 pub mod Promise
+pub mod Names
 pub mod Sheet
 pub mod Listing
 pub mod Examples

@@ -1,0 +1,10 @@
+pub mod Deciding
+pub mod Words
+pub mod Entries
+pub mod Chains
+pub mod Auditing
+pub mod Copying
+pub mod Finding
+pub mod Listing
+pub mod Storing
+pub mod Calling

@@ -1,0 +1,61 @@
+-- What a name call on a lent list answers and leaves: what the plain registry does, or 20.
+use Prim.Native.Nat.{ℕ, _-_, _*_, _≤_, _<_}
+use mathlib.Core.Path.{_≡_}
+use mathlib.Core.List.{List, _++_}
+use lib.ListN.{length, take, drop, replicate}
+use Rattle.definitions.specs.Refusals.{notSound}
+use Rattle.definitions.specs.Names.{NameCall, nameOf, NameAnswer, numbered, unknown, named, refused, NameResult, nameCall, shortestName, longestName, entryBytes}
+use Rattle.names.specs.declared.Answer.{Answer}
+use Rattle.names.specs.declared.Answer.the-variants.{Numbered, Unknown, Named, Refused}
+use Rattle.names.specs.declared.NameBytes.{NameBytes}
+use Rattle.names.specs.declared.Found.{Found}
+use Rattle.names.specs.declared.Found.the-variants.{At, Nothing}
+use Rattle.names.specs.Entry.{entryAt}
+use Rattle.names.specs.Sound.{Sound, namesOf, lentEntries}
+
+-- what an answer says, with the bytes beside it
+abbrev pub answerOf : Answer → List ℕ → NameAnswer
+answerOf (Numbered n) out = numbered n
+answerOf Unknown out = unknown
+answerOf (Named n) out = named (take n out)
+answerOf (Refused r) out = refused r
+
+-- "Names of 1 to 32 bytes"
+pub record Allowed (size : ℕ) : Type 0 where
+  pub shortest : shortestName ≤ size
+  pub longest : size ≤ longestName
+
+-- the first entry that is the key, or none of them
+pub record FoundAt (bytes : List ℕ) (count : ℕ) (key : List ℕ) (i : ℕ) : Type 0 where
+  pub below : i < count
+  pub same : entryAt bytes i ≡ key
+  pub first : (j : ℕ) → j < i → entryAt bytes j ≡ key → ⊥
+
+unfoldable pub Finds : List ℕ → ℕ → List ℕ → Found → Type 0
+Finds bytes count key (At i) = FoundAt bytes count key i
+Finds bytes count key Nothing = (j : ℕ) → j < count → entryAt bytes j ≡ key → ⊥
+
+-- what the plain registry does with a call on the names of a list
+abbrev pub plainly : List ℕ → ℕ → NameCall → NameResult
+plainly bytes count call = nameCall (lentEntries bytes) (namesOf bytes count) call
+
+-- a list that is not sound is refused with 20. A call on a sound one answers as the plain registry does, and leaves a sound list of its names. Bytes past the used entries stay, and a refusal changes no byte.
+pub record Called (bytes : List ℕ) (count : ℕ) (call : NameCall) (answer : NameAnswer) (bytes′ : List ℕ) (count′ : ℕ) : Type 0 where
+  pub unsound : (Sound bytes count → ⊥) → answer ≡ refused notSound
+  pub answered : Sound bytes count → answer ≡ plainly bytes count call .answer
+  pub names : Sound bytes count → namesOf bytes′ count′ ≡ plainly bytes count call .names
+  pub sound : Sound bytes count → Sound bytes′ count′
+  pub past : drop (count′ * entryBytes) bytes′ ≡ drop (count′ * entryBytes) bytes
+  pub refusal : (r : ℕ) → answer ≡ refused r → (bytes′ ≡ bytes) × (count′ ≡ count)
+
+-- the 32 bytes beside an answer: a name's bytes, and then 0s
+abbrev pub bytesBeside : NameAnswer → List ℕ
+bytesBeside (numbered n) = replicate longestName 0
+bytesBeside unknown = replicate longestName 0
+bytesBeside (named name) = name ++ replicate (longestName - length name) 0
+bytesBeside (refused r) = replicate longestName 0
+
+-- a call for a name, answered with 32 bytes beside it
+pub record NameCalled (bytes : List ℕ) (count number : ℕ) (r : NameBytes) : Type 0 where
+  pub called : Called bytes count (nameOf number) (answerOf (r .answer) (r .bytes)) bytes count
+  pub beside : r .bytes ≡ bytesBeside (answerOf (r .answer) (r .bytes))

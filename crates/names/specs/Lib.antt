@@ -1,0 +1,5 @@
+pub mod Says
+pub mod Entry
+pub mod Sound
+pub mod Buckets
+pub mod Calls

@@ -1,0 +1,167 @@
+// The symbol registry: names in a lent list of entries of 33 bytes, numbered in order of first interning.
+mod audit;
+mod entry;
+
+ghost use mathlib.Core.Path.{_≡_};
+ghost use mathlib.Core.List.{[]};
+ghost use Prim.Native.Nat.{_*_, _≤_};
+ghost use lib.ListN.{length};
+ghost use Rattle.definitions.specs.Names.{entryBytes, internName, lookupName};
+ghost use Rattle.names.specs.Says.{Says};
+ghost use Rattle.names.specs.Sound.{Sound};
+ghost use Rattle.names.specs.Calls.{answerOf, Allowed, Finds, Called, NameCalled};
+
+// The refusals of 01 that a name call has.
+const BAD_NAME_LENGTH: u64 = 9;
+
+const NOT_SOUND: u64 = 20;
+
+const NO_NAME_PLACE: u64 = 24;
+
+// What a call answers: a name's number, none such, the length of a name that stands beside it, or a refusal's number.
+pub enum Answer {
+    Numbered(u32),
+    Unknown,
+    Named(usize),
+    Refused(u64),
+}
+
+// An answer, and how many names there are then.
+pub struct Interned {
+    pub answer: Answer,
+    pub count: usize,
+}
+
+// An answer, and beside it the bytes of a name that it gives the length of.
+pub struct NameBytes {
+    pub answer: Answer,
+    pub bytes: [u8; entry::LONGEST_NAME],
+}
+
+// Where a name stands.
+enum Found {
+    At(usize),
+    Nothing,
+}
+
+// The number of the entry `key`.
+fn find(entries: &[u8], count: usize, key: &[u8]) -> Found
+    requires { ⌜ (count * entryBytes ≤ length (now entries)) × (length (now key) ≡ entryBytes) ⌝ }
+    ensures { λ r. ⌜ Finds (now (entries .entry)) count (now (key .entry)) r ⌝ }
+{
+    let mut i: usize = 0;
+    while i < count {
+        if entry::same(entry::at(entries, i), key) {
+            return Found::At(i);
+        }
+        i += 1;
+    }
+    Found::Nothing
+}
+
+// The number of a name whose length is allowed, found or new.
+fn intern_allowed(entries: &mut [u8], count: usize, name: &[u8]) -> Interned
+    requires { ⌜ Sound (now entries) count × Allowed (length (now name)) ⌝ }
+    ensures { λ r. ⌜ Called (now (entries .entry)) count (internName (now (name .entry))) (answerOf (r .answer) []) (now (entries .exit)) (r .count) ⌝ }
+{
+    let key = entry::of_name(name);
+    let found = find(entries, count, &key);
+    if let Found::At(i) = found {
+        let known = i as u32;
+        return Interned {
+            answer: Answer::Numbered(known),
+            count,
+        };
+    }
+    if audit::MOST_NAMES <= count {
+        return Interned {
+            answer: Answer::Refused(NO_NAME_PLACE),
+            count,
+        };
+    }
+    if entries.len() / entry::ENTRY_BYTES <= count {
+        return Interned {
+            answer: Answer::Refused(NO_NAME_PLACE),
+            count,
+        };
+    }
+    entry::put(entries, count, &key);
+    let number = count as u32;
+    let next = count + 1;
+    Interned {
+        answer: Answer::Numbered(number),
+        count: next,
+    }
+}
+
+fn length_allowed(length: usize) -> bool
+    ensures { λ r. ⌜ Says r (Allowed length) ⌝ }
+{
+    if length < entry::SHORTEST_NAME {
+        return false;
+    }
+    length <= entry::LONGEST_NAME
+}
+
+// The number of a name, which becomes known if it is not.
+pub fn intern(entries: &mut [u8], count: usize, name: &[u8]) -> Interned
+    ensures { λ r. ⌜ Called (now (entries .entry)) count (internName (now (name .entry))) (answerOf (r .answer) []) (now (entries .exit)) (r .count) ⌝ }
+{
+    if !audit::audit(entries, count) {
+        return Interned {
+            answer: Answer::Refused(NOT_SOUND),
+            count,
+        };
+    }
+    if !length_allowed(name.len()) {
+        return Interned {
+            answer: Answer::Refused(BAD_NAME_LENGTH),
+            count,
+        };
+    }
+    intern_allowed(entries, count, name)
+}
+
+// The number of a name, if it is known.
+pub fn lookup(entries: &[u8], count: usize, name: &[u8]) -> Answer
+    ensures { λ r. ⌜ Called (now (entries .entry)) count (lookupName (now (name .entry))) (answerOf r []) (now (entries .entry)) count ⌝ }
+{
+    if !audit::audit(entries, count) {
+        return Answer::Refused(NOT_SOUND);
+    }
+    if !length_allowed(name.len()) {
+        return Answer::Refused(BAD_NAME_LENGTH);
+    }
+    let key = entry::of_name(name);
+    let place = find(entries, count, &key);
+    match place {
+        Found::At(i) => Answer::Numbered(i as u32),
+        Found::Nothing => Answer::Unknown,
+    }
+}
+
+// The name of a number, if there is one.
+pub fn name(entries: &[u8], count: usize, number: u32) -> NameBytes
+    ensures { λ r. ⌜ NameCalled (now (entries .entry)) count number r ⌝ }
+{
+    if !audit::audit(entries, count) {
+        return NameBytes {
+            answer: Answer::Refused(NOT_SOUND),
+            bytes: [0u8; entry::LONGEST_NAME],
+        };
+    }
+    let n = number as usize;
+    if count <= n {
+        return NameBytes {
+            answer: Answer::Unknown,
+            bytes: [0u8; entry::LONGEST_NAME],
+        };
+    }
+    let held = entry::at(entries, n);
+    let length = entry::name_length(held);
+    let bytes = entry::name_bytes(held);
+    NameBytes {
+        answer: Answer::Named(length),
+        bytes,
+    }
+}
