@@ -7,3 +7,4 @@ pub mod Reading
 pub mod NewNodes
 pub mod Marking
 pub mod Leaving
+pub mod Histories
