@@ -41,8 +41,8 @@ module _ (w slots slots′ : List ℕ) (l : firstTableSize ≤ length slots) (lo
   empty =
       let n : length (take firstTableSize slots′) ≡ firstTableSize = length-take-le firstTableSize slots′ (omega arith) in
       ext-getD 0 (take firstTableSize slots′) (replicate firstTableSize 0) (n ∙ sym (length-replicate {A = ℕ} firstTableSize 0)) (λ p b.
-          let q : p < firstTableSize = rw n at b in
-          getD-take firstTableSize slots′ p 0 q ∙ (let only = r .table .only p q in let z : getD slots′ p 0 ≡ 0 = omega arith in z) ∙ sym (getD-replicate firstTableSize p 0 0 q))
+      let q : p < firstTableSize = rw n at b in
+      getD-take firstTableSize slots′ p 0 q ∙ (let only = r .table .only p q in let z : getD slots′ p 0 ≡ 0 = omega arith in z) ∙ sym (getD-replicate firstTableSize p 0 0 q))
 
   fresh-first : Fresh model (memory w slots′ first)
   unfolding nodesIn

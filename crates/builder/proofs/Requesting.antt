@@ -94,6 +94,6 @@ module _ (listed : Bool) (kind payload flags : ℕ) (operands w slots : List ℕ
         interned key q w′ slots′ r i c e =
             let plain : plainNode key ≡ N.node kind payload flags operands = ap plainNode q ∙ new-plain (s .count) kind payload flags (length operands) places fits ∙ ap (N.node kind payload flags) (p .taken) in
             let o : storedAs (I.intern (lent w slots) ns (N.node kind payload flags operands)) ≡ outcome (answerOf (r .answer)) (nodesIn w′ (r .arena .count)) =
-                ap (λ (n : N.Node). storedAs (I.intern (lent w slots) ns n)) (sym plain) ∙ ap storedAs (sym (i .builds .answer)) ∙ answered (r .answer) (nodesIn w′ (r .arena .count)) in
+            ap (λ (n : N.Node). storedAs (I.intern (lent w slots) ns n)) (sym plain) ∙ ap storedAs (sym (i .builds .answer)) ∙ answered (r .answer) (nodesIn w′ (r .arena .count)) in
             leaves-kept (M.store c) (memory w slots s) (answerOf (r .answer)) (memory w′ slots′ (r .arena)) h (i .builds .kept) (called c _ e (passed ∙ o))
             (λ number a _. i .unchanged number (refused-is (r .answer) number a))

@@ -1,16 +1,23 @@
 // Controls.
 ghost use Rattle.definitions.specs.Machine as M;
 ghost use Rattle.builder.specs.Stores.{Stores};
+use crate::building::build;
 use arena::DagArena;
 use arena::kind::CONTROL;
 use arena::kind::FOR_LOOP;
 use arena::kind::IF_ELSE;
 use arena::kind::SELECT;
-use crate::building::build;
 use store::Built;
 
 // Select, over three operands.
-pub fn select(nodes: &mut [u64], slots: &mut [u32], arena: DagArena, a: u32, b: u32, c: u32) -> Built
+pub fn select(
+    nodes: &mut [u64],
+    slots: &mut [u32],
+    arena: DagArena,
+    a: u32,
+    b: u32,
+    c: u32,
+) -> Built
     ensures { λ r. ⌜ Stores (M.select a b c) (now (nodes .entry)) (now (slots .entry)) arena (now (nodes .exit)) (now (slots .exit)) r ⌝ }
 {
     let operands = [a, b, c];
@@ -18,7 +25,14 @@ pub fn select(nodes: &mut [u64], slots: &mut [u32], arena: DagArena, a: u32, b: 
 }
 
 // IfElse, over three operands.
-pub fn if_else(nodes: &mut [u64], slots: &mut [u32], arena: DagArena, a: u32, b: u32, c: u32) -> Built
+pub fn if_else(
+    nodes: &mut [u64],
+    slots: &mut [u32],
+    arena: DagArena,
+    a: u32,
+    b: u32,
+    c: u32,
+) -> Built
     ensures { λ r. ⌜ Stores (M.ifElse a b c) (now (nodes .entry)) (now (slots .entry)) arena (now (nodes .exit)) (now (slots .exit)) r ⌝ }
 {
     let operands = [a, b, c];
@@ -26,7 +40,15 @@ pub fn if_else(nodes: &mut [u64], slots: &mut [u32], arena: DagArena, a: u32, b:
 }
 
 // ForLoop, over four operands.
-pub fn for_loop(nodes: &mut [u64], slots: &mut [u32], arena: DagArena, a: u32, b: u32, c: u32, d: u32) -> Built
+pub fn for_loop(
+    nodes: &mut [u64],
+    slots: &mut [u32],
+    arena: DagArena,
+    a: u32,
+    b: u32,
+    c: u32,
+    d: u32,
+) -> Built
     ensures { λ r. ⌜ Stores (M.forLoop a b c d) (now (nodes .entry)) (now (slots .entry)) arena (now (nodes .exit)) (now (slots .exit)) r ⌝ }
 {
     let operands = [a, b, c, d];
@@ -34,9 +56,24 @@ pub fn for_loop(nodes: &mut [u64], slots: &mut [u32], arena: DagArena, a: u32, b
 }
 
 // Any control, by its code, over any operands.
-pub fn control(nodes: &mut [u64], slots: &mut [u32], arena: DagArena, code: u32, operands: &[u32]) -> Built
+pub fn control(
+    nodes: &mut [u64],
+    slots: &mut [u32],
+    arena: DagArena,
+    code: u32,
+    operands: &[u32],
+) -> Built
     ensures { λ r. ⌜ Stores (M.control code (now (operands .entry))) (now (nodes .entry)) (now (slots .entry)) arena (now (nodes .exit)) (now (slots .exit)) r ⌝ }
 {
     let payload = code as u64;
-    build(nodes, slots, arena, payload <= FOR_LOOP, CONTROL, payload, 0, operands)
+    build(
+        nodes,
+        slots,
+        arena,
+        payload <= FOR_LOOP,
+        CONTROL,
+        payload,
+        0,
+        operands,
+    )
 }

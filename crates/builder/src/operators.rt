@@ -4,6 +4,7 @@ ghost use mathlib.Core.Bool.{_&&_};
 ghost use lib.Dec.{leb};
 ghost use Rattle.definitions.specs.Machine as M;
 ghost use Rattle.builder.specs.Stores.{Stores};
+use crate::building::build;
 use arena::ASSOCIATIVE;
 use arena::COMMUTATIVE;
 use arena::DagArena;
@@ -14,13 +15,13 @@ use arena::kind::MUL;
 use arena::kind::NEG;
 use arena::kind::POW;
 use arena::kind::SUB;
-use crate::building::build;
 use store::Built;
 
 // The flags of `add` and `mul`.
 const REORDERABLE: u64 = COMMUTATIVE + ASSOCIATIVE;
 // Operator codes run from 0 Add to 6 Neg.
 const LAST_CODE: u32 = 6;
+
 const LAST_FLAGS: u32 = 3;
 
 // The sum of two.
@@ -83,13 +84,33 @@ pub fn neg(nodes: &mut [u64], slots: &mut [u32], arena: DagArena, a: u32) -> Bui
 fn is_operator(code: u32, flags: u32) -> bool
     ensures { λ r. ⌜ r ≡ (leb code 6 && leb flags 3) ⌝ }
 {
-    if code <= LAST_CODE { flags <= LAST_FLAGS } else { false }
+    if code <= LAST_CODE {
+        flags <= LAST_FLAGS
+    } else {
+        false
+    }
 }
 
 // Any operator, by its code, with any flags and operands.
-pub fn operator(nodes: &mut [u64], slots: &mut [u32], arena: DagArena, code: u32, flags: u32, operands: &[u32]) -> Built
+pub fn operator(
+    nodes: &mut [u64],
+    slots: &mut [u32],
+    arena: DagArena,
+    code: u32,
+    flags: u32,
+    operands: &[u32],
+) -> Built
     ensures { λ r. ⌜ Stores (M.operator code flags (now (operands .entry))) (now (nodes .entry)) (now (slots .entry)) arena (now (nodes .exit)) (now (slots .exit)) r ⌝ }
 {
     let listed = is_operator(code, flags);
-    build(nodes, slots, arena, listed, ADD + code as u64, 0, flags as u64, operands)
+    build(
+        nodes,
+        slots,
+        arena,
+        listed,
+        ADD + code as u64,
+        0,
+        flags as u64,
+        operands,
+    )
 }

@@ -55,6 +55,7 @@ whole-only-from bits b m (negsuc k) s h w = go (decLe (suc k) s)
   where
     held : T (fits binary64 (fin b m (negsuc k)))
     held = subst (λ (x : Float). T (fits binary64 x)) h (ofBits-fits binary64 bits)
+
     go : Dec (suc k ≤ s) → suc k ≤ s
     go (yes l) = l
     go (no n) =

@@ -22,7 +22,7 @@ boundBy b t u = record { bits = b; top = t; under = u }
 abbrev pub unitBound : Bound
 unitBound = boundBy 0 1 0
 
--- a constant: P is "the least s from 0 up making c * 2 ^ s whole", W is max(1, |c|); a binary64 number is m * 2 ^ e with m odd, or 0
+-- a constant: P is "the least s from 0 up making c * 2 ^ s whole", W is max(1, |c|); see fractionBits of Value.antt
 abbrev pub constantBound : Float → Bound
 constantBound nan = unitBound
 constantBound (inf s) = unitBound

@@ -3,13 +3,15 @@ use Prim.Native.Nat.{ℕ, zero, suc}
 use mathlib.Core.Path.{_≡_, refl}
 use mathlib.Core.Bool.{Bool, true, false}
 use mathlib.Core.List.{List, [], _∷_, _++_, map}
-use lib.ListN.{length}
+use lib.ListN.{length, take}
+use lib.Ieee.{binary64, ofBits}
 use Rattle.definitions.specs.Node.{Node, node, variableKind, constantKind, addKind, mulKind}
-use Rattle.definitions.specs.Intern.{Lent}
+use Rattle.definitions.specs.Intern.{Lent, tableSize}
 use Rattle.definitions.specs.Walk.{standard, marked}
+use Rattle.definitions.specs.Exact.{constantBound}
 use Rattle.definitions.specs.Sheet.{sheet}
 use Rattle.definitions.specs.Listing.{listing}
-use Rattle.definitions.specs.Machine.{Store, variable, constant, add, sub, mul, operator, Call, store, simplify, prune, Answer, stored, simplified, pruned, refused, State, state, empty, call, answers, run}
+use Rattle.definitions.specs.Machine.{Store, variable, constant, add, sub, mul, div, operator, Call, store, simplify, prune, Answer, stored, simplified, pruned, refused, State, state, empty, call, answers, run}
 
 -- the listing program's store
 abbrev lent : Lent
@@ -52,6 +54,18 @@ tenth = 0x3FB999999999999A
 
 abbrev fifth : ℕ
 fifth = 0x3FC999999999999A
+
+abbrev infinity : ℕ
+infinity = 0x7FF0000000000000
+
+abbrev minusInfinity : ℕ
+minusInfinity = 0xFFF0000000000000
+
+abbrev storedNaN : ℕ
+storedNaN = 0x7FF8000000000000
+
+abbrev minusOne : ℕ
+minusOne = 0xBFF0000000000000
 
 abbrev x : Call
 x = store (variable 7)
@@ -156,3 +170,65 @@ pub sheet-listing : listing (sheet lent empty sheetBytes)
     ∷ []
 unfolding sheet listing
 sheet-listing = refl
+
+-- the table sizes of 44 and 45 nodes
+pub table-sizes : map tableSize (44 ∷ 45 ∷ []) ≡ 64 ∷ 128 ∷ []
+unfolding tableSize
+table-sizes = refl
+
+-- the listing's sheet with budget 2: `spent 2`, and no node marked
+pub spent-listing : listing (sheet lent empty (take 37 sheetBytes ++ 2 ∷ []))
+    ≡ 115 ∷ 112 ∷ 101 ∷ 110 ∷ 116 ∷ 32 ∷ 50 ∷ 10
+    ∷ 48 ∷ 32 ∷ 48 ∷ 32 ∷ 48 ∷ 48 ∷ 48 ∷ 48 ∷ 48 ∷ 48 ∷ 48 ∷ 48 ∷ 48 ∷ 48 ∷ 48 ∷ 48 ∷ 48 ∷ 48 ∷ 48 ∷ 55 ∷ 32 ∷ 48 ∷ 10
+    ∷ 49 ∷ 32 ∷ 49 ∷ 32 ∷ 48 ∷ 48 ∷ 48 ∷ 48 ∷ 48 ∷ 48 ∷ 48 ∷ 48 ∷ 48 ∷ 48 ∷ 48 ∷ 48 ∷ 48 ∷ 48 ∷ 48 ∷ 48 ∷ 32 ∷ 48 ∷ 10
+    ∷ 50 ∷ 32 ∷ 50 ∷ 32 ∷ 48 ∷ 48 ∷ 48 ∷ 48 ∷ 48 ∷ 48 ∷ 48 ∷ 48 ∷ 48 ∷ 48 ∷ 48 ∷ 48 ∷ 48 ∷ 48 ∷ 48 ∷ 48 ∷ 32 ∷ 51 ∷ 32 ∷ 48 ∷ 32 ∷ 49 ∷ 10
+    ∷ []
+unfolding sheet listing
+spent-listing = refl
+
+-- where an identity fires before folding, and what a fold to NaN stores: two constants, an operator over them, simplified; then the expected
+-- constant, which the simplify answered
+abbrev binary : ℕ → ℕ → ℕ → ℕ → List Call
+binary code a b expected = number a ∷ number b ∷ store (operator code 0 (0 ∷ 1 ∷ [])) ∷ simplify 2 255 100 ∷ number expected ∷ []
+
+abbrev answeredBy : ℕ → List Answer
+answeredBy i = stored 0 ∷ stored 1 ∷ stored 2 ∷ simplified i false 3 ∷ stored i ∷ []
+
+abbrev identityCases : List (List Call)
+identityCases =
+    -- inf + -inf is folded to the stored NaN
+    binary 0 infinity minusInfinity storedNaN
+    -- 0.0 + -0.0 gives -0.0, and -0.0 + 1 gives 1: zero tests accept -0.0
+    ∷ binary 0 plusZero minusZero minusZero
+    ∷ binary 0 minusZero one one
+    -- 0 * -1 gives 0.0, and so does -0.0 * 1
+    ∷ binary 2 plusZero minusOne plusZero
+    ∷ binary 2 minusZero one plusZero
+    -- 0 / -1 gives 0.0
+    ∷ binary 3 plusZero minusOne plusZero
+    ∷ []
+
+pub identity-cases : map (λ (cs : List Call). answers lent empty cs) identityCases ≡ map answeredBy (3 ∷ 1 ∷ 1 ∷ 0 ∷ 3 ∷ 0 ∷ [])
+unfolding answers
+identity-cases = refl
+
+-- -0.0 - (-0.0) gives -0.0, and inf - inf of one id 0.0; 0 / 0 gives 0.0, and inf / inf of one id 1.0
+pub one-id-cases :
+    map (λ (cs : List Call). answers lent empty cs)
+    ((number minusZero ∷ store (sub 0 0) ∷ simplify 1 255 100 ∷ [])
+    ∷ (number infinity ∷ store (sub 0 0) ∷ simplify 1 255 100 ∷ number plusZero ∷ [])
+    ∷ (number plusZero ∷ store (div 0 0) ∷ simplify 1 255 100 ∷ [])
+    ∷ (number infinity ∷ store (div 0 0) ∷ simplify 1 255 100 ∷ number one ∷ [])
+    ∷ [])
+    ≡ (stored 0 ∷ stored 1 ∷ simplified 0 false 3 ∷ [])
+    ∷ (stored 0 ∷ stored 1 ∷ simplified 2 false 3 ∷ stored 2 ∷ [])
+    ∷ (stored 0 ∷ stored 1 ∷ simplified 0 false 3 ∷ [])
+    ∷ (stored 0 ∷ stored 1 ∷ simplified 2 false 3 ∷ stored 2 ∷ [])
+    ∷ []
+unfolding answers
+one-id-cases = refl
+
+-- P of 0.0, -0.0, 1.0, 3.0, 1/1024 and 3/1024
+pub fraction-bits : map (λ (b : ℕ). constantBound (ofBits binary64 b) .bits) (plusZero ∷ minusZero ∷ one ∷ three ∷ 0x3F50000000000000 ∷ 0x3F68000000000000 ∷ []) ≡ 0 ∷ 0 ∷ 0 ∷ 0 ∷ 10 ∷ 10 ∷ []
+unfolding ofBits
+fraction-bits = refl

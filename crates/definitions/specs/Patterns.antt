@@ -92,7 +92,7 @@ unfolding constantValue eq internConstant
 mulIdentity l ns a b =
     let x = constantValue (at ns a) in
     let y = constantValue (at ns b) in
-    orElse (when (isZero x && isFinite y || isZero y && isFinite x) (internConstant l ns zero64))
+    orElse (when ((isZero x && isFinite y) || (isZero y && isFinite x)) (internConstant l ns zero64))
     (orElse (when (isOne x) (built ns b)) (when (isOne y) (built ns a)))
 
 -- x / 1, 0 / x, and c / c of one id for a constant c that is not zero

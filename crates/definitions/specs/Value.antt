@@ -9,7 +9,8 @@ use Rattle.definitions.specs.Node.{variableKind, constantKind, addKind, 
 use Rattle.definitions.specs.Formula.{Tree, tree, Forest, nil, cons}
 use Rattle.definitions.specs.Dyadic.{Fraction, fraction, Dyadic, dyadic, plus, times, opposite, zeroValue, oneValue}
 
--- the fraction bits of a number m * 2 ^ e with m odd or e at least 0: what `down e` of lib.Ieee divides by is 2 ^ fractionBits e
+-- The fraction bits of a binary64 number m * 2 ^ e, which lib.Ieee writes with m odd, or with m = 0 and e = 0: `down e` is 2 ^ fractionBits e.
+-- proofs/FractionBits.antt shows that it is the least s making the number times 2 ^ s whole.
 abbrev pub fractionBits : ℤ → ℕ
 fractionBits (pos k) = 0
 fractionBits (negsuc k) = suc k

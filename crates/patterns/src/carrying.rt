@@ -23,16 +23,40 @@ fn intern_constant(nodes: &mut [u64], slots: &mut [u32], arena: DagArena, bits: 
 }
 
 // An Add or a Mul of two operands.
-fn intern_operator(nodes: &mut [u64], slots: &mut [u32], arena: DagArena, kind: u64, lhs: u64, rhs: u64) -> Built
+fn intern_operator(
+    nodes: &mut [u64],
+    slots: &mut [u32],
+    arena: DagArena,
+    kind: u64,
+    lhs: u64,
+    rhs: u64,
+) -> Built
     requires { ⌜ TwoOperands (arena .count) kind lhs rhs × Sound (now nodes) (now slots) arena ⌝ }
     ensures { λ r. ⌜ Builds (now (nodes .entry)) (now (slots .entry)) arena (I.intern (lent (now (nodes .entry)) (now (slots .entry))) (nodesIn (now (nodes .entry)) (arena .count)) (N.node kind 0 3 (lhs ∷ rhs ∷ []))) (now (nodes .exit)) (now (slots .exit)) r ⌝ }
 {
-    store::intern(nodes, slots, arena, kind, 0, COMMUTATIVE_ASSOCIATIVE, 2, [lhs, rhs, 0, 0])
+    store::intern(
+        nodes,
+        slots,
+        arena,
+        kind,
+        0,
+        COMMUTATIVE_ASSOCIATIVE,
+        2,
+        [lhs, rhs, 0, 0],
+    )
 }
 
 // A constant, and then an operator over it and another operand, the constant on the left or on the right. Stopped in between, the
 // constant stays.
-fn beside_constant(nodes: &mut [u64], slots: &mut [u32], arena: DagArena, kind: u64, bits: u64, other: u64, left: bool) -> Built
+fn beside_constant(
+    nodes: &mut [u64],
+    slots: &mut [u32],
+    arena: DagArena,
+    kind: u64,
+    bits: u64,
+    other: u64,
+    left: bool,
+) -> Built
     requires { ⌜ Operand (arena .count) kind other × Sound (now nodes) (now slots) arena ⌝ }
     ensures { λ r. ⌜ Builds (now (nodes .entry)) (now (slots .entry)) arena (besideConstant left (lent (now (nodes .entry)) (now (slots .entry))) (nodesIn (now (nodes .entry)) (arena .count)) kind bits other) (now (nodes .exit)) (now (slots .exit)) r ⌝ }
 {
@@ -54,7 +78,12 @@ fn beside_constant(nodes: &mut [u64], slots: &mut [u32], arena: DagArena, kind: 
     }
 }
 
-pub fn carry_out(nodes: &mut [u64], slots: &mut [u32], arena: DagArena, replacement: Replacement) -> Built
+pub fn carry_out(
+    nodes: &mut [u64],
+    slots: &mut [u32],
+    arena: DagArena,
+    replacement: Replacement,
+) -> Built
     requires { ⌜ Low (arena .count) replacement × Sound (now nodes) (now slots) arena ⌝ }
     ensures { λ r. ⌜ Builds (now (nodes .entry)) (now (slots .entry)) arena (carried (lent (now (nodes .entry)) (now (slots .entry))) (nodesIn (now (nodes .entry)) (arena .count)) replacement) (now (nodes .exit)) (now (slots .exit)) r ⌝ }
 {
@@ -64,7 +93,23 @@ pub fn carry_out(nodes: &mut [u64], slots: &mut [u32], arena: DagArena, replacem
             arena,
         },
         Replacement::Constant(bits) => intern_constant(nodes, slots, arena, bits),
-        Replacement::ConstantLeft { kind, bits, other } => beside_constant(nodes, slots, arena, kind, bits, other, true),
-        Replacement::ConstantRight { kind, bits, other } => beside_constant(nodes, slots, arena, kind, bits, other, false),
+        Replacement::ConstantLeft { kind, bits, other } => beside_constant(
+            nodes,
+            slots,
+            arena,
+            kind,
+            bits,
+            other,
+            true,
+        ),
+        Replacement::ConstantRight { kind, bits, other } => beside_constant(
+            nodes,
+            slots,
+            arena,
+            kind,
+            bits,
+            other,
+            false,
+        ),
     }
 }

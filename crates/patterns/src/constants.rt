@@ -10,6 +10,7 @@ use fold::kind::CONSTANT;
 
 // The bits of 0.0 and 1.0.
 pub const ZERO_BITS: u64 = 0;
+
 pub const ONE_BITS: u64 = 0x3ff0_0000_0000_0000;
 
 // The bits of a node that is a constant.
@@ -71,5 +72,9 @@ pub fn is_positive(c: Constant) -> bool
 pub fn vanishes(zero: Constant, finite: Constant) -> bool
     ensures { λ r. ⌜ r ≡ (P.isZero (valueOf zero) && P.isFinite (valueOf finite)) ⌝ }
 {
-    if is_zero(zero) { is_finite(finite) } else { false }
+    if is_zero(zero) {
+        is_finite(finite)
+    } else {
+        false
+    }
 }

@@ -115,14 +115,26 @@ fn answered(built: Built) -> Applied
 }
 
 // The first pattern that fits a kind over new children, carried out.
-pub fn try_apply(nodes: &mut [u64], slots: &mut [u32], arena: DagArena, kind: u64, children: [u64; 4], arity: u64) -> Applied
+pub fn try_apply(
+    nodes: &mut [u64],
+    slots: &mut [u32],
+    arena: DagArena,
+    kind: u64,
+    children: [u64; 4],
+    arity: u64,
+) -> Applied
     requires { ⌜ Operands (arena .count) arity children × Sound (now nodes) (now slots) arena ⌝ }
     ensures { λ r. ⌜ Applies (now (nodes .entry)) (now (slots .entry)) arena (P.tryApply (lent (now (nodes .entry)) (now (slots .entry))) (nodesIn (now (nodes .entry)) (arena .count)) kind (take arity children)) (now (nodes .exit)) (now (slots .exit)) r ⌝ }
 {
     let count = arena.count;
     let result = pattern(nodes, count, kind, children, arity);
     match result {
-        PatternResult::Fits(replacement) => answered(carrying::carry_out(nodes, slots, arena, replacement)),
+        PatternResult::Fits(replacement) => answered(carrying::carry_out(
+            nodes,
+            slots,
+            arena,
+            replacement,
+        )),
         PatternResult::Declined => Applied {
             matched: Matched::Declined,
             arena,

@@ -31,12 +31,15 @@ not-kept number e = (first, second)
     or-left : (a b : Bool) → a ≡ true → not (a || b) ≡ true → ⊥
     or-left true b x h = false≢true h
     or-left false b x h = false≢true x
+
     or-right : (a b : Bool) → b ≡ true → not (a || b) ≡ true → ⊥
     or-right true b x h = false≢true h
     or-right false true x h = false≢true h
     or-right false false x h = false≢true x
+
     first : number ≡ noNodePlace → ⊥
     first h = or-left (eqb number noNodePlace) (eqb number noSlotPlace) (eq-eqb number noNodePlace h) e
+
     second : number ≡ noSlotPlace → ⊥
     second h = or-right (eqb number noNodePlace) (eqb number noSlotPlace) (eq-eqb number noSlotPlace h) e
 

@@ -4,6 +4,7 @@ pub mod filter;
 pub mod refusals;
 pub mod sum;
 pub mod threshold;
+
 ghost use Prim.Native.Nat.{_<_};
 ghost use lib.Ieee.{binary64, ofBits};
 ghost use Rattle.definitions.specs.Machine as M;
@@ -19,6 +20,7 @@ use threshold::Threshold;
 
 // 01: "1 constant (payload the binary64 bits), 2 to 8 operator Add, ..".
 pub const CONSTANT: u64 = 1;
+
 pub const ADD: u64 = 2;
 
 pub enum Answer {
@@ -35,7 +37,13 @@ pub struct Outcome {
 }
 
 // The chain under an Add: flattened, filtered and summed again.
-fn prune_chain(nodes: &mut [u64], slots: &mut [u32], arena: DagArena, root: u64, threshold: u64) -> Outcome
+fn prune_chain(
+    nodes: &mut [u64],
+    slots: &mut [u32],
+    arena: DagArena,
+    root: u64,
+    threshold: u64,
+) -> Outcome
     requires { ⌜ (root < arena .count) × Sound (now nodes) (now slots) arena ⌝ }
     ensures { λ r. ⌜ Prunes (memory (now (nodes .entry)) (now (slots .entry)) arena) (M.pruneChain (lent (now (nodes .entry)) (now (slots .entry))) (nodesIn (now (nodes .entry)) (arena .count)) (ofBits binary64 threshold) (Prune.chain (nodesIn (now (nodes .entry)) (arena .count)) root)) (r .answer) (memory (now (nodes .exit)) (now (slots .exit)) (r .arena)) ⌝ }
 {

@@ -19,7 +19,16 @@ pub fn balanced_add(nodes: &mut [u64], slots: &mut [u32], arena: DagArena, terms
 {
     let n = terms.len();
     if n == 0 {
-        return store::intern(nodes, slots, arena, CONSTANT, BITS_OF_ZERO, 0, 0, [0, 0, 0, 0]);
+        return store::intern(
+            nodes,
+            slots,
+            arena,
+            CONSTANT,
+            BITS_OF_ZERO,
+            0,
+            0,
+            [0, 0, 0, 0],
+        );
     }
     if n == 1 {
         return Built {
@@ -40,7 +49,16 @@ pub fn balanced_add(nodes: &mut [u64], slots: &mut [u32], arena: DagArena, terms
             match right_answer {
                 Answer::Refused(_) => right,
                 Answer::Id(b) => {
-                    store::intern(nodes, slots, after_right, ADD, 0, ADD_FLAGS, 2, [a, b, 0, 0])
+                    store::intern(
+                        nodes,
+                        slots,
+                        after_right,
+                        ADD,
+                        0,
+                        ADD_FLAGS,
+                        2,
+                        [a, b, 0, 0],
+                    )
                 }
             }
         }

@@ -165,9 +165,9 @@ module _ (w slots : List ℕ) (s : DagArena) (key : DagNode) (four : length (key
       new = let d = h .table .doubled in let load = h .table .load in let sized = h .table .sized in
           pick (leb mostNodes c || ltb (length w) (c * nodeWords + nodeWords)) _ _
           (λ y. refuse 21 (full-nodes L c z d load sized (⊎-elim
-            (λ a. let b = leb-true mostNodes c a in omega arith)
-            (λ a. let b = ltb-true (length w) (c * nodeWords + nodeWords) a in omega arith)
-            (either (leb mostNodes c) (ltb (length w) (c * nodeWords + nodeWords)) y))))
+          (λ a. let b = leb-true mostNodes c a in omega arith)
+          (λ a. let b = ltb-true (length w) (c * nodeWords + nodeWords) a in omega arith)
+          (either (leb mostNodes c) (ltb (length w) (c * nodeWords + nodeWords)) y))))
           (λ y. let both = neither (leb mostNodes c) (ltb (length w) (c * nodeWords + nodeWords)) y in
           let few = leb-false mostNodes c (both .0) in
           let fits = ltb-false (length w) (c * nodeWords + nodeWords) (both .1) in

@@ -78,7 +78,7 @@ grown-trans size count size′ count′ size″ l a b = record {
     go d m (no k) =
         let r : d ≡ a .doublings + (d - a .doublings) = omega arith in
         let e : size * 2 ^ d ≡ size′ * 2 ^ (d - a .doublings) =
-            ap (λ (x : ℕ). size * 2 ^ x) r ∙ ap (λ (x : ℕ). size * x) (pow-add 2 (a .doublings) (d - a .doublings)) ∙ sym (mul-assoc size (2 ^ a .doublings) (2 ^ (d - a .doublings))) ∙ ap (λ (x : ℕ). x * 2 ^ (d - a .doublings)) (sym (a .is)) in
+        ap (λ (x : ℕ). size * 2 ^ x) r ∙ ap (λ (x : ℕ). size * x) (pow-add 2 (a .doublings) (d - a .doublings)) ∙ sym (mul-assoc size (2 ^ a .doublings) (2 ^ (d - a .doublings))) ∙ ap (λ (x : ℕ). x * 2 ^ (d - a .doublings)) (sym (a .is)) in
         rw e (b .needed (d - a .doublings) (omega arith))
 
 -- it is the least of the size, twice the size and so on that holds the count

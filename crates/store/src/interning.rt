@@ -8,11 +8,11 @@ ghost use Rattle.store.specs.Sound.{Sound};
 ghost use Rattle.store.specs.View.{plainNode, nodesIn, lent, Builds};
 ghost use Rattle.store.specs.Lookup.{Fits};
 ghost use Rattle.store.specs.Interning.{Interns};
+use crate::Answer;
+use crate::Built;
 use arena::DagArena;
 use arena::DagNode;
 use arena::MOST_CHILDREN;
-use crate::Answer;
-use crate::Built;
 use dedup::get_or_insert;
 
 // The id of a node by value.

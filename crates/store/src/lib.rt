@@ -1,6 +1,7 @@
 // The store: lent words and slots as the plain machine's list of nodes. Crates above use interning, lookups and marks.
 pub mod interning;
 pub mod lookup;
+
 pub use interning::intern;
 pub use interning::intern_node;
 pub use lookup::arity;

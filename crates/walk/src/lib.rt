@@ -4,11 +4,13 @@ ghost use Rattle.definitions.specs.Machine as M;
 ghost use Rattle.store.specs.Memory.{memory, Leaves};
 ghost use Rattle.walk.specs.Memory.{Sound};
 ghost use Rattle.walk.specs.Answers.{meaning};
+
 pub mod rebuild;
 pub mod refusals;
 pub mod run;
 pub mod state;
 pub mod turn;
+
 use arena::DagArena;
 use state::MOST_DEPTH;
 use state::Walk;

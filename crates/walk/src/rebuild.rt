@@ -14,9 +14,11 @@ use store::Built;
 
 // 01: "2 to 8 operator Add, Sub, Mul, ..".
 const ADD: u64 = 2;
+
 const MUL: u64 = 4;
 // 01: "`add` and `mul` give flags 3, other constructors 0".
 const ADD_OR_MUL_FLAGS: u64 = 3;
+
 const OTHER_FLAGS: u64 = 0;
 
 // The flags of a rebuilt node: an Add or Mul of one, three or four children gets those of other constructors.

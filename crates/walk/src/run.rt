@@ -23,7 +23,15 @@ pub fn run(nodes: &mut [u64], slots: &mut [u32], walk: Walk, root: u64, budget: 
         if progress.frames == 0 {
             break;
         }
-        progress = turn::turn(nodes, slots, &mut ids, &mut cursors, &mut values, limit, progress);
+        progress = turn::turn(
+            nodes,
+            slots,
+            &mut ids,
+            &mut cursors,
+            &mut values,
+            limit,
+            progress,
+        );
         let status = progress.status;
         if let Status::Stopped(number) = status {
             let arena = progress.arena;

@@ -5,6 +5,7 @@ use arena::DagArena;
 
 // 01: "filled arrays of 256 frames and 1,024 values".
 pub const MOST_FRAMES: usize = 256;
+
 pub const MOST_VALUES: usize = 1_024;
 // 01: "Depth limit 0 to 255".
 pub const MOST_DEPTH: u32 = 255;
@@ -66,7 +67,15 @@ impl Walk {
         let mut values = self.values;
         let limit = self.limit;
         let progress = self.progress;
-        let next = turn::turn(nodes, slots, &mut ids, &mut cursors, &mut values, limit, progress);
+        let next = turn::turn(
+            nodes,
+            slots,
+            &mut ids,
+            &mut cursors,
+            &mut values,
+            limit,
+            progress,
+        );
         self.ids = ids;
         self.cursors = cursors;
         self.values = values;

@@ -9,7 +9,7 @@ new-requires : tie.Need-new-requires
 new-requires c κs = search needs
 
 intern-node-requires : tie.Need-intern-node-requires
-intern-node-requires c κs = 
+intern-node-requires c κs =
     let e = c .before .before .before .before .before in
     (subst (WellFormed _) (sym (c .before .before .new .ensures)) (new-formed _ _ _ _ _ _ (e .pre .0)), e .pre .1)
 
@@ -20,7 +20,7 @@ same-length-2 : tie.Need-same-length-2
 same-length-2 c = search needs
 
 returns : tie.Need-returns
-returns c = 
+returns c =
     let e = c .before .before .before .before .before .before .before .before .before .before in
     rw (← new-plain _ _ _ _ _ _ (e .pre .0), ← c .before .before .before .before .before .before .before .new .ensures) (c .before .before .before .before .intern-node .ensures .builds)
 

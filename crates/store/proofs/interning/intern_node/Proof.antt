@@ -29,7 +29,7 @@ same-length-2 : tie.Need-same-length-2
 same-length-2 c = search needs
 
 returns : tie.Need-returns
-returns c = 
+returns c =
     let e = c .before .before .before .before .before .before .before .before .before .before .before .before .before in
     seen _ _ _ _ (children e) (e .pre .0) (e .pre .1) _ _ _ (c .before .before .before .before .before .before .before .before .get-or-insert .ensures) (search needs) (search needs) (Old _) (c .before .answer .given .1)
 
@@ -40,7 +40,7 @@ same-length-4 : tie.Need-same-length-4
 same-length-4 c = search needs
 
 returns-2 : tie.Need-returns-2
-returns-2 c = 
+returns-2 c =
     let e = c .before .before .before .before .before .before .before .before .before .before .before .before .before in
     seen _ _ _ _ (children e) (e .pre .0) (e .pre .1) _ _ _ (c .before .before .before .before .before .before .before .before .get-or-insert .ensures) (search needs) (search needs) (New _) (c .before .answer2 .given .1)
 
@@ -51,7 +51,7 @@ same-length-6 : tie.Need-same-length-6
 same-length-6 c = search needs
 
 returns-3 : tie.Need-returns-3
-returns-3 c = 
+returns-3 c =
     let e = c .before .before .before .before .before .before .before .before .before .before .before .before .before in
     seen _ _ _ _ (children e) (e .pre .0) (e .pre .1) _ _ _ (c .before .before .before .before .before .before .before .before .get-or-insert .ensures) (search needs) (search needs) (Refused _) (c .before .answer3 .given .1)
 

@@ -1,0 +1,115 @@
+-- Codes and their calls: each known code has its call, and what the function of that call leaves is what its code says.
+use Prim.Native.Nat.{ℕ, suc, _≤_, _<_}
+use mathlib.Core.Path.{_≡_, refl, sym, ap, _∙_, subst}
+use mathlib.Core.Bool.{Bool, true, false, cond}
+use mathlib.Core.Option.{Option, none, some}
+use mathlib.Core.List.{List}
+use lib.Dec.{eqb}
+use native.Mathlib.Omega.{arith}
+use borrow.Author.Tests.{eqb-false, leb-true, leb-false, ne-eqb}
+use Rattle.arena.specs.declared.DagArena.{DagArena}
+use Rattle.definitions.specs.Machine.{Call, Answer}
+use Rattle.store.specs.Memory.{Memory, memory, Leaves}
+use Rattle.history.specs.Encoding.{firstWithOperands, firstRewriting, lastCode, callOf, known}
+
+-- a function's answer and counts, handed on as the reply of its code
+pub runs : (code k a b high low : ℕ) (operands : List ℕ) (x : Call) (m : Memory) (words slots : List ℕ) (answer reply : Answer) (arena after : DagArena)
+    → code ≡ k → Leaves x m answer (memory words slots arena) → (reply ≡ answer) × (after ≡ arena) → callOf k a b high low operands ≡ some x
+    → (c : Call) → callOf code a b high low operands ≡ some c → Leaves c m reply (memory words slots after)
+runs code k a b high low operands x m words slots answer reply arena after e h (same, kept) table c g =
+    let f : some x ≡ some c = sym table ∙ ap (λ n. callOf n a b high low operands) (sym e) ∙ g in
+    let xc : x ≡ c = cc in
+    subst (λ y. Leaves y m reply (memory words slots after)) xc
+    (subst (λ y. Leaves x m y (memory words slots after)) (sym same)
+    (subst (λ y. Leaves x m answer (memory words slots y)) (sym kept) h))
+
+-- ---- the last code of those below a bound
+
+above : (code k : ℕ) → k ≤ code → (code ≡ k → ⊥) → k < code
+above code k h n = omega arith
+
+zero-least : (n : ℕ) → 0 ≤ n
+zero-least n = omega arith
+
+exactly : (code k : ℕ) → k ≤ code → code < suc k → code ≡ k
+exactly code k h l = omega arith
+
+pub last-small : (code : ℕ) → code < firstWithOperands → (code ≡ 0 → ⊥) → (code ≡ 1 → ⊥) → (code ≡ 2 → ⊥) → (code ≡ 3 → ⊥) → (code ≡ 4 → ⊥) → (code ≡ 5 → ⊥) → (code ≡ 6 → ⊥) → (code ≡ 7 → ⊥) → code ≡ 8
+last-small code l n0 n1 n2 n3 n4 n5 n6 n7 =
+    exactly code 8
+    (above code 7 (above code 6 (above code 5 (above code 4 (above code 3 (above code 2 (above code 1 (above code 0 (zero-least code) n0) n1) n2) n3) n4) n5) n6) n7)
+    l
+
+pub past-last : (code : ℕ) → firstRewriting ≤ code → (code ≡ 15 → ⊥) → (code ≡ 16 → ⊥) → (code ≡ 17 → ⊥) → lastCode < code
+past-last code h n15 n16 n17 = above code 17 (above code 16 (above code 15 h n15) n16) n17
+
+-- ---- the table
+
+abbrev pub HasCall : Option Call → Type 0
+HasCall o = (c : Call) × (o ≡ some c)
+
+line : (code k : ℕ) (x : Call) (o : Option Call) → k ≤ code → (k < code → HasCall o) → HasCall (cond (eqb code k) (some x) o)
+line code k x o h f = go (eqb code k) refl
+  where
+    go : (b : Bool) → eqb code k ≡ b → HasCall (cond b (some x) o)
+    go true e = (x, refl)
+    go false e = let n = eqb-false code k e in f (omega arith)
+
+past : (code k : ℕ) (x o : Option Call) → k < code → o ≡ none → cond (eqb code k) x o ≡ none
+past code k x o h e = ap (λ t. cond t x o) (ne-eqb code k (λ q. absurd (omega arith))) ∙ e
+
+no-call : (A : Type 0) (c : Call) → none ≡ some c → A
+no-call A c e = let z : _≡_ {A = ℕ} 0 1 = cc in absurd (omega arith)
+
+module _ (code a b high low : ℕ) (operands : List ℕ) where
+  pub known-has : known code ≡ true → HasCall (callOf code a b high low operands)
+  unfolding callOf
+  known-has h =
+      let few = leb-true code lastCode h in
+      line code 0 _ _ (omega arith) (λ n0.
+      line code 1 _ _ (omega arith) (λ n1.
+      line code 2 _ _ (omega arith) (λ n2.
+      line code 3 _ _ (omega arith) (λ n3.
+      line code 4 _ _ (omega arith) (λ n4.
+      line code 5 _ _ (omega arith) (λ n5.
+      line code 6 _ _ (omega arith) (λ n6.
+      line code 7 _ _ (omega arith) (λ n7.
+      line code 8 _ _ (omega arith) (λ n8.
+      line code 9 _ _ (omega arith) (λ n9.
+      line code 10 _ _ (omega arith) (λ n10.
+      line code 11 _ _ (omega arith) (λ n11.
+      line code 12 _ _ (omega arith) (λ n12.
+      line code 13 _ _ (omega arith) (λ n13.
+      line code 14 _ _ (omega arith) (λ n14.
+      line code 15 _ _ (omega arith) (λ n15.
+      line code 16 _ _ (omega arith) (λ n16.
+      line code 17 _ _ (omega arith) (λ n17. absurd (omega arith)))))))))))))))))))
+
+  pub past-has-none : lastCode < code → callOf code a b high low operands ≡ none
+  unfolding callOf
+  past-has-none h =
+      past code 0 _ _ (omega arith)
+      (past code 1 _ _ (omega arith)
+      (past code 2 _ _ (omega arith)
+      (past code 3 _ _ (omega arith)
+      (past code 4 _ _ (omega arith)
+      (past code 5 _ _ (omega arith)
+      (past code 6 _ _ (omega arith)
+      (past code 7 _ _ (omega arith)
+      (past code 8 _ _ (omega arith)
+      (past code 9 _ _ (omega arith)
+      (past code 10 _ _ (omega arith)
+      (past code 11 _ _ (omega arith)
+      (past code 12 _ _ (omega arith)
+      (past code 13 _ _ (omega arith)
+      (past code 14 _ _ (omega arith)
+      (past code 15 _ _ (omega arith)
+      (past code 16 _ _ (omega arith)
+      (past code 17 _ _ (omega arith) refl)))))))))))))))))
+
+  pub unknown-has-none : known code ≡ false → callOf code a b high low operands ≡ none
+  unknown-has-none h = past-has-none (leb-false code lastCode h)
+
+  -- what a code without a call leaves need not be said
+  pub runs-unknown : lastCode < code → (m m′ : Memory) (reply : Answer) (c : Call) → callOf code a b high low operands ≡ some c → Leaves c m reply m′
+  runs-unknown h m m′ reply c g = no-call (Leaves c m reply m′) c (sym (past-has-none h) ∙ g)

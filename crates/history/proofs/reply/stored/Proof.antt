@@ -1,0 +1,24 @@
+use mathlib.Core.Path.{refl, sym, ap}
+use Rattle.store.specs.Memory.{answerOf}
+use borrow.Author.Needs.{needs}
+use Rattle.history.proofs.reply.stored.Statement.{statement}
+use Rattle.history.proofs.reply.stored.Tie as tie
+
+-- src/reply.rt:33:27
+enum-known-answer : tie.Need-enum-known-answer
+enum-known-answer c = search needs
+
+-- src/reply.rt:37:32
+enum-known-answer-2 : tie.Need-enum-known-answer-2
+enum-known-answer-2 c = search needs
+
+-- src/reply.rt:27:1
+returns : tie.Need-returns
+returns c = (sym (ap answerOf (c .before .answer .given .1)), refl)
+
+-- src/reply.rt:27:1
+returns-2 : tie.Need-returns-2
+returns-2 c = (sym (ap answerOf (c .before .answer2 .given .1)), refl)
+
+pub stored-spec : {M : Type 1} → statement M
+stored-spec = tie.close (tie.spec enum-known-answer enum-known-answer-2 returns returns-2)

@@ -1,0 +1,48 @@
+-- What a reply is in the plain machine's terms, and what finding and running one encoded call say.
+use Prim.Native.Nat.{ℕ, _+_, _-_, _≤_}
+use mathlib.Core.Path.{_≡_}
+use mathlib.Core.Bool.{true, false}
+use mathlib.Core.Option.{Option, none, some}
+use mathlib.Core.List.{List}
+use lib.ListN.{length, getD, take, drop}
+use Rattle.definitions.specs.Machine as M
+use Rattle.store.specs.Memory.{Memory, Leaves}
+use Rattle.history.specs.declared.reply.Reply.{Reply}
+use Rattle.history.specs.declared.reply.Reply.the-variants.{Stored, Simplified, Spent, Pruned, Refused}
+use Rattle.history.specs.declared.reply.Answered.{Answered}
+use Rattle.history.specs.declared.finding.Next.{Next}
+use Rattle.history.specs.declared.finding.Next.the-variants.{Call, Stop}
+use Rattle.history.specs.Encoding.{headerWords, callOf, firstCall}
+
+-- an answer of the plain machine
+abbrev pub replyOf : Reply → M.Answer
+replyOf (Stored id) = M.stored id
+replyOf (Simplified id steps) = M.simplified id false steps
+replyOf (Spent id steps) = M.simplified id true steps
+replyOf (Pruned id kept dropped) = M.pruned id kept dropped
+replyOf (Refused number) = M.refused number
+
+-- the call of a code and its arguments meets the contract of the public call that it stands for
+abbrev pub Runs : ℕ → ℕ → ℕ → ℕ → ℕ → List ℕ → Memory → Answered → Memory → Type 0
+Runs code a b high low operands m r m′ = (c : M.Call) → callOf code a b high low operands ≡ some c → Leaves c m (replyOf (r .reply)) m′
+
+-- the call whose header stands at one place, with the operands up to another
+abbrev pub callBetween : List ℕ → ℕ → ℕ → Option M.Call
+callBetween calls at end =
+    callOf (getD calls at 0) (getD calls (at + 1) 0) (getD calls (at + 2) 0) (getD calls (at + 3) 0) (getD calls (at + 4) 0)
+    (take (end - (at + headerWords)) (drop (at + headerWords) calls))
+
+abbrev pub RunsAt : List ℕ → ℕ → ℕ → Memory → Answered → Memory → Type 0
+RunsAt calls at end m r m′ = (c : M.Call) → callBetween calls at end ≡ some c → Leaves c m (replyOf (r .reply)) m′
+
+-- a whole call with a known code stands between two places, and it is the first of the words from there on
+pub record Whole (calls : List ℕ) (at end : ℕ) : Type 0 where
+  pub call : M.Call
+  pub header : at + headerWords ≤ end
+  pub fits : end ≤ length calls
+  pub between : callBetween calls at end ≡ some call
+  pub first : firstCall (drop at calls) ≡ some (call, drop end calls)
+
+pub record Finds (calls : List ℕ) (at : ℕ) (r : Next) : Type 0 where
+  pub stops : r ≡ Stop → firstCall (drop at calls) ≡ none
+  pub finds : (end : ℕ) → r ≡ Call end → Whole calls at end

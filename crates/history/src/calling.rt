@@ -1,0 +1,158 @@
+// One call, by its code. The codes are those of specs/Encoding.antt: 0 to 14 the store calls, 15 simplify, 16 prune, 17 prune
+// by setting.
+ghost use mathlib.Core.Path.{_≡_};
+ghost use Prim.Native.Nat.{_≤_, _<_};
+ghost use Rattle.store.specs.Memory.{memory};
+ghost use Rattle.history.specs.Encoding as Encoding;
+ghost use Rattle.history.specs.Encoding.{firstWithOperands, firstRewriting};
+ghost use Rattle.history.specs.Calling.{Runs};
+use crate::reply::Answered;
+use crate::reply::NO_CALL;
+use crate::reply::Reply;
+use crate::reply::pruned;
+use crate::reply::simplified;
+use crate::reply::stored;
+use arena::DagArena;
+
+// Codes below this one are calls over at most two arguments.
+const FIRST_WITH_OPERANDS: u32 = 9;
+// Codes from this one on are no store calls.
+const FIRST_REWRITING: u32 = 15;
+
+// 2^32, which the high half counts.
+const HALF: u64 = 4294967296;
+
+// A number of 64 bits by its halves.
+fn wide(high: u32, low: u32) -> u64
+    ensures { λ r. ⌜ r ≡ Encoding.wide high low ⌝ }
+{
+    high as u64 * HALF + low as u64
+}
+
+// Variables, constants, and the operators that have a call of their own.
+fn call_small(
+    nodes: &mut [u64],
+    slots: &mut [u32],
+    arena: DagArena,
+    code: u32,
+    a: u32,
+    b: u32,
+    high: u32,
+    low: u32,
+    operands: &[u32],
+) -> Answered
+    requires { ⌜ code < firstWithOperands ⌝ }
+    ensures { λ r. ⌜ Runs code a b high low (now (operands .entry)) (memory (now (nodes .entry)) (now (slots .entry)) arena) r (memory (now (nodes .exit)) (now (slots .exit)) (r .arena)) ⌝ }
+{
+    if code == 0 {
+        return stored(builder::variable(nodes, slots, arena, a));
+    }
+    if code == 1 {
+        return stored(builder::constant(nodes, slots, arena, wide(high, low)));
+    }
+    if code == 2 {
+        return stored(builder::add(nodes, slots, arena, a, b));
+    }
+    if code == 3 {
+        return stored(builder::sub(nodes, slots, arena, a, b));
+    }
+    if code == 4 {
+        return stored(builder::mul(nodes, slots, arena, a, b));
+    }
+    if code == 5 {
+        return stored(builder::div(nodes, slots, arena, a, b));
+    }
+    if code == 6 {
+        return stored(builder::pow(nodes, slots, arena, a, b));
+    }
+    if code == 7 {
+        return stored(builder::modulo(nodes, slots, arena, a, b));
+    }
+    stored(builder::neg(nodes, slots, arena, a))
+}
+
+// Operators by code, functions and controls.
+fn call_with_operands(
+    nodes: &mut [u64],
+    slots: &mut [u32],
+    arena: DagArena,
+    code: u32,
+    a: u32,
+    b: u32,
+    high: u32,
+    low: u32,
+    operands: &[u32],
+) -> Answered
+    requires { ⌜ (firstWithOperands ≤ code) × (code < firstRewriting) ⌝ }
+    ensures { λ r. ⌜ Runs code a b high low (now (operands .entry)) (memory (now (nodes .entry)) (now (slots .entry)) arena) r (memory (now (nodes .exit)) (now (slots .exit)) (r .arena)) ⌝ }
+{
+    if code == 9 {
+        return stored(builder::operator(nodes, slots, arena, a, b, operands));
+    }
+    if code == 10 {
+        return stored(builder::function(nodes, slots, arena, a, operands));
+    }
+    if code == 11 {
+        return stored(builder::select(nodes, slots, arena, a, b, high));
+    }
+    if code == 12 {
+        return stored(builder::if_else(nodes, slots, arena, a, b, high));
+    }
+    if code == 13 {
+        return stored(builder::for_loop(nodes, slots, arena, a, b, high, low));
+    }
+    stored(builder::control(nodes, slots, arena, a, operands))
+}
+
+// Simplify and the two prunes; no call has a code past theirs.
+fn call_rewriting(
+    nodes: &mut [u64],
+    slots: &mut [u32],
+    arena: DagArena,
+    code: u32,
+    a: u32,
+    b: u32,
+    high: u32,
+    low: u32,
+    operands: &[u32],
+) -> Answered
+    requires { ⌜ firstRewriting ≤ code ⌝ }
+    ensures { λ r. ⌜ Runs code a b high low (now (operands .entry)) (memory (now (nodes .entry)) (now (slots .entry)) arena) r (memory (now (nodes .exit)) (now (slots .exit)) (r .arena)) ⌝ }
+{
+    if code == 15 {
+        return simplified(walk::simplify(nodes, slots, arena, a, b, wide(high, low)));
+    }
+    if code == 16 {
+        return pruned(pruner::prune(nodes, slots, arena, a, wide(high, low)));
+    }
+    if code == 17 {
+        return pruned(pruner::prune_by_setting(nodes, slots, arena, a, b));
+    }
+    Answered {
+        reply: Reply::Refused(NO_CALL),
+        arena,
+    }
+}
+
+// The call of a code. An unknown code changes nothing.
+pub fn call(
+    nodes: &mut [u64],
+    slots: &mut [u32],
+    arena: DagArena,
+    code: u32,
+    a: u32,
+    b: u32,
+    high: u32,
+    low: u32,
+    operands: &[u32],
+) -> Answered
+    ensures { λ r. ⌜ Runs code a b high low (now (operands .entry)) (memory (now (nodes .entry)) (now (slots .entry)) arena) r (memory (now (nodes .exit)) (now (slots .exit)) (r .arena)) ⌝ }
+{
+    if code < FIRST_WITH_OPERANDS {
+        return call_small(nodes, slots, arena, code, a, b, high, low, operands);
+    }
+    if code < FIRST_REWRITING {
+        return call_with_operands(nodes, slots, arena, code, a, b, high, low, operands);
+    }
+    call_rewriting(nodes, slots, arena, code, a, b, high, low, operands)
+}
