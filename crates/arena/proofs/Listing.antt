@@ -42,7 +42,7 @@ four payload arity e = rw e refl
 
 pub no-control : (payload arity : ℕ) → 2 ≤ payload → (payload ≡ 2 → ⊥) → false ≡ controlArity payload arity
 unfolding controlArity
-no-control payload arity l n = rw (ne-eqb payload 0 (λ e. omega arith), ne-eqb payload 1 (λ e. omega arith), ne-eqb payload 2 n) refl
+no-control payload arity l n = rw (lt-leb payload 2 (omega arith)) refl
 
 module _ (kind payload arity : ℕ) where
   pub variable-low : kind ≡ 0 → payload < 4294967296 → eqb arity 0 ≡ listed kind payload arity
@@ -91,16 +91,16 @@ choice false x y h = inr h
 few-operator : (kind arity : ℕ) → operatorArity kind arity ≡ true → arity ≤ mostChildren
 unfolding operatorArity
 few-operator kind arity h = ⊎-elim
-    (λ s. leb-true arity 4 (both (leb 1 arity) (leb arity 4) s .1))
+    (λ s. let z = leb-true arity 4 (both (leb 1 arity) (leb arity 4) s .1) in omega arith)
     (λ r. ⊎-elim (λ e. let z = eqb-true arity 1 e in omega arith) (λ e. let z = eqb-true arity 2 e in omega arith) (choice (eqb kind 8) (eqb arity 1) (eqb arity 2) r))
     (choice (eqb kind 2 || eqb kind 4) (leb 1 arity && leb arity 4) (cond (eqb kind 8) (eqb arity 1) (eqb arity 2)) h)
 
 few-control : (payload arity : ℕ) → controlArity payload arity ≡ true → arity ≤ mostChildren
 unfolding controlArity
 few-control payload arity h = ⊎-elim
+    (λ e. let z = eqb-true arity 4 e in omega arith)
     (λ e. let z = eqb-true arity 3 e in omega arith)
-    (λ r. ⊎-elim (λ e. let z = eqb-true arity 4 e in omega arith) (λ e. absurd (false≢true e)) (choice (eqb payload 2) (eqb arity 4) false r))
-    (choice (eqb payload 0 || eqb payload 1) (eqb arity 3) (cond (eqb payload 2) (eqb arity 4) false) h)
+    (choice (eqb payload 2) (eqb arity 4) (eqb arity 3) (both (leb payload 2) _ h .1))
 
 pub listed-few : (kind payload arity : ℕ) → listed kind payload arity ≡ true → arity ≤ mostChildren
 unfolding listed

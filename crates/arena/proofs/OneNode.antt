@@ -8,18 +8,17 @@ use lib.Seq.{ext-getD}
 use lib.Dec.{eqb}
 use borrow.Author.Tests.{eq-eqb, eqb-true}
 use Rattle.arena.specs.declared.node.DagNode.{DagNode}
-use Rattle.arena.specs.Node.{one, sameChildren, nodeHash, canonical}
+use Rattle.definitions.specs.Node.{sameChildren}
+use Rattle.arena.specs.Node.{one, nodeHash, canonical}
 use Rattle.arena.proofs.Deciding.{both, is-false, same-test}
 
 pub children-eq : (a b : List ℕ) → sameChildren a b ≡ true → a ≡ b
-unfolding sameChildren
 children-eq [] [] h = refl
 children-eq [] (y ∷ b) h = absurd (false≢true h)
 children-eq (x ∷ a) [] h = absurd (false≢true h)
 children-eq (x ∷ a) (y ∷ b) h = let t = both (eqb x y) (sameChildren a b) h in let e = eqb-true x y (t .0) in let f = children-eq a b (t .1) in rw (e, f) refl
 
 pub children-refl : (a : List ℕ) → sameChildren a a ≡ true
-unfolding sameChildren
 children-refl [] = refl
 children-refl (x ∷ a) = rw (eq-eqb x x refl) (children-refl a)
 

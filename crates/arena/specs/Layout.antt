@@ -1,15 +1,9 @@
 -- The words of a node. 01: "A node is 10 words of 64 bits in a lent list: kind, payload, hash, coefficient bits, flags, child count, four child places".
 use Prim.Native.Nat.{ℕ}
-
-abbrev pub mostChildren : ℕ
-mostChildren = 4
+pub use Rattle.definitions.specs.Limits.{mostChildren, mostNodes}
 
 abbrev pub nodeWords : ℕ
 nodeWords = 10
-
--- 01: "65,536 at most"
-abbrev pub mostNodes : ℕ
-mostNodes = 65536
 
 -- where a node's words stand, counted from its first
 abbrev pub kindWord : ℕ

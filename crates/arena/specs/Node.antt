@@ -1,14 +1,14 @@
 -- A node, and its words in the lent list.
 use Prim.Native.Nat.{ℕ, zero, suc, _+_, _*_, _%_}
-use mathlib.Core.Bool.{Bool, true, false, cond, _&&_}
+use mathlib.Core.Bool.{Bool, cond, _&&_}
 use mathlib.Core.List.{List, [], _∷_, _++_}
 use mathlib.Core.Option.{Option, none, some}
 use lib.ListN.{getD, take, drop, set}
 use lib.Dec.{eqb}
+use Rattle.definitions.specs.Node.{constantKind, sameChildren}
 use Rattle.hash.specs.Fnv.{nodeHashOf}
 use Rattle.arena.specs.declared.node.DagNode.{DagNode}
 use Rattle.arena.specs.Layout.{nodeWords, mostChildren, kindWord, payloadWord, hashWord, coefficientWord, flagsWord, arityWord, childrenWord}
-use Rattle.arena.specs.Kind.{constant}
 
 -- so many words from a place on
 unfoldable pub wordsFrom : ℕ → List ℕ → ℕ → List ℕ
@@ -34,13 +34,6 @@ wordsOf n = n .kind ∷ n .payload ∷ n .hash ∷ n .coefficient ∷ n .flags �
 -- the list with a node's words at an id, and every other word as it was
 unfoldable pub put : List ℕ → ℕ → DagNode → List ℕ
 put words id n = take (id * nodeWords) words ++ wordsOf n ++ drop (id * nodeWords + nodeWords) words
-
--- two lists of children agree
-unfoldable pub sameChildren : List ℕ → List ℕ → Bool
-sameChildren [] [] = true
-sameChildren [] (y ∷ b) = false
-sameChildren (x ∷ a) [] = false
-sameChildren (x ∷ a) (y ∷ b) = eqb x y && sameChildren a b
 
 -- 01: "Flags: 1 commutative, 2 associative, 4 canonical"
 abbrev pub canonical : ℕ
@@ -68,7 +61,7 @@ bitsOfOne = 4607182418800017408
 
 -- 01: "Coefficient: a constant's value, else 1.0."
 unfoldable pub coefficient : ℕ → ℕ → ℕ
-coefficient kind payload = cond (eqb kind constant) payload bitsOfOne
+coefficient kind payload = cond (eqb kind constantKind) payload bitsOfOne
 
 -- a node with its hash and its coefficient
 unfoldable pub newNode : ℕ → ℕ → ℕ → ℕ → List ℕ → DagNode

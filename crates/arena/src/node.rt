@@ -2,10 +2,11 @@
 ghost use mathlib.Core.Path.{_≡_};
 ghost use Prim.Native.Nat.{_+_, _*_, _≤_};
 ghost use lib.ListN.{length, take};
+ghost use Rattle.definitions.specs.Node.{sameChildren};
 ghost use Rattle.hash.specs.Fnv.{nodeHashOf};
 ghost use lib.Seq.{paste};
 ghost use Rattle.arena.specs.Layout.{nodeWords, mostChildren};
-ghost use Rattle.arena.specs.Node.{wordsFrom, nodeAt, put, sameChildren, one, coefficient, newNode, marked};
+ghost use Rattle.arena.specs.Node.{wordsFrom, nodeAt, put, one, coefficient, newNode, marked};
 use crate::ARITY;
 use crate::CANONICAL;
 use crate::CHILDREN;

@@ -17,11 +17,13 @@ use Rattle.arena.proofs.Putting.{put-old, put-new}
 use Rattle.arena.proofs.Adding.{nodes-add}
 use Rattle.dedup.specs.declared.Answer.the-variants.{Old, New, Refused}
 use Rattle.dedup.specs.declared.Interned.{Interned}
-use Rattle.dedup.specs.Table.{loadLimit, Table, hashAt}
+use Rattle.definitions.specs.Refusals.{noNodePlace, noSlotPlace}
+use Rattle.definitions.specs.Intern.{capacity}
+use Rattle.dedup.specs.Table.{UsedStay, Table, hashAt}
 use Rattle.dedup.specs.Insert.{FirstFree, Taken, Fits, Rehashed}
 use Rattle.dedup.specs.Intern.{answered, newAnswer, internAnswer, wordsAfter, SlotsKept, Interns, Absent}
 use Rattle.dedup.proofs.Doubling.{at-least, doubled-twice}
-use Rattle.dedup.proofs.Placing.{first-free, table-add, past-add}
+use Rattle.dedup.proofs.Placing.{first-free, still, table-add, past-add}
 
 -- an old node
 pub old-answer : (w slots : List ℕ) (a : DagArena) (key : DagNode) (id : ℕ) → find w (a .count) key ≡ some id → Nodes w (a .count) → Table (hashAt w) (a .count) slots (a .size) → Interns w slots a key (answered (Old id) (a .count) (a .size)) w slots
@@ -43,21 +45,21 @@ module _ (w slots : List ℕ) (a : DagArena) (key : DagNode) (place : ℕ) (x : 
   unfolding wordsAfter SlotsKept
   refuse k e = record { answer = new _ e; words-after = refl; slots-kept = refl; slots-past = refl; nodes = x .nodes; table = x .table }
 
-  pub refuse-count : mostNodes ≤ count → Interns w slots a key (answered (Refused 21) count size) w slots
+  pub refuse-count : mostNodes ≤ count → Interns w slots a key (answered (Refused noNodePlace) count size) w slots
   unfolding newAnswer
-  refuse-count m = refuse 21 (rw (le-leb mostNodes count m) refl)
+  refuse-count m = refuse noNodePlace (rw (le-leb mostNodes count m) refl)
 
-  pub refuse-words : count < mostNodes → length w < count * nodeWords + nodeWords → Interns w slots a key (answered (Refused 21) count size) w slots
+  pub refuse-words : count < mostNodes → length w < count * nodeWords + nodeWords → Interns w slots a key (answered (Refused noNodePlace) count size) w slots
   unfolding newAnswer
-  refuse-words m l = refuse 21 (rw (lt-leb mostNodes count m, lt-ltb (length w) (count * nodeWords + nodeWords) l) refl)
+  refuse-words m l = refuse noNodePlace (rw (lt-leb mostNodes count m, lt-ltb (length w) (count * nodeWords + nodeWords) l) refl)
 
   module _ (many : count < mostNodes) (fits : count * nodeWords + nodeWords ≤ length w) where
     no-21 : (leb mostNodes count || ltb (length w) (count * nodeWords + nodeWords)) ≡ false
     no-21 = rw (lt-leb mostNodes count many, le-ltb (length w) (count * nodeWords + nodeWords) fits) refl
 
-    pub refuse-slots : loadLimit size ≤ count → length slots < size * 2 → Interns w slots a key (answered (Refused 22) count size) w slots
+    pub refuse-slots : capacity size ≤ count → length slots < size * 2 → Interns w slots a key (answered (Refused noSlotPlace) count size) w slots
     unfolding newAnswer
-    refuse-slots l m = refuse 22 (rw (no-21, lt-leb (count + 1) (loadLimit size) (omega arith), lt-ltb (length slots) (size * 2) m) refl)
+    refuse-slots l m = refuse noSlotPlace (rw (no-21, lt-leb (count + 1) (capacity size) (omega arith), lt-ltb (length slots) (size * 2) m) refl)
 
     module _ (len : length (key .children) ≡ mostChildren) where
       abbrev w′ : List ℕ
@@ -73,37 +75,40 @@ module _ (w slots : List ℕ) (a : DagArena) (key : DagNode) (place : ℕ) (x : 
       nodes′ = nodes-add w count key many fits len (x .nodes) (x .formed) (x .absent)
 
       -- in a table of the same nodes, at a size that is enough
-      module _ (big : ℕ) (slots₁ : List ℕ) (t : Table (hashAt w) count slots₁ big) (at : ℕ) (free : FirstFree slots₁ big (key .hash) at) (load : count + 1 ≤ loadLimit big) where
+      module _ (big : ℕ) (slots₁ : List ℕ) (t : Table (hashAt w) count slots₁ big) (at : ℕ) (free : FirstFree slots₁ big (key .hash) at) (load : count + 1 ≤ capacity big) where
         table′ : Table (hashAt w′) (count + 1) (set slots₁ at (count + 1)) big
         table′ = table-add (hashAt w) count slots₁ big t (hashAt w′) old-hash at (rw new-hash free) load
+
+        stay′ : UsedStay slots₁ (set slots₁ at (count + 1))
+        stay′ = still (hashAt w) count slots₁ big t (hashAt w′) old-hash at (rw new-hash free) load
 
         past′ : drop big (set slots₁ at (count + 1)) ≡ drop big slots₁
         past′ = past-add (hashAt w) count slots₁ big t (hashAt w′) old-hash at (rw new-hash free) load
 
-      pub added : count < loadLimit size → Interns w slots a key (answered (New count) (count + 1) size) w′ (set slots place (count + 1))
+      pub added : count < capacity size → Interns w slots a key (answered (New count) (count + 1) size) w′ (set slots place (count + 1))
       unfolding newAnswer wordsAfter SlotsKept
       added l =
           let free = first-free w count slots size key place (x .free) in record {
-            answer = new _ (rw (no-21, le-leb (count + 1) (loadLimit size) (omega arith)) refl);
+            answer = new _ (rw (no-21, le-leb (count + 1) (capacity size) (omega arith)) refl);
             words-after = refl;
-            slots-kept = tt;
+            slots-kept = λ _. stay′ size slots (x .table) place free (omega arith);
             slots-past = past′ size slots (x .table) place free (omega arith);
             nodes = nodes′;
             table = table′ size slots (x .table) place free (omega arith);
           }
 
-      module _ (l : loadLimit size ≤ count) (m : size ≤ length slots / 2) where
+      module _ (l : capacity size ≤ count) (m : size ≤ length slots / 2) where
         pub doubles : Fits count slots (size * 2)
         doubles = record { doubled = doubled-twice size (x .table .doubled); sized = omega arith; load = let p = x .table .load in omega arith }
 
         pub added-doubled : (slots₁ slots₂ : List ℕ) → Rehashed (hashAt w) count slots (size * 2) slots₁ → Taken slots₁ (size * 2) (key .hash) count slots₂ → Interns w slots a key (answered (New count) (count + 1) (size * 2)) w′ slots₂
         unfolding newAnswer wordsAfter SlotsKept
         added-doubled slots₁ slots₂ r k =
-            let load : count + 1 ≤ loadLimit (size * 2) = let p = x .table .load in let q = at-least size (x .table .doubled) in omega arith in
+            let load : count + 1 ≤ capacity (size * 2) = let p = x .table .load in let q = at-least size (x .table .doubled) in omega arith in
             rw (k .after) (record {
-              answer = new _ (rw (no-21, lt-leb (count + 1) (loadLimit size) (omega arith), le-ltb (length slots) (size * 2) (omega arith)) refl);
+              answer = new _ (rw (no-21, lt-leb (count + 1) (capacity size) (omega arith), le-ltb (length slots) (size * 2) (omega arith)) refl);
               words-after = refl;
-              slots-kept = tt;
+              slots-kept = λ same. absurd (let p = at-least size (x .table .doubled) in omega arith);
               slots-past = past′ (size * 2) slots₁ (r .table) (k .place) (k .free) load ∙ r .past;
               nodes = nodes′;
               table = table′ (size * 2) slots₁ (r .table) (k .place) (k .free) load;

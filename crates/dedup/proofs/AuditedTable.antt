@@ -11,7 +11,8 @@ use Rattle.arena.specs.Node.{nodeAt}
 use Rattle.arena.specs.Nodes.{AllWellFormed, Nodes}
 use Rattle.arena.proofs.Deciding.{is-false}
 use Rattle.arena.proofs.OneNode.{one-hash}
-use Rattle.dedup.specs.Table.{loadLimit, TableSize, slotFrom, Placed, Table, hashAt}
+use Rattle.definitions.specs.Intern.{capacity}
+use Rattle.dedup.specs.Table.{TableSize, slotFrom, Placed, Table, hashAt}
 use Rattle.dedup.specs.Probe.{holds}
 use Rattle.dedup.specs.Audit.{usedSlots, MeetsOwn, AllMeetOwn}
 use Rattle.dedup.proofs.Doubling.{positive}
@@ -112,7 +113,7 @@ module _ (w : List ℕ) (count : ℕ) (slots : List ℕ) (size : ℕ) where
     placed : (i : ℕ) → i < count → Placed slots size (hashAt w i) (suc i)
     placed i l = let m = own i l in record { far = m .reached .far; near = m .reached .near; here = ap (λ (x : ℕ). getD slots x 0) (sym (m .reached .is)) ∙ m .value; used = m .reached .passed .used }
 
-    pub sound-of : AllWellFormed w count → TableSize size → size ≤ length slots → count ≤ loadLimit size → Nodes w count × Table (hashAt w) count slots size
+    pub sound-of : AllWellFormed w count → TableSize size → size ≤ length slots → count ≤ capacity size → Nodes w count × Table (hashAt w) count slots size
     sound-of f t s l = (
       record {
         formed = f;

@@ -10,7 +10,8 @@ use native.Mathlib.Nat.{eq-or-lt-of-le, le-of-suc-le-suc, mod-lt}
 use native.Mathlib.Decide.{ℕ-discrete}
 use native.Mathlib.Numerals.{add-one}
 use Rattle.arena.specs.declared.node.DagNode.{DagNode}
-use Rattle.dedup.specs.Table.{loadLimit, Placed, Table}
+use Rattle.definitions.specs.Intern.{capacity}
+use Rattle.dedup.specs.Table.{UsedStay, Placed, Table}
 use Rattle.dedup.specs.Probe.{Frees}
 use Rattle.dedup.specs.Insert.{Room, FirstFree}
 use Rattle.dedup.proofs.Doubling.{positive}
@@ -36,7 +37,7 @@ module _ (hash : ℕ → ℕ) (count : ℕ) (slots : List ℕ) (size : ℕ) (t :
           apart p q lp lq e = t .single p q lp lq (f p lp) (let n = f p lp in let m = f q lq in omega arith)
 
   -- the next id in the first free place from its hash
-  module _ (hash′ : ℕ → ℕ) (old : (i : ℕ) → i < count → hash′ i ≡ hash i) (p : ℕ) (free : FirstFree slots size (hash′ count) p) (fits : count + 1 ≤ loadLimit size) where
+  module _ (hash′ : ℕ → ℕ) (old : (i : ℕ) → i < count → hash′ i ≡ hash i) (p : ℕ) (free : FirstFree slots size (hash′ count) p) (fits : count + 1 ≤ capacity size) where
     abbrev slots′ : List ℕ
     slots′ = set slots p (count + 1)
 
@@ -50,7 +51,7 @@ module _ (hash : ℕ → ℕ) (count : ℕ) (slots : List ℕ) (size : ℕ) (t :
     other q n = getD-set-other slots p q (count + 1) 0 n
 
     -- what was in use stays so
-    still : (q : ℕ) → (getD slots q 0 ≡ 0 → ⊥) → getD slots′ q 0 ≡ getD slots q 0
+    pub still : UsedStay slots slots′
     still q n = other q (λ e. n (ap (λ (x : ℕ). getD slots x 0) e ∙ free .empty))
 
     still-used : (q : ℕ) → (getD slots q 0 ≡ 0 → ⊥) → getD slots′ q 0 ≡ 0 → ⊥

@@ -5,7 +5,8 @@ use mathlib.Core.List.{List, _++_}
 use lib.ListN.{getD, length, drop, replicate, length-replicate, getD-replicate, length-append, length-drop, List·getD-append}
 use lib.Seq.{drop-at}
 use native.Mathlib.Omega.{arith}
-use Rattle.dedup.specs.Table.{loadLimit, TableSize, Table}
+use Rattle.definitions.specs.Intern.{capacity}
+use Rattle.dedup.specs.Table.{TableSize, Table}
 use Rattle.dedup.specs.Insert.{Taken}
 use Rattle.dedup.proofs.Placing.{table-add, past-add}
 
@@ -27,7 +28,7 @@ pub empty-past : (n : ℕ) (l : List ℕ) → drop n (replicate n 0 ++ drop n l)
 empty-past n l = drop-at (replicate n 0) (drop n l) n (length-replicate n 0)
 
 -- one id more
-module _ (hash : ℕ → ℕ) (i : ℕ) (slots : List ℕ) (size h : ℕ) (slots′ : List ℕ) (t : Table hash i slots size) (e : h ≡ hash i) (fits : i + 1 ≤ loadLimit size) (k : Taken slots size h i slots′) where
+module _ (hash : ℕ → ℕ) (i : ℕ) (slots : List ℕ) (size h : ℕ) (slots′ : List ℕ) (t : Table hash i slots size) (e : h ≡ hash i) (fits : i + 1 ≤ capacity size) (k : Taken slots size h i slots′) where
   pub table-more : Table hash (i + 1) slots′ size
   table-more = rw (k .after) (table-add hash i slots size t hash (λ _ _. refl) (k .place) (rw (← e) (k .free)) fits)
 

@@ -3,7 +3,8 @@ use Prim.Native.Nat.{ℕ, _+_, _%_, _≤_, _<_}
 use mathlib.Core.Path.{_≡_}
 use mathlib.Core.List.{List}
 use lib.ListN.{length, getD, set, drop}
-use Rattle.dedup.specs.Table.{loadLimit, TableSize, Table, InUse}
+use Rattle.definitions.specs.Intern.{capacity}
+use Rattle.dedup.specs.Table.{TableSize, Table, InUse}
 
 -- some slot is empty
 pub record Room (slots : List ℕ) (size : ℕ) : Type 0 where
@@ -31,7 +32,7 @@ pub record Taken (slots : List ℕ) (size hash id : ℕ) (slots′ : List ℕ) :
 pub record Fits (count : ℕ) (slots : List ℕ) (size : ℕ) : Type 0 where
   pub doubled : TableSize size
   pub sized : size ≤ length slots
-  pub load : count ≤ loadLimit size
+  pub load : count ≤ capacity size
 
 -- the table of the same nodes, made anew at a size; slots past it stay
 pub record Rehashed (hash : ℕ → ℕ) (count : ℕ) (slots : List ℕ) (size : ℕ) (slots′ : List ℕ) : Type 0 where

@@ -14,7 +14,9 @@ use Rattle.arena.specs.Nodes.{WellFormed, Nodes}
 use Rattle.dedup.specs.declared.Answer.{Answer}
 use Rattle.dedup.specs.declared.Answer.the-variants.{Old, New, Refused}
 use Rattle.dedup.specs.declared.Interned.{Interned}
-use Rattle.dedup.specs.Table.{loadLimit, Table, hashAt}
+use Rattle.definitions.specs.Refusals.{noNodePlace, noSlotPlace}
+use Rattle.definitions.specs.Intern.{capacity}
+use Rattle.dedup.specs.Table.{UsedStay, Table, hashAt}
 use Rattle.dedup.specs.Probe.{Frees}
 
 abbrev pub answered : Answer → ℕ → ℕ → Interned
@@ -23,9 +25,9 @@ answered answer count size = record { answer = answer; arena = record { count = 
 -- to a new node, with so many words and slots lent. 01: "21 no place for a new node (65,536 at most). 22 a new node needs a doubling and the lent slots are too few"
 unfoldable pub newAnswer : ℕ → ℕ → ℕ → ℕ → Interned
 newAnswer words slots count size =
-    cond (leb mostNodes count || ltb words (count * nodeWords + nodeWords)) (answered (Refused 21) count size)
-    (cond (leb (count + 1) (loadLimit size)) (answered (New count) (count + 1) size)
-    (cond (ltb slots (size * 2)) (answered (Refused 22) count size)
+    cond (leb mostNodes count || ltb words (count * nodeWords + nodeWords)) (answered (Refused noNodePlace) count size)
+    (cond (leb (count + 1) (capacity size)) (answered (New count) (count + 1) size)
+    (cond (ltb slots (size * 2)) (answered (Refused noSlotPlace) count size)
     (answered (New count) (count + 1) (size * 2))))
 
 -- an old node is found before 21 or 22 can apply
@@ -39,17 +41,17 @@ wordsAfter (Old id) words key = words
 wordsAfter (New id) words key = put words id key
 wordsAfter (Refused number) words key = words
 
--- only a new node changes a slot
-unfoldable pub SlotsKept : Answer → List ℕ → List ℕ → Type 0
-SlotsKept (Old id) slots slots′ = slots′ ≡ slots
-SlotsKept (New id) slots slots′ = Unit {0}
-SlotsKept (Refused number) slots slots′ = slots′ ≡ slots
+-- only a new node changes slots: where the table keeps its size, it takes an empty one
+unfoldable pub SlotsKept : Answer → ℕ → ℕ → List ℕ → List ℕ → Type 0
+SlotsKept (Old id) size size′ slots slots′ = slots′ ≡ slots
+SlotsKept (New id) size size′ slots slots′ = size′ ≡ size → UsedStay slots slots′
+SlotsKept (Refused number) size size′ slots slots′ = slots′ ≡ slots
 
 -- the answer, the words after it, and the slots. 01: "Words and slots past the used ones stay."
 pub record Interns (words slots : List ℕ) (arena : DagArena) (key : DagNode) (r : Interned) (words′ slots′ : List ℕ) : Type 0 where
   pub answer : r ≡ internAnswer (find words (arena .count) key) (length words) (length slots) (arena .count) (arena .size)
   pub words-after : words′ ≡ wordsAfter (r .answer) words key
-  pub slots-kept : SlotsKept (r .answer) slots slots′
+  pub slots-kept : SlotsKept (r .answer) (arena .size) (r .arena .size) slots slots′
   pub slots-past : drop (r .arena .size) slots′ ≡ drop (r .arena .size) slots
   pub nodes : Nodes words′ (r .arena .count)
   pub table : Table (hashAt words′) (r .arena .count) slots′ (r .arena .size)

@@ -23,6 +23,7 @@ pub fn place(nodes: &[u64], slots: &mut [u32], size: usize, key: DagNode, id: u6
         Place::Free(at) => {
             slots[at] = (id + 1) as u32;
         }
+        // No node is compared and some slot is empty, so a search ends at none of these.
         Place::Here(_) => {}
         Place::Nowhere => {}
     }

@@ -1,7 +1,9 @@
 // The duplicate table of a store (dedup.rs): one node, one id. 01: "A slot is a 32-bit id + 1, or 0."
+ghost use mathlib.Core.Path.{_≡_};
 ghost use Rattle.arena.specs.Nodes.{WellFormed, Nodes};
 ghost use Rattle.dedup.specs.Table.{Table, hashAt};
-ghost use Rattle.dedup.specs.Intern.{Interns, Absent};
+ghost use Rattle.dedup.specs.Intern.{answered, Interns, Absent};
+ghost use Rattle.dedup.specs.declared.Answer.the-variants.{Refused};
 
 pub mod auditing;
 pub mod filling;
@@ -39,6 +41,16 @@ pub struct Interned {
     pub arena: DagArena,
 }
 
+// A refusal, which leaves the counts.
+fn refused(number: u64, arena: DagArena) -> Interned
+    ensures { λ r. ⌜ r ≡ answered (Refused number) (arena .count) (arena .size) ⌝ }
+{
+    Interned {
+        answer: Answer::Refused(number),
+        arena,
+    }
+}
+
 // A node that is none of the old ones, whose first free place is at hand.
 fn insert(
     nodes: &mut [u64],
@@ -53,16 +65,10 @@ fn insert(
     let count = arena.count;
     let size = arena.size;
     if MOST_NODES <= count {
-        return Interned {
-            answer: Answer::Refused(NO_PLACE),
-            arena,
-        };
+        return refused(NO_PLACE, arena);
     }
     if nodes.len() < count as usize * NODE_WORDS + NODE_WORDS {
-        return Interned {
-            answer: Answer::Refused(NO_PLACE),
-            arena,
-        };
+        return refused(NO_PLACE, arena);
     }
     if (count as usize) < load_limit(size) {
         slots[free] = (count + 1) as u32;
@@ -76,10 +82,7 @@ fn insert(
         };
     }
     if slots.len() / 2 < size {
-        return Interned {
-            answer: Answer::Refused(NO_SLOTS),
-            arena,
-        };
+        return refused(NO_SLOTS, arena);
     }
     let doubled = size * 2;
     rehash(nodes, slots, doubled, count);
@@ -113,9 +116,7 @@ pub fn get_or_insert(
             arena,
         },
         Place::Free(at) => insert(nodes, slots, arena, key, at),
-        Place::Nowhere => Interned {
-            answer: Answer::Refused(NO_SLOTS),
-            arena,
-        },
+        // A table within its load limit has an empty slot, so a search does not end here.
+        Place::Nowhere => refused(NO_SLOTS, arena),
     }
 }

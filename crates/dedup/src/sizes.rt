@@ -3,7 +3,8 @@
 ghost use mathlib.Core.Path.{_≡_};
 ghost use Prim.Native.Nat.{_%_};
 ghost use Rattle.arena.specs.Says.{Says};
-ghost use Rattle.dedup.specs.Table.{loadLimit, TableSize};
+ghost use Rattle.definitions.specs.Intern.{capacity};
+ghost use Rattle.dedup.specs.Table.{TableSize};
 
 pub const FIRST_SIZE: usize = 64;
 
@@ -13,7 +14,7 @@ const LOAD_OF: usize = 10;
 
 // floor(size·7/10), by parts that cannot overflow.
 pub fn load_limit(size: usize) -> usize
-    ensures { λ r. ⌜ r ≡ loadLimit size ⌝ }
+    ensures { λ r. ⌜ r ≡ capacity size ⌝ }
 {
     size / LOAD_OF * LOAD + size % LOAD_OF * LOAD / LOAD_OF
 }

@@ -4,7 +4,7 @@ use mathlib.Core.Path.{_≡_, refl, sym, ap, _∙_, subst}
 use mathlib.Core.Bool.{Bool, _&&_}
 use lib.Dec.{T, eqb, leb, ltb}
 use lib.IntN.{ℤ, pos, negsuc}
-use lib.Ieee.{Float, fin, binary64, ofBits, up, down, fits, prec, low, emax}
+use lib.Ieee.{Float, fin, binary64, ofBits, fits, prec, low, emax}
 use lib.Ieee.Bits.{ofBits-fits}
 use lib.Ieee.Fits.{and-l}
 use lib.Pow.{pow-add, pow-pos}
@@ -12,13 +12,8 @@ use native.Mathlib.Omega.{arith}
 use native.Mathlib.Decide.{decLe}
 use native.Mathlib.Nat.{mul-assoc, mul-comm, mul-one, one-mul, zero-mul, pow-suc, eq-of-mul-eq-mul-right}
 use borrow.Author.Tests.{eqb-true}
-use Rattle.definitions.specs.Value.{fractionBits}
+use Rattle.definitions.specs.Value.{fractionBits, WholeAt, LeastShift}
 use Rattle.definitions.proofs.Prune.{T-is}
-
--- m * 2 ^ e * 2 ^ s is a whole number
-pub record WholeAt (m : ℕ) (e : ℤ) (s : ℕ) : Type 0 where
-  pub whole : ℕ
-  pub is : m * up e * 2 ^ s ≡ whole * down e
 
 -- m is odd, or the number is 0 and written with exponent 0
 odd-or-zero : (b : Bool) (m : ℕ) (e : ℤ) → T (fits binary64 (fin b m e)) → (fractionBits e ≡ 0 → ⊥) → m % 2 ≡ 1
@@ -62,3 +57,6 @@ whole-only-from bits b m (negsuc k) s h w = go (decLe (suc k) s)
         let d = suc k - suc s in
         absurd (too-few m s (w .whole) d (odd-or-zero b m (negsuc k) held (λ z. omega arith))
         (ap (λ (x : ℕ). x * 2 ^ s) (sym (mul-one m)) ∙ w .is ∙ ap (λ (x : ℕ). w .whole * 2 ^ x) (let f : suc k ≡ s + suc d = omega arith in f)))
+
+pub least-shift : LeastShift
+least-shift bits b m e h = (whole-from m e (fractionBits e) (omega arith), λ s w. whole-only-from bits b m e s h w)

@@ -15,7 +15,7 @@ use Rattle.definitions.specs.Machine.{Store, Call, store, simplify, prun
 use Rattle.definitions.specs.Formula.{formula}
 use Rattle.definitions.specs.Value.{valueOf}
 use Rattle.definitions.specs.Exact.{Exact}
-use Rattle.definitions.specs.Promise.{Model, Called, Fresh, Chain, done, next, nth, prunes, Balanced, requestedFormula, Promise, All, Demand3}
+use Rattle.definitions.specs.Promise.{Model, Called, Fresh, History, done, next, nth, prunes, Balanced, requestedFormula, Promise, All, Demand3}
 use Rattle.definitions.proofs.Intern.{Sound, Inj, Step, stay, trans}
 use Rattle.definitions.proofs.Floats.{laws}
 use Rattle.definitions.proofs.Calls.{Done, StoreSays, builds}
@@ -145,7 +145,7 @@ plain-promise l cs = record {
 
 -- ---- a chain of calls that meet their contracts is the plain machine's run
 module _ (M : Model) where
-  as-plain : {m : M .Memory} {cs : List Call} {al : List Answer} {ms : List (M .Memory)} → M .Sound m → Chain M m cs al ms
+  as-plain : {m : M .Memory} {cs : List Call} {al : List Answer} {ms : List (M .Memory)} → M .Sound m → History M m cs al ms
       → (al ≡ answers (M .lent m) (M .view m) cs) × (map (M .view) ms ≡ states (M .lent m) (M .view m) cs) × All (M .Sound) ms
   unfolding answers states
   as-plain h done = (refl, refl, tt)

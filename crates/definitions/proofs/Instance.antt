@@ -10,7 +10,7 @@ use Rattle.definitions.specs.Intern.{Lent}
 use Rattle.definitions.specs.Machine.{Call, store, variable, constant, add, mul, simplify, prune, State, empty, call, answers, states, run}
 use Rattle.definitions.specs.Formula.{tree, nil, cons, formula}
 use Rattle.definitions.specs.Exact.{Exact, bound}
-use Rattle.definitions.specs.Promise.{Model, Called, Fresh, Chain, done, next, Balanced, Promise}
+use Rattle.definitions.specs.Promise.{Model, Called, Fresh, History, done, next, Balanced, Promise}
 use Rattle.definitions.proofs.Histories.{demand3}
 
 abbrev lent : Lent
@@ -20,10 +20,10 @@ lent = record { nodes = 512; slots = 1024 }
 abbrev plainModel : Lent → Model
 plainModel l = record { Memory = State; Sound = λ s. Unit {0}; view = λ s. s; lent = λ s. l }
 
-plain-chain : (l : Lent) (s : State) (cs : List Call) → Chain (plainModel l) s cs (answers l s cs) (states l s cs)
+plain-history : (l : Lent) (s : State) (cs : List Call) → History (plainModel l) s cs (answers l s cs) (states l s cs)
 unfolding answers states
-plain-chain l s [] = done
-plain-chain l s (c ∷ cs) = next (record { unsound = λ u. absurd (u tt); answer = λ u. refl; left = λ u. refl; sound = λ u. tt; same-lent = refl }) (plain-chain l (call l s c .left) cs)
+plain-history l s [] = done
+plain-history l s (c ∷ cs) = next (record { unsound = λ u. absurd (u tt); answer = λ u. refl; left = λ u. refl; sound = λ u. tt; same-lent = refl }) (plain-history l (call l s c .left) cs)
 
 abbrev calls : List Call
 calls =
@@ -32,7 +32,7 @@ calls =
 
 kept-promise : Promise lent calls (answers lent empty calls) (map (λ (s : State). s) (states lent empty calls))
 kept-promise =
-    demand3 (plainModel lent) empty calls (answers lent empty calls) (states lent empty calls) (record { sound = tt; view = refl }) (plain-chain lent empty calls) .0
+    demand3 (plainModel lent) empty calls (answers lent empty calls) (states lent empty calls) (record { sound = tt; view = refl }) (plain-history lent empty calls) .0
 
 abbrev stateAfter : ℕ → State
 stateAfter n = run lent empty (take n calls)

@@ -6,7 +6,7 @@ use native.Mathlib.Omega.{arith}
 use lib.Dec.{T, ltb, ltb→lt}
 use lib.Ieee.{binary64, ofBits, hid, ones, le}
 use Rattle.definitions.specs.Patterns.{one64}
-use Rattle.definitions.specs.Settings.{Nearest, hundredths, units, thresholds, threshold, firstSetting, lastSetting}
+use Rattle.definitions.specs.Settings.{ThresholdsNearest, hundredths, units, thresholds, threshold, firstSetting, lastSetting}
 use Rattle.definitions.proofs.NearestTest.{nearestTest, nearest-of-test}
 use Rattle.definitions.proofs.TableRule.{every, entry}
 
@@ -28,7 +28,7 @@ all-nearest : T (every (nearestTest hundredths divided) firstSetting thresholds)
 unfolding every nearestTest units thresholds
 all-nearest = tt
 
-pub nearest : (n : ℕ) → firstSetting ≤ n → n ≤ lastSetting → Nearest hundredths n (threshold n)
+pub nearest : ThresholdsNearest
 nearest n low high =
     nearest-of-test hundredths divided n (threshold n) (omega arith) (at-setting (nearestTest hundredths divided) all-nearest n low high)
 

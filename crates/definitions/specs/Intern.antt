@@ -33,7 +33,7 @@ find n (m ∷ ms) i = elim (same m n) [ true ↦ some i | false ↦ find n ms (s
 abbrev pub capacity : ℕ → ℕ
 capacity size = size * 7 / 10
 
--- the least of size, 2 * size, 4 * size and so on that holds count nodes
+-- the least of size, 2 * size, 4 * size and so on, doubled so many times at most, that holds count nodes
 unfoldable pub tableSizeFrom : ℕ → ℕ → ℕ → ℕ
 tableSizeFrom zero size count = size
 tableSizeFrom (suc k) size count = elim (leb count (capacity size)) [ true ↦ size | false ↦ tableSizeFrom k (size * 2) count ]

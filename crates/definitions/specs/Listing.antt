@@ -5,7 +5,7 @@ use mathlib.Core.Option.{Option, none, some}
 use mathlib.Core.List.{List, [], _∷_, _++_}
 use lib.ListN.{length}
 use lib.Dec.{ltb}
-use Rattle.definitions.specs.Node.{Node}
+use Rattle.definitions.specs.Node.{Node, canonicalFlag}
 use Rattle.definitions.specs.Machine.{Answer, stored, simplified, pruned, refused, State}
 use Rattle.definitions.specs.Sheet.{Ran, answerId}
 
@@ -89,7 +89,7 @@ childrenPart (c ∷ cs) = space ∷ decimal c ++ childrenPart cs
 
 -- flags with the mark, 4 canonical
 abbrev pub allFlags : Node → ℕ
-allFlags n = cond (n .canonical) (n .flags + 4) (n .flags)
+allFlags n = cond (n .canonical) (n .flags + canonicalFlag) (n .flags)
 
 -- "id, kind, payload in 16 capital hex digits, flags, children; one space between, the rest decimal"
 unfoldable pub nodeLine : ℕ → Node → List ℕ

@@ -7,7 +7,7 @@ use lib.Dec.{leb, ltb, eqb}
 use lib.Ieee.{Float, binary64, ofBits}
 use Rattle.definitions.specs.Limits.{mostDepth, mostTerms, firstTableSize}
 use Rattle.definitions.specs.Refusals.{badOperand, badCode, badChildCount, tooManyTerms}
-use Rattle.definitions.specs.Node.{Node, node, at, variableKind, constantKind, addKind, subKind, mulKind, divKind, powKind, modKind, negKind, functionKind, controlKind, selectControl, ifElseControl, forLoopControl, childCountListed}
+use Rattle.definitions.specs.Node.{Node, node, at, variableKind, constantKind, addKind, subKind, mulKind, divKind, powKind, modKind, negKind, functionKind, controlKind, selectControl, ifElseControl, forLoopControl, lastOperator, bothFlags, childCountListed}
 use Rattle.definitions.specs.Intern.{Lent, Built, built, stopped, intern}
 use Rattle.definitions.specs.Walk.{Mode, standard, Walked, finished, spent, halted, walkRoot}
 use Rattle.definitions.specs.Prune.{chain, keeps, filter, sumOfKept}
@@ -70,14 +70,14 @@ request b n = record { listed = b; node = n }
 abbrev pub requested : Store → Request
 requested (variable s) = request true (node variableKind s 0 [])
 requested (constant b) = request true (node constantKind b 0 [])
-requested (add a b) = request true (node addKind 0 3 (a ∷ b ∷ []))
+requested (add a b) = request true (node addKind 0 bothFlags (a ∷ b ∷ []))
 requested (sub a b) = request true (node subKind 0 0 (a ∷ b ∷ []))
-requested (mul a b) = request true (node mulKind 0 3 (a ∷ b ∷ []))
+requested (mul a b) = request true (node mulKind 0 bothFlags (a ∷ b ∷ []))
 requested (div a b) = request true (node divKind 0 0 (a ∷ b ∷ []))
 requested (pow a b) = request true (node powKind 0 0 (a ∷ b ∷ []))
 requested (modulo a b) = request true (node modKind 0 0 (a ∷ b ∷ []))
 requested (neg a) = request true (node negKind 0 0 (a ∷ []))
-requested (operator o f c) = request (leb o 6 && leb f 3) (node (addKind + o) 0 f c)
+requested (operator o f c) = request (leb o lastOperator && leb f bothFlags) (node (addKind + o) 0 f c)
 requested (function f c) = request true (node functionKind f 0 c)
 requested (select a b c) = request true (node controlKind selectControl 0 (a ∷ b ∷ c ∷ []))
 requested (ifElse a b c) = request true (node controlKind ifElseControl 0 (a ∷ b ∷ c ∷ []))

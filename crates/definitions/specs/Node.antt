@@ -50,6 +50,19 @@ ifElseControl = 1
 abbrev pub forLoopControl : ℕ
 forLoopControl = 2
 
+-- operator codes of calls and sheets: "0 Add to 6 Neg"
+abbrev pub lastOperator : ℕ
+lastOperator = 6
+
+-- ---- flags: 1 commutative, 2 associative, 4 canonical
+
+-- commutative and associative, the highest that a call may give
+abbrev pub bothFlags : ℕ
+bothFlags = 3
+
+abbrev pub canonicalFlag : ℕ
+canonicalFlag = 4
+
 -- ---- nodes
 
 -- What a node is told by. Its hash, coefficient and child count follow from these; the mark, flag 4 canonical, stands apart from flags 1

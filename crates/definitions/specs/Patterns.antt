@@ -6,7 +6,7 @@ use mathlib.Core.List.{List, [], _∷_}
 use lib.Dec.{eqb}
 use lib.IntN.{pos}
 use lib.Ieee.{Float, nan, inf, fin, binary64, ofBits, toBits, add, sub, mul, div, eq, lt}
-use Rattle.definitions.specs.Node.{Node, node, at, constantKind, addKind, subKind, mulKind, divKind, powKind, negKind}
+use Rattle.definitions.specs.Node.{Node, node, at, constantKind, addKind, subKind, mulKind, divKind, powKind, negKind, bothFlags}
 use Rattle.definitions.specs.Intern.{Lent, Built, built, then, intern}
 
 -- ---- constants
@@ -55,11 +55,11 @@ internConstant l ns x = intern l ns (node constantKind (toBits binary64 x) 0 [])
 -- the constructors `add` and `mul`, which "give flags 3"
 unfoldable pub internAdd : Lent → List Node → ℕ → ℕ → Built
 unfolding intern
-internAdd l ns a b = intern l ns (node addKind 0 3 (a ∷ b ∷ []))
+internAdd l ns a b = intern l ns (node addKind 0 bothFlags (a ∷ b ∷ []))
 
 unfoldable pub internMul : Lent → List Node → ℕ → ℕ → Built
 unfolding intern
-internMul l ns a b = intern l ns (node mulKind 0 3 (a ∷ b ∷ []))
+internMul l ns a b = intern l ns (node mulKind 0 bothFlags (a ∷ b ∷ []))
 
 -- the first that fits
 abbrev pub orElse : Option Built → Option Built → Option Built

@@ -28,8 +28,8 @@ pub record Model : Type 1 where
   pub view : Memory → State
   pub lent : Memory → Lent
 
--- What every public call says of the memory before it, its answer and the memory after it: 20 and nothing changed where the store is not
--- sound, and where it is, the plain machine's answer and nodes, and a sound store again.
+-- What the contract of each store, simplify and prune call says of the memory before it, its answer and the memory after it: 20 and nothing
+-- changed where the store is not sound, and where it is, the plain machine's answer and nodes, and a sound store again.
 pub record Called (M : Model) (c : Call) (m : M .Memory) (a : Answer) (m' : M .Memory) : Type 0 where
   pub unsound : (M .Sound m → ⊥) → (a ≡ refused notSound) × (m' ≡ m)
   pub answer : M .Sound m → a ≡ call (M .lent m) (M .view m) c .answer
@@ -43,10 +43,10 @@ pub record Fresh (M : Model) (m : M .Memory) : Type 0 where
   pub view : M .view m ≡ empty
 
 -- "each other one the store as the call before left it, and nobody else writes it meanwhile": calls, answers, and the memory after each
-pub data Chain (M : Model) : M .Memory → List Call → List Answer → List (M .Memory) → Type 0 where
-  done : {m : M .Memory} → Chain M m [] [] []
+pub data History (M : Model) : M .Memory → List Call → List Answer → List (M .Memory) → Type 0 where
+  done : {m : M .Memory} → History M m [] [] []
   next : {m m' : M .Memory} {c : Call} {cs : List Call} {a : Answer} {al : List Answer} {ms : List (M .Memory)}
-      → Called M c m a m' → Chain M m' cs al ms → Chain M m (c ∷ cs) (a ∷ al) (m' ∷ ms)
+      → Called M c m a m' → History M m' cs al ms → History M m (c ∷ cs) (a ∷ al) (m' ∷ ms)
 
 -- ---- what is promised
 
@@ -109,4 +109,4 @@ All P (x ∷ xs) = P x × All P xs
 -- Every list of calls that each meet their contract, from a fresh store, keeps the promise, and every store on the way is sound.
 abbrev pub Demand3 : Type 1
 Demand3 = (M : Model) (m : M .Memory) (cs : List Call) (al : List Answer) (ms : List (M .Memory))
-    → Fresh M m → Chain M m cs al ms → Promise (M .lent m) cs al (map (M .view) ms) × All (M .Sound) ms
+    → Fresh M m → History M m cs al ms → Promise (M .lent m) cs al (map (M .view) ms) × All (M .Sound) ms

@@ -1,7 +1,7 @@
 -- Prune settings. 01: "Setting n, 10 to 100, is the binary64 number nearest 10^((3n-400)/100)". Definitions only.
 use mathlib.Core.Bool.{_&&_, cond}
 use mathlib.Core.List.{List, [], _∷_}
-use Prim.Native.Nat.{ℕ, zero, suc, _+_, _-_, _*_, _/_, _%_, _^_, _<_}
+use Prim.Native.Nat.{ℕ, zero, suc, _+_, _-_, _*_, _/_, _%_, _^_, _≤_, _<_}
 use lib.Dec.{leb}
 use lib.ListN.{getD}
 use lib.Ieee.{binary64, hid, low}
@@ -83,6 +83,10 @@ thresholds =
 unfoldable pub threshold : ℕ → ℕ
 unfolding thresholds
 threshold n = getD thresholds (n - firstSetting) 0
+
+-- what the table is believed for; proved in proofs/NearestSettings, and that no other number is nearest in proofs/NearestNumber
+abbrev pub ThresholdsNearest : Type 0
+ThresholdsNearest = (n : ℕ) → firstSetting ≤ n → n ≤ lastSetting → Nearest hundredths n (threshold n)
 
 -- ---- the answer
 

@@ -5,7 +5,7 @@ use mathlib.Core.Option.{Option, none, some}
 use mathlib.Core.List.{List, [], _∷_}
 use lib.ListN.{length, getD, take, drop, set}
 use lib.Dec.{leb, ltb, eqb}
-use Rattle.definitions.specs.Node.{Node, node, at, sameChildren, addKind, mulKind}
+use Rattle.definitions.specs.Node.{Node, node, at, sameChildren, addKind, mulKind, bothFlags}
 use Rattle.definitions.specs.Intern.{Lent, Built, built, stopped, intern}
 use Rattle.definitions.specs.Patterns.{tryApply}
 
@@ -13,7 +13,7 @@ use Rattle.definitions.specs.Patterns.{tryApply}
 
 -- "The Rust gives 0" to an Add or Mul of one, three or four children, and 3 to one of two
 abbrev pub rebuiltFlags : ℕ → ℕ → ℕ
-rebuiltFlags k n = cond ((eqb k addKind || eqb k mulKind) && eqb n 2) 3 0
+rebuiltFlags k n = cond ((eqb k addKind || eqb k mulKind) && eqb n 2) bothFlags 0
 
 -- the node of id i over new children: the pattern's result, i itself where the children are the old ones, or a node anew
 abbrev pub rebuilt : Lent → List Node → ℕ → List ℕ → Option Built → Built

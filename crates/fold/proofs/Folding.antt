@@ -1,7 +1,7 @@
 -- What folding gives for each kind, from values that are known by equations.
 use mathlib.Core.Path.{_≡_, refl}
 use mathlib.Core.Bool.{true, false}
-use mathlib.Core.Option.{Option, none, some}
+use mathlib.Core.Option.{none, some}
 use Prim.Native.Nat.{ℕ}
 use borrow.Author.Tests.{ne-eqb}
 use lib.Ieee.{Float, binary64, add, sub, mul, div, eq}

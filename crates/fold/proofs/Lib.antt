@@ -1,2 +1,3 @@
-pub mod Consts
+pub mod Values
 pub mod Folding
+pub mod Exactly

@@ -2,21 +2,23 @@
 ghost use mathlib.Core.Path.{_≡_};
 ghost use lib.Ieee as Ieee;
 ghost use lib.Ieee.{binary64};
-ghost use Rattle.definitions.specs.Patterns as Patterns;
-ghost use Rattle.fold.specs.Fold.{valueOf, patternOf, stored, zero, one, finite, magnitude};
-use kind::ADD;
-use kind::DIV;
-use kind::MUL;
-use kind::SUB;
+ghost use Rattle.fold.specs.Exactness.{Folds};
+ghost use Rattle.fold.specs.Fold.{valueOf, patternOf, zero, one, finite, magnitude};
+use arena::kind::ADD;
+use arena::kind::DIV;
+use arena::kind::MUL;
+use arena::kind::SUB;
 
-pub mod kind;
+// The bits of 0.0 and 1.0.
+pub const BITS_OF_ZERO: u64 = 0;
 
+pub const BITS_OF_ONE: u64 = 0x3ff0_0000_0000_0000;
+// With the sign's bit off, the patterns above the infinity's are those of NaN.
+pub const BITS_OF_INFINITY: u64 = 0x7ff0_0000_0000_0000;
+// 01: "A fold or merge to NaN stores 7FF8000000000000 (hex)."
+const BITS_OF_NAN: u64 = 0x7ff8_0000_0000_0000;
 // 2^63: the weight of the sign's bit.
 const SIGN_BIT: u64 = 0x8000_0000_0000_0000;
-// With the sign's bit off, the patterns above the infinity's are those of NaN.
-const INFINITY_BITS: u64 = 0x7ff0_0000_0000_0000;
-// 01: "A fold or merge to NaN stores 7FF8000000000000 (hex)."
-const NAN_BITS: u64 = 0x7ff8_0000_0000_0000;
 
 // What folding answers: the bits of the result, or that it does not fold.
 pub enum Folded {
@@ -28,7 +30,7 @@ pub enum Folded {
 fn value(bits: u64) -> f64
     ensures { λ r. ⌜ r ≡ valueOf bits ⌝ }
 {
-    if bits % SIGN_BIT > INFINITY_BITS {
+    if bits % SIGN_BIT > BITS_OF_INFINITY {
         0.0 / 0.0
     } else {
         f64::from_bits(bits)
@@ -39,7 +41,7 @@ fn value(bits: u64) -> f64
 fn pattern(x: f64) -> u64
     ensures { λ r. ⌜ r ≡ patternOf x ⌝ }
 {
-    if x != x { NAN_BITS } else { f64::to_bits(x) }
+    if x != x { BITS_OF_NAN } else { f64::to_bits(x) }
 }
 
 // Whether a pattern is that of 0.0 or -0.0.
@@ -60,7 +62,7 @@ pub fn is_finite(bits: u64) -> bool
     ensures { λ r. ⌜ r ≡ finite (valueOf bits) ⌝ }
 {
     let x = value(bits);
-    let infinity = f64::from_bits(INFINITY_BITS);
+    let infinity = f64::from_bits(BITS_OF_INFINITY);
     if x < infinity { -infinity < x } else { false }
 }
 
@@ -87,7 +89,7 @@ fn bits_of(x: f64) -> Folded
 // 01: "Sums fold as binary64, each single addition rounded once, ties to even; likewise Sub, Mul, Div (not by zero)." Every
 // other kind is declined.
 pub fn fold(kind: u64, a: u64, b: u64) -> Folded
-    ensures { λ r. ⌜ r ≡ stored (Patterns.fold kind (valueOf a) (valueOf b)) ⌝ }
+    ensures { λ r. ⌜ Folds kind a b r ⌝ }
 {
     let x = value(a);
     let y = value(b);

@@ -10,18 +10,21 @@ use borrow.Author.Tests.{eqb-false, leb-true, leb-false, ne-eqb}
 use Rattle.arena.specs.declared.DagArena.{DagArena}
 use Rattle.definitions.specs.Machine.{Call, Answer}
 use Rattle.store.specs.Memory.{Memory, memory, Leaves}
+use Rattle.history.specs.declared.reply.Answered.{Answered}
+use Rattle.history.specs.Calling.{replyOf, Runs}
 use Rattle.history.specs.Encoding.{firstWithOperands, firstRewriting, lastCode, callOf, known}
 
 -- a function's answer and counts, handed on as the reply of its code
-pub runs : (code k a b high low : ℕ) (operands : List ℕ) (x : Call) (m : Memory) (words slots : List ℕ) (answer reply : Answer) (arena after : DagArena)
-    → code ≡ k → Leaves x m answer (memory words slots arena) → (reply ≡ answer) × (after ≡ arena) → callOf k a b high low operands ≡ some x
-    → (c : Call) → callOf code a b high low operands ≡ some c → Leaves c m reply (memory words slots after)
-runs code k a b high low operands x m words slots answer reply arena after e h (same, kept) table c g =
-    let f : some x ≡ some c = sym table ∙ ap (λ n. callOf n a b high low operands) (sym e) ∙ g in
-    let xc : x ≡ c = cc in
-    subst (λ y. Leaves y m reply (memory words slots after)) xc
-    (subst (λ y. Leaves x m y (memory words slots after)) (sym same)
-    (subst (λ y. Leaves x m answer (memory words slots y)) (sym kept) h))
+pub runs : (code k a b high low : ℕ) (operands : List ℕ) (x : Call) (m : Memory) (words slots : List ℕ) (answer : Answer) (r : Answered) (arena : DagArena)
+    → code ≡ k → Leaves x m answer (memory words slots arena) → (replyOf (r .reply) ≡ some answer) × (r .arena ≡ arena) → callOf k a b high low operands ≡ some x
+    → Runs (callOf code a b high low operands) m r (memory words slots (r .arena))
+runs code k a b high low operands x m words slots answer r arena e h (same, kept) table = record {
+  ran = x;
+  is = ap (λ n. callOf n a b high low operands) e ∙ table;
+  answer = answer;
+  reply = same;
+  leaves = subst (λ y. Leaves x m answer (memory words slots y)) (sym kept) h;
+}
 
 -- ---- the last code of those below a bound
 
@@ -40,8 +43,8 @@ last-small code l n0 n1 n2 n3 n4 n5 n6 n7 =
     (above code 7 (above code 6 (above code 5 (above code 4 (above code 3 (above code 2 (above code 1 (above code 0 (zero-least code) n0) n1) n2) n3) n4) n5) n6) n7)
     l
 
-pub past-last : (code : ℕ) → firstRewriting ≤ code → (code ≡ 15 → ⊥) → (code ≡ 16 → ⊥) → (code ≡ 17 → ⊥) → lastCode < code
-past-last code h n15 n16 n17 = above code 17 (above code 16 (above code 15 h n15) n16) n17
+pub last-rewriting : (code : ℕ) → firstRewriting ≤ code → code ≤ lastCode → (code ≡ 15 → ⊥) → (code ≡ 16 → ⊥) → code ≡ 17
+last-rewriting code h l n15 n16 = exactly code 17 (above code 16 (above code 15 h n15) n16) (omega arith)
 
 -- ---- the table
 
@@ -57,9 +60,6 @@ line code k x o h f = go (eqb code k) refl
 
 past : (code k : ℕ) (x o : Option Call) → k < code → o ≡ none → cond (eqb code k) x o ≡ none
 past code k x o h e = ap (λ t. cond t x o) (ne-eqb code k (λ q. absurd (omega arith))) ∙ e
-
-no-call : (A : Type 0) (c : Call) → none ≡ some c → A
-no-call A c e = let z : _≡_ {A = ℕ} 0 1 = cc in absurd (omega arith)
 
 module _ (code a b high low : ℕ) (operands : List ℕ) where
   pub known-has : known code ≡ true → HasCall (callOf code a b high low operands)
@@ -85,7 +85,7 @@ module _ (code a b high low : ℕ) (operands : List ℕ) where
       line code 16 _ _ (omega arith) (λ n16.
       line code 17 _ _ (omega arith) (λ n17. absurd (omega arith)))))))))))))))))))
 
-  pub past-has-none : lastCode < code → callOf code a b high low operands ≡ none
+  past-has-none : lastCode < code → callOf code a b high low operands ≡ none
   unfolding callOf
   past-has-none h =
       past code 0 _ _ (omega arith)
@@ -109,7 +109,3 @@ module _ (code a b high low : ℕ) (operands : List ℕ) where
 
   pub unknown-has-none : known code ≡ false → callOf code a b high low operands ≡ none
   unknown-has-none h = past-has-none (leb-false code lastCode h)
-
-  -- what a code without a call leaves need not be said
-  pub runs-unknown : lastCode < code → (m m′ : Memory) (reply : Answer) (c : Call) → callOf code a b high low operands ≡ some c → Leaves c m reply m′
-  runs-unknown h m m′ reply c g = no-call (Leaves c m reply m′) c (sym (past-has-none h) ∙ g)

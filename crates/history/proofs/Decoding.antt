@@ -1,15 +1,15 @@
 -- Decoding the words from a place on.
-use Prim.Native.Nat.{ℕ, zero, suc, _+_, _-_, _*_, _<_, _≤_}
-use mathlib.Core.Path.{_≡_, refl, sym, ap, _∙_, subst}
+use Prim.Native.Nat.{ℕ, zero, suc, _+_, _-_, _<_, _≤_}
+use mathlib.Core.Path.{_≡_, refl, ap, _∙_, subst}
 use mathlib.Core.Bool.{Bool, true, false, cond}
 use mathlib.Core.Option.{Option, none, some}
-use mathlib.Core.List.{List, [], _∷_, _++_, append-assoc}
+use mathlib.Core.List.{List, [], _∷_}
 use lib.ListN.{length, getD, take, drop, length-drop}
 use lib.Dec.{leb}
 use native.Mathlib.Omega.{arith}
-use borrow.Author.Tests.{leb-true, leb-false}
+use borrow.Author.Tests.{leb-true}
 use Rattle.definitions.specs.Machine.{Call}
-use Rattle.history.specs.Encoding.{headerWords, callOf, withRest, firstCall, decodeFrom, decode}
+use Rattle.history.specs.Encoding.{callOf, withRest, firstCall, Decoded, decoded, withFirst, decodeFrom, decode, unread}
 
 -- the rest after a call is shorter
 pub shorter : (ws : List ℕ) (c : Call) (r : List ℕ) → firstCall ws ≡ some (c, r) → length r < length ws
@@ -34,42 +34,66 @@ shorter ws c r = one (leb 6 (length ws)) refl
     one true k e = two (leb-true 6 (length ws) k) (leb n (length ws - 6)) e
     one false k e = let z : _≡_ {A = ℕ} 0 1 = cc in absurd (omega arith)
 
+-- what is decoded from the first call, or none, on
+abbrev after : ℕ → List ℕ → Option (Call × List ℕ) → Decoded
+after f ws o = elim o as (λ x. Decoded) [ none ↦ decoded [] ws | some cr ↦ withFirst (cr .0) (decodeFrom f (cr .1)) ]
+
 -- more fuel than words changes nothing
 pub enough : (f g : ℕ) (ws : List ℕ) → length ws ≤ f → length ws ≤ g → decodeFrom f ws ≡ decodeFrom g ws
 unfolding decodeFrom
 enough zero zero ws a b = refl
 enough zero (suc g) ws a b = short (firstCall ws) refl
   where
-    short : (o : Option (Call × List ℕ)) → firstCall ws ≡ o → _≡_ {A = List Call} [] (elim o as (λ x. List Call) [ none ↦ [] | some cr ↦ cr .0 ∷ decodeFrom g (cr .1) ])
+    short : (o : Option (Call × List ℕ)) → firstCall ws ≡ o → decoded [] ws ≡ after g ws o
     short none e = refl
     short (some cr) e = absurd (omega (arith, shorter ws (cr .0) (cr .1) e))
 enough (suc f) zero ws a b = short (firstCall ws) refl
   where
-    short : (o : Option (Call × List ℕ)) → firstCall ws ≡ o → _≡_ {A = List Call} (elim o as (λ x. List Call) [ none ↦ [] | some cr ↦ cr .0 ∷ decodeFrom f (cr .1) ]) []
+    short : (o : Option (Call × List ℕ)) → firstCall ws ≡ o → after f ws o ≡ decoded [] ws
     short none e = refl
     short (some cr) e = absurd (omega (arith, shorter ws (cr .0) (cr .1) e))
 enough (suc f) (suc g) ws a b = both (firstCall ws) refl (λ r h. enough f g r (omega arith) (omega arith))
   where
-    both : (o : Option (Call × List ℕ)) → firstCall ws ≡ o → ((r : List ℕ) → length r < length ws → decodeFrom f r ≡ decodeFrom g r)
-        → _≡_ {A = List Call} (elim o as (λ x. List Call) [ none ↦ [] | some cr ↦ cr .0 ∷ decodeFrom f (cr .1) ]) (elim o as (λ x. List Call) [ none ↦ [] | some cr ↦ cr .0 ∷ decodeFrom g (cr .1) ])
+    both : (o : Option (Call × List ℕ)) → firstCall ws ≡ o → ((r : List ℕ) → length r < length ws → decodeFrom f r ≡ decodeFrom g r) → after f ws o ≡ after g ws o
     both none e rec = refl
-    both (some cr) e rec = ap (λ (l : List Call). cr .0 ∷ l) (rec (cr .1) (shorter ws (cr .0) (cr .1) e))
+    both (some cr) e rec = ap (withFirst (cr .0)) (rec (cr .1) (shorter ws (cr .0) (cr .1) e))
 
--- the calls of the words: none, or the first and those of the rest
-pub decode-none : (ws : List ℕ) → firstCall ws ≡ none → decode ws ≡ []
-unfolding decode decodeFrom
-decode-none ws e = go (length ws)
+-- the calls of the words and the words past them: none and all, or the first call and those of the rest
+decoded-none : (ws : List ℕ) → firstCall ws ≡ none → decodeFrom (length ws) ws ≡ decoded [] ws
+unfolding decodeFrom
+decoded-none ws e = go (length ws)
   where
-    go : (f : ℕ) → decodeFrom f ws ≡ []
+    go : (f : ℕ) → decodeFrom f ws ≡ decoded [] ws
     go zero = refl
-    go (suc f) = ap (λ (o : Option (Call × List ℕ)). elim o as (λ x. List Call) [ none ↦ [] | some cr ↦ cr .0 ∷ decodeFrom f (cr .1) ]) e
+    go (suc f) = ap (after f ws) e
 
-pub decode-some : (ws : List ℕ) (c : Call) (r : List ℕ) → firstCall ws ≡ some (c, r) → decode ws ≡ c ∷ decode r
-unfolding decode decodeFrom
-decode-some ws c r e = go (length ws) (shorter ws c r e)
+decoded-some : (ws : List ℕ) (c : Call) (r : List ℕ) → firstCall ws ≡ some (c, r) → decodeFrom (length ws) ws ≡ withFirst c (decodeFrom (length r) r)
+unfolding decodeFrom
+decoded-some ws c r e = go (length ws) (shorter ws c r e)
   where
-    go : (f : ℕ) → length r < f → decodeFrom f ws ≡ c ∷ decodeFrom (length r) r
+    go : (f : ℕ) → length r < f → decodeFrom f ws ≡ withFirst c (decodeFrom (length r) r)
     go zero h = absurd (omega arith)
-    go (suc f) h =
-        ap (λ (o : Option (Call × List ℕ)). elim o as (λ x. List Call) [ none ↦ [] | some cr ↦ cr .0 ∷ decodeFrom f (cr .1) ]) e
-        ∙ ap (λ (l : List Call). c ∷ l) (enough f (length r) r (omega arith) (omega arith))
+    go (suc f) h = ap (after f ws) e ∙ ap (withFirst c) (enough f (length r) r (omega arith) (omega arith))
+
+module _ (ws : List ℕ) where
+  pub decode-none : firstCall ws ≡ none → decode ws ≡ []
+  unfolding decode
+  decode-none e = ap (λ (d : Decoded). d .calls) (decoded-none ws e)
+
+  pub unread-none : firstCall ws ≡ none → unread ws ≡ ws
+  unfolding unread
+  unread-none e = ap (λ (d : Decoded). d .unread) (decoded-none ws e)
+
+  module _ (c : Call) (r : List ℕ) where
+    pub decode-some : firstCall ws ≡ some (c, r) → decode ws ≡ c ∷ decode r
+    unfolding decode
+    decode-some e = ap (λ (d : Decoded). d .calls) (decoded-some ws c r e)
+
+    pub unread-some : firstCall ws ≡ some (c, r) → unread ws ≡ unread r
+    unfolding unread
+    unread-some e = ap (λ (d : Decoded). d .unread) (decoded-some ws c r e)
+
+-- no call in no words
+pub none-in-nothing : firstCall [] ≡ none
+unfolding firstCall
+none-in-nothing = refl

@@ -2,18 +2,17 @@
 use Prim.Native.Nat.{ℕ, _+_, _-_, _≤_, _<_}
 use mathlib.Core.Path.{_≡_, refl, sym, ap, _∙_, subst}
 use mathlib.Core.Bool.{Bool, true, false, cond}
-use mathlib.Core.Option.{Option, none, some}
+use mathlib.Core.Option.{Option, none}
 use mathlib.Core.List.{List}
 use lib.ListN.{length, getD, take, drop, length-drop}
 use lib.Seq.{getD-drop, drop-drop}
 use lib.Dec.{leb}
 use native.Mathlib.Omega.{arith}
 use native.Mathlib.Nat.{add-zero}
-use borrow.Author.Tests.{le-leb, lt-leb}
+use borrow.Author.Tests.{le-leb, lt-leb, leb-true}
 use Rattle.definitions.specs.Machine as M
-use Rattle.history.specs.declared.finding.Next.{Next}
 use Rattle.history.specs.declared.finding.Next.the-variants.{Call, Stop}
-use Rattle.history.specs.Encoding.{headerWords, callOf, known, withRest, firstCall}
+use Rattle.history.specs.Encoding.{headerWords, lastCode, callOf, known, withRest, firstCall}
 use Rattle.history.specs.Calling.{callBetween, Whole, Finds}
 use Rattle.history.proofs.Codes.{known-has, unknown-has-none}
 
@@ -88,6 +87,7 @@ module _ (calls : List ℕ) (at : ℕ) where
         call = c;
         header = omega arith;
         fits = omega arith;
+        known = leb-true (getD calls at 0) lastCode u;
         between = e;
         first = whole-first k h l ∙ ap (λ o. withRest o (drop end calls)) e;
       } in

@@ -1,5 +1,6 @@
-pub mod Chains
+pub mod Turns
 pub mod Decoding
 pub mod Codes
+pub mod EncodedCalls
 pub mod FirstCalls
 pub mod Replaying

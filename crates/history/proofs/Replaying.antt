@@ -1,83 +1,117 @@
 -- The calls that were run so far, and the promise of demand 3 once all were.
-use Prim.Native.Nat.{ℕ, _≤_}
+use Prim.Native.Nat.{ℕ, _+_, _-_, _≤_}
 use mathlib.Core.Path.{_≡_, refl, sym, ap, _∙_, subst}
 use mathlib.Core.Bool.{Bool, true, false}
 use mathlib.Core.Option.{none, some}
 use mathlib.Core.List.{List, [], _∷_, _++_, append-assoc, append-nil, map}
-use lib.ListN.{length, drop, drop-of-length-le}
+use lib.ListN.{length, drop, length-append, length-drop, drop-of-length-le, replicate, length-replicate}
+use lib.Seq.{drop-at}
 use native.Mathlib.Omega.{arith}
 use Rattle.arena.specs.declared.DagArena.{DagArena}
 use Rattle.definitions.specs.Machine as M
 use Rattle.definitions.specs.Limits.{firstTableSize}
 use Rattle.definitions.specs.Refusals.{noSlotPlace}
-use Rattle.definitions.specs.Intern.{Lent}
-use Rattle.definitions.specs.Promise.{Called, Fresh, Chain, done, Promise}
+use Rattle.definitions.specs.Promise.{Fresh, Promise}
 use Rattle.definitions.proofs.Histories.{demand3}
 use Rattle.store.specs.View.{lent}
-use Rattle.store.specs.Memory.{Memory, memory, model, Leaves}
+use Rattle.store.specs.Memory.{Memory, memory, model, Leaves, Stays}
+use Rattle.store.proofs.Keeping.{later}
+use Rattle.store.proofs.Staying.{grown-up, least-size}
 use Rattle.builder.specs.declared.opening.FreshStore.{FreshStore}
 use Rattle.builder.specs.declared.opening.FreshStore.the-variants as F
 use Rattle.builder.specs.Opens.{freshAnswer, freshSlots, Opens}
 use Rattle.history.specs.declared.reply.Answered.{Answered}
-use Rattle.history.specs.declared.Replayed.{Replayed}
+use Rattle.history.specs.declared.reply.Reply.the-variants.{Nothing}
+use Rattle.history.specs.declared.Run.{Run}
 use Rattle.history.specs.declared.Replayed.the-variants.{Done, Refused}
-use Rattle.history.specs.Encoding.{firstCall, decodeFrom, decode}
+use Rattle.history.specs.Encoding.{firstCall, decode, unread, readWords}
 use Rattle.history.specs.Calling.{replyOf, RunsAt, Whole}
-use Rattle.history.specs.Replaying.{lastOf, noAnswer, Continues, opened, Promised, Replays}
-use Rattle.history.proofs.Chains.{chain-more, last-more}
-use Rattle.history.proofs.Decoding.{decode-none, decode-some}
+use Rattle.history.specs.Replaying.{done, Continues, RunsAll, opened, Promised, Replays}
+use Rattle.history.proofs.Turns.{turns-more, history-of, stays-in-turn, last-more, last-is}
+use Rattle.history.proofs.Decoding.{decode-none, decode-some, unread-none, unread-some, none-in-nothing}
 
--- the calls before a place were run, and with those from there on they are all
-pub record RunTo (m : Memory) (calls : List ℕ) (at : ℕ) (r : Answered) (m′ : Memory) : Type 0 where
+-- the calls before a place were run, so many of them, and with those from there on they are all
+pub record RunTo (m : Memory) (calls : List ℕ) (at : ℕ) (r : Answered) (many : ℕ) (m′ : Memory) : Type 0 where
   pub before : List M.Call
   pub split : decode calls ≡ before ++ decode (drop at calls)
+  pub left : unread calls ≡ unread (drop at calls)
   pub run : Continues m before r m′
+  pub counted : length before ≡ many
+  pub few : many ≤ at
 
 module _ (m : Memory) (calls : List ℕ) where
-  pub none-run : (r : Answered) → replyOf (r .reply) ≡ noAnswer → RunTo m calls 0 r m
+  pub none-run : (r : Answered) → r .reply ≡ Nothing → RunTo m calls 0 r 0 m
   none-run r e = record {
     before = [];
     split = refl;
-    run = record { answers = []; memories = []; chain = done; last-memory = refl; last-answer = sym e };
+    left = refl;
+    run = record { answers = []; memories = []; leaves = done; last-memory = refl; last-answer = sym (ap replyOf e) };
+    counted = refl;
+    few = omega arith;
   }
 
   -- one call more
-  pub one-more : (at end : ℕ) (r r′ : Answered) (m′ m″ : Memory) → Whole calls at end → RunTo m calls at r m′ → RunsAt calls at end m′ r′ m″ → RunTo m calls end r′ m″
-  one-more at end r r′ m′ m″ w h f =
-      let c = w .call in
-      let leaves = f c (w .between) in
+  pub one-more : (at end many : ℕ) (r r′ : Answered) (m′ m″ : Memory) → Whole calls at end → RunTo m calls at r many m′ → RunsAt calls at end m′ r′ m″
+      → RunTo m calls end r′ (many + 1) m″
+  one-more at end many r r′ m′ m″ w h f =
+      let c = f .ran in
+      let between = w .between in
+      let is = f .is in
+      let same : w .call ≡ c = cc in
+      let first : firstCall (drop at calls) ≡ some (c, drop end calls) = w .first ∙ ap (λ (x : M.Call). some (x, drop end calls)) same in
       let so-far = h .run in
+      let header = w .header in
+      let counted = h .counted in
+      let few = h .few in
       record {
         before = h .before ++ c ∷ [];
-        split = h .split ∙ ap (λ l. h .before ++ l) (decode-some (drop at calls) c (drop end calls) (w .first)) ∙ sym (append-assoc (h .before) (c ∷ []) (decode (drop end calls)));
+        split = h .split ∙ ap (λ l. h .before ++ l) (decode-some (drop at calls) c (drop end calls) first) ∙ sym (append-assoc (h .before) (c ∷ []) (decode (drop end calls)));
+        left = h .left ∙ unread-some (drop at calls) c (drop end calls) first;
         run = record {
-          answers = so-far .answers ++ replyOf (r′ .reply) ∷ [];
+          answers = so-far .answers ++ f .answer ∷ [];
           memories = so-far .memories ++ m″ ∷ [];
-          chain = chain-more model (so-far .chain) (subst (λ x. Called model c x (replyOf (r′ .reply)) m″) (sym (so-far .last-memory)) (leaves .called));
+          leaves = turns-more (so-far .leaves) (subst (λ x. Leaves c x (f .answer) m″) (sym (so-far .last-memory)) (f .leaves));
           last-memory = last-more m (so-far .memories) m″;
-          last-answer = last-more noAnswer (so-far .answers) (replyOf (r′ .reply));
+          last-answer = last-is (so-far .answers) (f .answer) ∙ sym (f .reply);
         };
+        counted = omega (arith, length-append (h .before) (c ∷ []));
+        few = omega arith;
       }
 
   -- no call is left
-  pub all-run : (at : ℕ) (r : Answered) (m′ : Memory) → decode (drop at calls) ≡ [] → RunTo m calls at r m′ → Continues m (decode calls) r m′
-  all-run at r m′ e h =
-      subst (λ l. Continues m l r m′) (sym (h .split ∙ ap (λ l. h .before ++ l) e ∙ append-nil (h .before))) (h .run)
+  pub all-run : (r : Run) (m′ : Memory) → r .words ≤ length calls → firstCall (drop (r .words) calls) ≡ none → RunTo m calls (r .words) (r .last) (r .calls) m′ → RunsAll m calls r m′
+  unfolding readWords
+  all-run r m′ k e h =
+      let all : decode calls ≡ h .before = h .split ∙ ap (λ l. h .before ++ l) (decode-none (drop (r .words) calls) e) ∙ append-nil (h .before) in
+      let rest : length (unread calls) ≡ length calls - r .words = ap length (h .left ∙ unread-none (drop (r .words) calls) e) ∙ length-drop (r .words) calls in
+      record {
+        continues = subst (λ l. Continues m l (r .last) m′) (sym all) (h .run);
+        counts = record { calls-run = sym (ap length all ∙ h .counted); words-read = omega arith; no-more = e };
+      }
 
--- and none at the end of the words
-nothing-left : decode [] ≡ []
-unfolding decode decodeFrom
-nothing-left = refl
+  -- and none at the end of the words
+  pub all-run-at-end : (r : Run) (m′ : Memory) → r .words ≤ length calls → length calls ≤ r .words → RunTo m calls (r .words) (r .last) (r .calls) m′ → RunsAll m calls r m′
+  all-run-at-end r m′ k l h = all-run r m′ k (ap firstCall (drop-of-length-le calls l) ∙ none-in-nothing) h
 
-pub all-run-at-end : (m : Memory) (calls : List ℕ) (at : ℕ) (r : Answered) (m′ : Memory) → length calls ≤ at → RunTo m calls at r m′ → Continues m (decode calls) r m′
-all-run-at-end m calls at r m′ k h = all-run m calls at r m′ (ap decode (drop-of-length-le calls k) ∙ nothing-left) h
+-- past the first 64 slots a fresh store leaves all as it was
+fresh-slots-past : (slots : List ℕ) (size : ℕ) → firstTableSize ≤ size → drop size (freshSlots false slots) ≡ drop size slots
+fresh-slots-past slots size h = later (freshSlots false slots) slots firstTableSize size h (drop-at (replicate firstTableSize 0) (drop firstTableSize slots) firstTableSize (length-replicate {A = ℕ} firstTableSize 0))
 
 -- the promise, by demand 3
 pub promised : (words slots : List ℕ) (cs : List M.Call) (r : Answered) (words′ slots′ : List ℕ) → Fresh model (opened words slots)
     → model .lent (opened words slots) ≡ lent words slots → Continues (opened words slots) cs r (memory words′ slots′ (r .arena)) → Promised words slots cs r words′ slots′
 promised words slots cs r words′ slots′ f e h =
-    let p = demand3 model (opened words slots) cs (h .answers) (h .memories) f (h .chain) in
-    record { fresh = f; run = h; promise = subst (λ l. Promise l cs (h .answers) (map (model .view) (h .memories))) e (p .0); sound = p .1 }
+    let p = demand3 model (opened words slots) cs (h .answers) (h .memories) f (history-of (h .leaves)) in
+    let s : Stays (opened words slots) (memory words′ slots′ (r .arena)) = subst (Stays (opened words slots)) (h .last-memory) (stays-in-turn (h .leaves) (f .sound)) in
+    record {
+      fresh = f;
+      run = h;
+      promise = subst (λ l. Promise l cs (h .answers) (map (model .view) (h .memories))) e (p .0);
+      sound = p .1;
+      words-past = s .words-past;
+      slots-past = s .slots-past ∙ fresh-slots-past slots (r .arena .size) (grown-up _ _ _ (s .grown));
+      size = least-size (opened words slots) (memory words′ slots′ (r .arena)) refl s;
+    }
 
 -- ---- a store that is opened, or not
 
@@ -96,9 +130,9 @@ replays-refused words slots calls slots′ f number o e = go (M.freshRefused (le
         record { refused = λ _. (ap Refused n, refl, s); promised = λ q′. bool-clash _ (sym q ∙ q′) }
     go false q a s = fresh-clash _ (record { count = 0; size = firstTableSize }) number (sym a ∙ e)
 
-pub replays-done : (words slots calls slots₁ words′ slots′ : List ℕ) (f : FreshStore) (arena : DagArena) (r : Answered)
+pub replays-done : (words slots calls slots₁ words′ slots′ : List ℕ) (f : FreshStore) (arena : DagArena) (r : Run)
     → Opens words slots f slots₁ → f ≡ F.Store arena → length slots₁ ≡ length slots
-    → Continues (memory words slots₁ arena) (decode calls) r (memory words′ slots′ (r .arena)) → Replays words slots calls (Done r) words′ slots′
+    → RunsAll (memory words slots₁ arena) calls r (memory words′ slots′ (r .last .arena)) → Replays words slots calls (Done r) words′ slots′
 replays-done words slots calls slots₁ words′ slots′ f arena r o e l h = go (M.freshRefused (lent words slots)) refl (o .answer) (o .slots-after)
   where
     go : (b : Bool) → M.freshRefused (lent words slots) ≡ b → f ≡ freshAnswer b → slots₁ ≡ freshSlots b slots → Replays words slots calls (Done r) words′ slots′
@@ -113,7 +147,8 @@ replays-done words slots calls slots₁ words′ slots′ f arena r o e l h = go
           promised = λ _. (
             r,
             refl,
-            promised words slots (decode calls) r words′ slots′ (subst (Fresh model) at-first (o .fresh arena e)) same
-                (subst (λ m. Continues m (decode calls) r (memory words′ slots′ (r .arena))) at-first h),
+            promised words slots (decode calls) (r .last) words′ slots′ (subst (Fresh model) at-first (o .fresh arena e)) same
+                (subst (λ m. Continues m (decode calls) (r .last) (memory words′ slots′ (r .last .arena))) at-first (h .continues)),
+            h .counts,
           );
         }

@@ -8,23 +8,28 @@ use lib.ListN.{length, getD, take, drop}
 use Rattle.definitions.specs.Machine as M
 use Rattle.store.specs.Memory.{Memory, Leaves}
 use Rattle.history.specs.declared.reply.Reply.{Reply}
-use Rattle.history.specs.declared.reply.Reply.the-variants.{Stored, Simplified, Spent, Pruned, Refused}
+use Rattle.history.specs.declared.reply.Reply.the-variants.{Stored, Simplified, Spent, Pruned, Refused, Nothing}
 use Rattle.history.specs.declared.reply.Answered.{Answered}
 use Rattle.history.specs.declared.finding.Next.{Next}
 use Rattle.history.specs.declared.finding.Next.the-variants.{Call, Stop}
-use Rattle.history.specs.Encoding.{headerWords, callOf, firstCall}
+use Rattle.history.specs.Encoding.{headerWords, lastCode, callOf, firstCall}
 
--- an answer of the plain machine
-abbrev pub replyOf : Reply → M.Answer
-replyOf (Stored id) = M.stored id
-replyOf (Simplified id steps) = M.simplified id false steps
-replyOf (Spent id steps) = M.simplified id true steps
-replyOf (Pruned id kept dropped) = M.pruned id kept dropped
-replyOf (Refused number) = M.refused number
+-- an answer of the plain machine, or none where no call was run
+abbrev pub replyOf : Reply → Option M.Answer
+replyOf (Stored id) = some (M.stored id)
+replyOf (Simplified id steps) = some (M.simplified id false steps)
+replyOf (Spent id steps) = some (M.simplified id true steps)
+replyOf (Pruned id kept dropped) = some (M.pruned id kept dropped)
+replyOf (Refused number) = some (M.refused number)
+replyOf Nothing = none
 
--- the call of a code and its arguments meets the contract of the public call that it stands for
-abbrev pub Runs : ℕ → ℕ → ℕ → ℕ → ℕ → List ℕ → Memory → Answered → Memory → Type 0
-Runs code a b high low operands m r m′ = (c : M.Call) → callOf code a b high low operands ≡ some c → Leaves c m (replyOf (r .reply)) m′
+-- there is a call, and it meets the contract of the public call that it stands for
+pub record Runs (call : Option M.Call) (m : Memory) (r : Answered) (m′ : Memory) : Type 0 where
+  pub ran : M.Call
+  pub is : call ≡ some ran
+  pub answer : M.Answer
+  pub reply : replyOf (r .reply) ≡ some answer
+  pub leaves : Leaves ran m answer m′
 
 -- the call whose header stands at one place, with the operands up to another
 abbrev pub callBetween : List ℕ → ℕ → ℕ → Option M.Call
@@ -33,13 +38,14 @@ callBetween calls at end =
     (take (end - (at + headerWords)) (drop (at + headerWords) calls))
 
 abbrev pub RunsAt : List ℕ → ℕ → ℕ → Memory → Answered → Memory → Type 0
-RunsAt calls at end m r m′ = (c : M.Call) → callBetween calls at end ≡ some c → Leaves c m (replyOf (r .reply)) m′
+RunsAt calls at end m r m′ = Runs (callBetween calls at end) m r m′
 
 -- a whole call with a known code stands between two places, and it is the first of the words from there on
 pub record Whole (calls : List ℕ) (at end : ℕ) : Type 0 where
   pub call : M.Call
   pub header : at + headerWords ≤ end
   pub fits : end ≤ length calls
+  pub known : getD calls at 0 ≤ lastCode
   pub between : callBetween calls at end ≡ some call
   pub first : firstCall (drop at calls) ≡ some (call, drop end calls)
 

@@ -1,18 +1,24 @@
 -- A list of calls as 32-bit words: a header of six words (code, a, b, high, low, number of operands), then the operands.
-use Prim.Native.Nat.{ℕ, zero, suc, _+_, _-_, _*_}
-use mathlib.Core.Bool.{Bool, true, false, cond}
+use Prim.Native.Nat.{ℕ, zero, suc, _+_, _-_, _*_, _/_, _%_, _<_}
+use mathlib.Core.Path.{_≡_}
+use mathlib.Core.Bool.{Bool, cond}
 use mathlib.Core.Option.{Option, none, some}
-use mathlib.Core.List.{List, [], _∷_}
+use mathlib.Core.List.{List, [], _∷_, _++_}
 use lib.ListN.{length, getD, take, drop}
 use lib.Dec.{leb, eqb}
 use Rattle.definitions.specs.Machine.{Store, variable, constant, add, sub, mul, div, pow, modulo, neg, operator, function, select, ifElse, forLoop, control, Call, store, simplify, prune, pruneBySetting}
+use Rattle.definitions.specs.Promise.{All}
 
 abbrev pub headerWords : ℕ
 headerWords = 6
 
+-- how many values a word of 32 bits has
+abbrev pub wordValues : ℕ
+wordValues = 4294967296
+
 -- a number of 64 bits by its halves
 abbrev pub wide : ℕ → ℕ → ℕ
-wide high low = high * 4294967296 + low
+wide high low = high * wordValues + low
 
 -- the first code of a call over a list of operands, the first of a call that is no store call, and the last
 abbrev pub firstWithOperands : ℕ
@@ -65,12 +71,105 @@ firstCall ws =
     none)
     none
 
+-- calls, and the words past the last of them
+pub record Decoded : Type 0 where
+  pub calls : List Call
+  pub unread : List ℕ
+
+abbrev pub decoded : List Call → List ℕ → Decoded
+decoded cs ws = record { calls = cs; unread = ws }
+
+abbrev pub withFirst : Call → Decoded → Decoded
+withFirst c d = decoded (c ∷ d .calls) (d .unread)
+
 -- the calls of the words, as far as whole calls with known codes stand; each takes a word at least
-unfoldable pub decodeFrom : ℕ → List ℕ → List Call
+unfoldable pub decodeFrom : ℕ → List ℕ → Decoded
 unfolding firstCall
-decodeFrom zero ws = []
-decodeFrom (suc f) ws = elim (firstCall ws) [ none ↦ [] | some cr ↦ cr .0 ∷ decodeFrom f (cr .1) ]
+decodeFrom zero ws = decoded [] ws
+decodeFrom (suc f) ws = elim (firstCall ws) [ none ↦ decoded [] ws | some cr ↦ withFirst (cr .0) (decodeFrom f (cr .1)) ]
 
 unfoldable pub decode : List ℕ → List Call
 unfolding decodeFrom
-decode ws = decodeFrom (length ws) ws
+decode ws = decodeFrom (length ws) ws .calls
+
+-- the words past those calls: they begin with no whole call with a known code
+unfoldable pub unread : List ℕ → List ℕ
+unfolding decodeFrom
+unread ws = decodeFrom (length ws) ws .unread
+
+-- how many words those calls take
+unfoldable pub readWords : List ℕ → ℕ
+unfolding unread
+readWords ws = length ws - length (unread ws)
+
+-- ---- words for every list of calls
+
+abbrev pub wordsOf : ℕ → ℕ → ℕ → ℕ → ℕ → List ℕ → List ℕ
+wordsOf code a b high low operands = code ∷ a ∷ b ∷ high ∷ low ∷ length operands ∷ operands
+
+abbrev pub encodeStore : Store → List ℕ
+encodeStore (variable s) = wordsOf 0 s 0 0 0 []
+encodeStore (constant n) = wordsOf 1 0 0 (n / wordValues) (n % wordValues) []
+encodeStore (add a b) = wordsOf 2 a b 0 0 []
+encodeStore (sub a b) = wordsOf 3 a b 0 0 []
+encodeStore (mul a b) = wordsOf 4 a b 0 0 []
+encodeStore (div a b) = wordsOf 5 a b 0 0 []
+encodeStore (pow a b) = wordsOf 6 a b 0 0 []
+encodeStore (modulo a b) = wordsOf 7 a b 0 0 []
+encodeStore (neg a) = wordsOf 8 a 0 0 0 []
+encodeStore (operator o f c) = wordsOf 9 o f 0 0 c
+encodeStore (function f c) = wordsOf 10 f 0 0 0 c
+encodeStore (select a b c) = wordsOf 11 a b c 0 []
+encodeStore (ifElse a b c) = wordsOf 12 a b c 0 []
+encodeStore (forLoop a b c d) = wordsOf 13 a b c d []
+encodeStore (control o c) = wordsOf 14 o 0 0 0 c
+
+abbrev pub encodeCall : Call → List ℕ
+encodeCall (store c) = encodeStore c
+encodeCall (simplify i depth n) = wordsOf 15 i depth (n / wordValues) (n % wordValues) []
+encodeCall (prune i n) = wordsOf 16 i 0 (n / wordValues) (n % wordValues) []
+encodeCall (pruneBySetting i n) = wordsOf 17 i n 0 0 []
+
+abbrev pub encode : List Call → List ℕ
+encode [] = []
+encode (c ∷ cs) = encodeCall c ++ encode cs
+
+-- a word of 32 bits, and a number of 64
+abbrev pub Word : ℕ → Type 0
+Word n = n < wordValues
+
+abbrev pub WideWord : ℕ → Type 0
+WideWord n = n < wordValues * wordValues
+
+abbrev pub Operands : List ℕ → Type 0
+Operands c = Word (length c) × All Word c
+
+-- the arguments of a call within the widths that its parameters have
+abbrev pub StoreWithin : Store → Type 0
+StoreWithin (variable s) = Word s
+StoreWithin (constant n) = WideWord n
+StoreWithin (add a b) = Word a × Word b
+StoreWithin (sub a b) = Word a × Word b
+StoreWithin (mul a b) = Word a × Word b
+StoreWithin (div a b) = Word a × Word b
+StoreWithin (pow a b) = Word a × Word b
+StoreWithin (modulo a b) = Word a × Word b
+StoreWithin (neg a) = Word a
+StoreWithin (operator o f c) = Word o × Word f × Operands c
+StoreWithin (function f c) = Word f × Operands c
+StoreWithin (select a b c) = Word a × Word b × Word c
+StoreWithin (ifElse a b c) = Word a × Word b × Word c
+StoreWithin (forLoop a b c d) = Word a × Word b × Word c × Word d
+StoreWithin (control o c) = Word o × Operands c
+
+abbrev pub Within : Call → Type 0
+Within (store c) = StoreWithin c
+Within (simplify i depth n) = Word i × Word depth × WideWord n
+Within (prune i n) = Word i × WideWord n
+Within (pruneBySetting i n) = Word i × Word n
+
+-- Every list of calls is what some words decode to, with no word left over; within the widths they are words of 32 bits.
+pub record Encodes (cs : List Call) : Type 0 where
+  pub words : All Within cs → All Word (encode cs)
+  pub decodes : decode (encode cs) ≡ cs
+  pub all-read : readWords (encode cs) ≡ length (encode cs)

@@ -4,11 +4,9 @@ ghost use mathlib.Core.Path.{_≡_};
 ghost use Prim.Native.Nat.{_≤_, _<_};
 ghost use Rattle.store.specs.Memory.{memory};
 ghost use Rattle.history.specs.Encoding as Encoding;
-ghost use Rattle.history.specs.Encoding.{firstWithOperands, firstRewriting};
+ghost use Rattle.history.specs.Encoding.{firstWithOperands, firstRewriting, lastCode, callOf};
 ghost use Rattle.history.specs.Calling.{Runs};
 use crate::reply::Answered;
-use crate::reply::NO_CALL;
-use crate::reply::Reply;
 use crate::reply::pruned;
 use crate::reply::simplified;
 use crate::reply::stored;
@@ -42,7 +40,7 @@ fn call_small(
     operands: &[u32],
 ) -> Answered
     requires { ⌜ code < firstWithOperands ⌝ }
-    ensures { λ r. ⌜ Runs code a b high low (now (operands .entry)) (memory (now (nodes .entry)) (now (slots .entry)) arena) r (memory (now (nodes .exit)) (now (slots .exit)) (r .arena)) ⌝ }
+    ensures { λ r. ⌜ Runs (callOf code a b high low (now (operands .entry))) (memory (now (nodes .entry)) (now (slots .entry)) arena) r (memory (now (nodes .exit)) (now (slots .exit)) (r .arena)) ⌝ }
 {
     if code == 0 {
         return stored(builder::variable(nodes, slots, arena, a));
@@ -84,7 +82,7 @@ fn call_with_operands(
     operands: &[u32],
 ) -> Answered
     requires { ⌜ (firstWithOperands ≤ code) × (code < firstRewriting) ⌝ }
-    ensures { λ r. ⌜ Runs code a b high low (now (operands .entry)) (memory (now (nodes .entry)) (now (slots .entry)) arena) r (memory (now (nodes .exit)) (now (slots .exit)) (r .arena)) ⌝ }
+    ensures { λ r. ⌜ Runs (callOf code a b high low (now (operands .entry))) (memory (now (nodes .entry)) (now (slots .entry)) arena) r (memory (now (nodes .exit)) (now (slots .exit)) (r .arena)) ⌝ }
 {
     if code == 9 {
         return stored(builder::operator(nodes, slots, arena, a, b, operands));
@@ -104,7 +102,7 @@ fn call_with_operands(
     stored(builder::control(nodes, slots, arena, a, operands))
 }
 
-// Simplify and the two prunes; no call has a code past theirs.
+// Simplify and the two prunes.
 fn call_rewriting(
     nodes: &mut [u64],
     slots: &mut [u32],
@@ -116,8 +114,8 @@ fn call_rewriting(
     low: u32,
     operands: &[u32],
 ) -> Answered
-    requires { ⌜ firstRewriting ≤ code ⌝ }
-    ensures { λ r. ⌜ Runs code a b high low (now (operands .entry)) (memory (now (nodes .entry)) (now (slots .entry)) arena) r (memory (now (nodes .exit)) (now (slots .exit)) (r .arena)) ⌝ }
+    requires { ⌜ (firstRewriting ≤ code) × (code ≤ lastCode) ⌝ }
+    ensures { λ r. ⌜ Runs (callOf code a b high low (now (operands .entry))) (memory (now (nodes .entry)) (now (slots .entry)) arena) r (memory (now (nodes .exit)) (now (slots .exit)) (r .arena)) ⌝ }
 {
     if code == 15 {
         return simplified(walk::simplify(nodes, slots, arena, a, b, wide(high, low)));
@@ -125,17 +123,11 @@ fn call_rewriting(
     if code == 16 {
         return pruned(pruner::prune(nodes, slots, arena, a, wide(high, low)));
     }
-    if code == 17 {
-        return pruned(pruner::prune_by_setting(nodes, slots, arena, a, b));
-    }
-    Answered {
-        reply: Reply::Refused(NO_CALL),
-        arena,
-    }
+    pruned(pruner::prune_by_setting(nodes, slots, arena, a, b))
 }
 
-// The call of a code. An unknown code changes nothing.
-pub fn call(
+// The call of a code.
+pub(crate) fn call(
     nodes: &mut [u64],
     slots: &mut [u32],
     arena: DagArena,
@@ -146,7 +138,8 @@ pub fn call(
     low: u32,
     operands: &[u32],
 ) -> Answered
-    ensures { λ r. ⌜ Runs code a b high low (now (operands .entry)) (memory (now (nodes .entry)) (now (slots .entry)) arena) r (memory (now (nodes .exit)) (now (slots .exit)) (r .arena)) ⌝ }
+    requires { ⌜ code ≤ lastCode ⌝ }
+    ensures { λ r. ⌜ Runs (callOf code a b high low (now (operands .entry))) (memory (now (nodes .entry)) (now (slots .entry)) arena) r (memory (now (nodes .exit)) (now (slots .exit)) (r .arena)) ⌝ }
 {
     if code < FIRST_WITH_OPERANDS {
         return call_small(nodes, slots, arena, code, a, b, high, low, operands);

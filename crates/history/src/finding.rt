@@ -6,11 +6,11 @@ ghost use Rattle.history.specs.Encoding.{known};
 ghost use Rattle.history.specs.Calling.{Finds};
 
 // Code, a, b, high, low, number of operands.
-pub const HEADER_WORDS: usize = 6;
+pub(crate) const HEADER_WORDS: usize = 6;
 
 const LAST_CODE: u32 = 17;
 
-pub enum Next {
+pub(crate) enum Next {
     // The place after the call.
     Call { end: usize },
     // No whole call with a known code.
@@ -25,7 +25,7 @@ fn is_known(code: u32) -> bool
 }
 
 // Whether a whole call with a known code stands at a place.
-pub fn next_call(calls: &[u32], at: usize) -> Next
+pub(crate) fn next_call(calls: &[u32], at: usize) -> Next
     requires { ⌜ at ≤ length (now calls) ⌝ }
     ensures { λ r. ⌜ Finds (now (calls .entry)) at r ⌝ }
 {

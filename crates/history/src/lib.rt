@@ -1,14 +1,14 @@
-// A list of calls, run on one store: 01's demand 3 as the contract of code. Calls are words, as specs/Encoding.antt says.
-pub mod calling;
-pub mod finding;
-pub mod reply;
+// A list of calls, run on one store: the request's demand 3 as the contract of code. Calls are words, as specs/Encoding.antt says.
+mod calling;
+mod finding;
+mod reply;
 
 ghost use Prim.Native.Nat.{_+_, _≤_};
-ghost use lib.ListN.{length};
+ghost use lib.ListN.{length, getD};
 ghost use Rattle.store.specs.Memory.{memory};
-ghost use Rattle.history.specs.Encoding.{headerWords, decode};
+ghost use Rattle.history.specs.Encoding.{headerWords, lastCode};
 ghost use Rattle.history.specs.Calling.{RunsAt};
-ghost use Rattle.history.specs.Replaying.{Continues, Replays};
+ghost use Rattle.history.specs.Replaying.{RunsAll, Replays};
 use arena::DagArena;
 use builder::FreshStore;
 use builder::fresh;
@@ -17,12 +17,20 @@ use finding::HEADER_WORDS;
 use finding::Next;
 use finding::next_call;
 pub use reply::Answered;
-use reply::NO_CALL;
 pub use reply::Reply;
 
+pub struct Run {
+    // The reply of the last call, and the store's count and size after it.
+    pub last: Answered,
+    // How many calls were run.
+    pub calls: usize,
+    // How many words those calls take. The words past them begin with no whole call with a known code, and nothing of them was run.
+    pub words: usize,
+}
+
 pub enum Replayed {
-    // The last reply, and the store's count and size after it.
-    Done(Answered),
+    // Every call that was found was run.
+    Done(Run),
     // No store was opened; the number of the refusal.
     Refused(u64),
 }
@@ -36,7 +44,7 @@ fn call_at(
     at: usize,
     end: usize,
 ) -> Answered
-    requires { ⌜ (at + headerWords ≤ end) × (end ≤ length (now calls)) ⌝ }
+    requires { ⌜ (at + headerWords ≤ end) × (end ≤ length (now calls)) × (getD (now calls) at 0 ≤ lastCode) ⌝ }
     ensures { λ r. ⌜ RunsAt (now (calls .entry)) at end (memory (now (nodes .entry)) (now (slots .entry)) arena) r (memory (now (nodes .exit)) (now (slots .exit)) (r .arena)) ⌝ }
 {
     let start = at + HEADER_WORDS;
@@ -55,24 +63,34 @@ fn call_at(
 }
 
 // Every call of the list, each on the store as the call before left it.
-fn replay_from(nodes: &mut [u64], slots: &mut [u32], arena: DagArena, calls: &[u32]) -> Answered
-    ensures { λ r. ⌜ Continues (memory (now (nodes .entry)) (now (slots .entry)) arena) (decode (now (calls .entry))) r (memory (now (nodes .exit)) (now (slots .exit)) (r .arena)) ⌝ }
+fn replay_from(nodes: &mut [u64], slots: &mut [u32], arena: DagArena, calls: &[u32]) -> Run
+    ensures { λ r. ⌜ RunsAll (memory (now (nodes .entry)) (now (slots .entry)) arena) (now (calls .entry)) r (memory (now (nodes .exit)) (now (slots .exit)) (r .last .arena)) ⌝ }
 {
-    let mut answered = Answered {
-        reply: Reply::Refused(NO_CALL),
+    let mut last = Answered {
+        reply: Reply::Nothing,
         arena,
     };
+    let mut run: usize = 0;
     let mut at: usize = 0;
     while at < calls.len() {
         let next = next_call(calls, at);
         let Next::Call { end } = next else {
-            return answered;
+            return Run {
+                last,
+                calls: run,
+                words: at,
+            };
         };
-        let before = answered.arena;
-        answered = call_at(nodes, slots, before, calls, at, end);
+        let before = last.arena;
+        last = call_at(nodes, slots, before, calls, at, end);
+        run += 1;
         at = end;
     }
-    answered
+    Run {
+        last,
+        calls: run,
+        words: at,
+    }
 }
 
 // A fresh store, then every call of the list.

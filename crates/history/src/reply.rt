@@ -1,5 +1,6 @@
 // One type of reply for all calls.
 ghost use mathlib.Core.Path.{_≡_};
+ghost use mathlib.Core.Option.{some};
 ghost use Rattle.store.specs.Memory.{answerOf};
 ghost use Rattle.pruner.specs.Answers.{meaning};
 ghost use Rattle.walk.specs.Answers as Walk;
@@ -7,15 +8,14 @@ ghost use Rattle.history.specs.Calling.{replyOf};
 use arena::DagArena;
 use store::Built;
 
-// No refusal has this number: it stands where there is no call.
-pub const NO_CALL: u64 = 0;
-
 pub enum Reply {
     Stored(u64),
     Simplified { id: u64, steps: u64 },
     Spent { id: u64, steps: u64 },
     Pruned { id: u64, kept: u64, dropped: u64 },
     Refused(u64),
+    // No call was run.
+    Nothing,
 }
 
 // A reply, and the store's count and size after it.
@@ -25,8 +25,8 @@ pub struct Answered {
 }
 
 // The reply of a store call.
-pub fn stored(built: Built) -> Answered
-    ensures { λ r. ⌜ (replyOf (r .reply) ≡ answerOf (built .answer)) × (r .arena ≡ built .arena) ⌝ }
+pub(crate) fn stored(built: Built) -> Answered
+    ensures { λ r. ⌜ (replyOf (r .reply) ≡ some (answerOf (built .answer))) × (r .arena ≡ built .arena) ⌝ }
 {
     let answer = built.answer;
     let arena = built.arena;
@@ -43,8 +43,8 @@ pub fn stored(built: Built) -> Answered
 }
 
 // The reply of a simplify.
-pub fn simplified(outcome: walk::Outcome) -> Answered
-    ensures { λ r. ⌜ (replyOf (r .reply) ≡ Walk.meaning (outcome .answer)) × (r .arena ≡ outcome .arena) ⌝ }
+pub(crate) fn simplified(outcome: walk::Outcome) -> Answered
+    ensures { λ r. ⌜ (replyOf (r .reply) ≡ some (Walk.meaning (outcome .answer))) × (r .arena ≡ outcome .arena) ⌝ }
 {
     let answer = outcome.answer;
     let arena = outcome.arena;
@@ -65,8 +65,8 @@ pub fn simplified(outcome: walk::Outcome) -> Answered
 }
 
 // The reply of a prune.
-pub fn pruned(outcome: pruner::Outcome) -> Answered
-    ensures { λ r. ⌜ (replyOf (r .reply) ≡ meaning (outcome .answer)) × (r .arena ≡ outcome .arena) ⌝ }
+pub(crate) fn pruned(outcome: pruner::Outcome) -> Answered
+    ensures { λ r. ⌜ (replyOf (r .reply) ≡ some (meaning (outcome .answer))) × (r .arena ≡ outcome .arena) ⌝ }
 {
     let answer = outcome.answer;
     let arena = outcome.arena;

@@ -138,15 +138,16 @@ intern-put bytes count sound name key after allowed of n many lent e =
 
 -- the answers to a call for a name
 pub name-called-unsound : (bytes : List ℕ) (count number : ℕ) → (Sound bytes count → ⊥) → NameCalled bytes count number (record { answer = Refused notSound; bytes = replicate longestName 0 })
-name-called-unsound bytes count number n = record { called = called-unsound bytes count (nameOf number) n; beside = refl }
+name-called-unsound bytes count number n = record { called = called-unsound bytes count (nameOf number) n; beside = refl; fits = tt }
 
 pub name-called-unknown : (bytes : List ℕ) (count number : ℕ) → Sound bytes count → count ≤ number → NameCalled bytes count number (record { answer = Unknown; bytes = replicate longestName 0 })
-name-called-unknown bytes count number s l = record { called = name-unknown bytes count s number l; beside = refl }
+name-called-unknown bytes count number s l = record { called = name-unknown bytes count s number l; beside = refl; fits = tt }
 
 pub name-called-known : (bytes : List ℕ) (count number : ℕ) → Sound bytes count → number < count → (e held : List ℕ) (n : ℕ) → IsEntry bytes number e → IsByte (getD e 0 0) n → held ≡ drop 1 e → NameCalled bytes count number (record { answer = Named n; bytes = held })
 name-called-known bytes count number s l e held n at size out = record {
   called = subst (λ (x : List ℕ). Called bytes count (nameOf number) (named x) bytes count) (sym name) (name-known bytes count s number l);
   beside = out ∙ sym (ap (drop 1) (sound-entry e (at .size) (subst SoundEntry (sym (at .is)) (s .entries number l)))) ∙ ap (λ (x : List ℕ). x ++ replicate (longestName - length x) 0) (ap nameIn (at .is) ∙ sym name);
+  fits = let longest : getD e 0 0 ≤ longestName = subst SoundEntry (sym (at .is)) (s .entries number l) .longest in omega (arith, size .is);
 }
   where
     name : take n held ≡ nameAt bytes number

@@ -55,7 +55,15 @@ bytesBeside unknown = replicate longestName 0
 bytesBeside (named name) = name ++ replicate (longestName - length name) 0
 bytesBeside (refused r) = replicate longestName 0
 
+-- a name's length is at most that of the bytes beside it
+abbrev pub Fits : Answer → Type 0
+Fits (Numbered n) = Unit {0}
+Fits Unknown = Unit {0}
+Fits (Named n) = n ≤ longestName
+Fits (Refused r) = Unit {0}
+
 -- a call for a name, answered with 32 bytes beside it
 pub record NameCalled (bytes : List ℕ) (count number : ℕ) (r : NameBytes) : Type 0 where
   pub called : Called bytes count (nameOf number) (answerOf (r .answer) (r .bytes)) bytes count
   pub beside : r .bytes ≡ bytesBeside (answerOf (r .answer) (r .bytes))
+  pub fits : Fits (r .answer)

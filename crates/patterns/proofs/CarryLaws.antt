@@ -1,29 +1,31 @@
 -- Building what a replacement says, one node after another.
-use Prim.Native.Nat.{ℕ, zero, suc, _+_, _*_, _/_, _≤_, _<_}
+use Prim.Native.Nat.{ℕ, zero, suc, _/_, _≤_, _<_}
 use mathlib.Core.Path.{_≡_, refl, sym, ap, ap₂, _∙_, subst}
-use mathlib.Core.Bool.{Bool, true, false}
+use mathlib.Core.Bool.{Bool}
 use mathlib.Core.List.{List, [], _∷_}
-use mathlib.Core.Option.{Option, none, some}
-use lib.ListN.{length, getD}
+use mathlib.Core.Option.{Option, some}
+use lib.ListN.{getD}
 use native.Mathlib.Omega.{arith}
 use Rattle.arena.specs.declared.DagArena.{DagArena}
+use Rattle.arena.specs.Layout.{nodeWords}
 use Rattle.definitions.specs.Node as N
 use Rattle.definitions.specs.Intern as I
-use Rattle.store.specs.View.{nodesIn, lent, Sound, Kept, Builds, plainBuilt, listed}
+use Rattle.arena.specs.Kind.{operatorArity}
+use Rattle.store.specs.View.{nodesIn, lent, Sound, Builds, plainBuilt, listed}
 use Rattle.store.specs.View as View
 use Rattle.store.specs.Lookup.{Fits}
 use Rattle.store.specs.declared.Built.{Built}
 use Rattle.store.specs.declared.Answer.{Answer}
 use Rattle.store.specs.declared.Answer.the-variants as A
 use Rattle.store.proofs.Keeping.{kept-refl, kept-trans}
-use Rattle.patterns.specs.Deciding.{TwoOperands, Operand, Low, ResultLow, besideConstant, carried, plainResult}
+use Rattle.patterns.specs.Carrying.{TwoOperands, Operand, Low, besideConstant, carried, BuildsBy}
+use Rattle.patterns.specs.Deciding.{ResultLow, plainResult}
 use Rattle.patterns.specs.Applied.{Applies, appliedOf, matchedOf, plainMatched, MatchedLow}
 use Rattle.patterns.specs.declared.Replacement.{Replacement}
 use Rattle.patterns.specs.declared.Replacement.the-variants.{Id}
 use Rattle.patterns.specs.declared.PatternResult.{PatternResult}
 use Rattle.patterns.specs.declared.PatternResult.the-variants as R
 use Rattle.patterns.specs.declared.Applied.{Applied}
-use Rattle.patterns.specs.declared.Matched.{Matched}
 use Rattle.patterns.specs.declared.Matched.the-variants as M
 
 -- ---- nodes that may be interned
@@ -35,7 +37,7 @@ no-children (suc (suc (suc zero))) = refl
 no-children (suc (suc (suc (suc j)))) = refl
 
 pub constant-fits : (count b : ℕ) → Fits count N.constantKind b 0 0 (0 ∷ 0 ∷ 0 ∷ 0 ∷ [])
-unfolding listed
+unfolding listed operatorArity
 constant-fits count b = record { listing = refl; unmarked = omega arith; few = omega arith; lower = λ j h. absurd (omega arith); unused = λ j h. no-children j }
 
 both-low : (a b count : ℕ) → a < count → b < count → (j : ℕ) → j < 2 → getD (a ∷ b ∷ 0 ∷ 0 ∷ []) j 0 < count
@@ -79,7 +81,7 @@ module _ {w slots : List ℕ} {s : DagArena} where
 
   module _ {m : I.Built} {w₁ slots₁ : List ℕ} {q : Built} (first : Builds w slots s m w₁ slots₁ q) where
     same-lent : lent w₁ slots₁ ≡ lent w slots
-    same-lent = ap₂ (λ (a b : ℕ). record { nodes = a / 10; slots = b }) (first .kept .long) (first .kept .wide)
+    same-lent = ap₂ (λ (a b : ℕ). record { nodes = a / nodeWords; slots = b }) (first .kept .long) (first .kept .wide)
 
     -- stopped at the first node
     pub then-stopped : (f : List N.Node → ℕ → I.Built) (k : ℕ) → q .answer ≡ A.Refused k → Builds w slots s (I.then m f) w₁ slots₁ (record { answer = A.Refused k; arena = q .arena })
@@ -110,15 +112,15 @@ module _ {w slots : List ℕ} {s : DagArena} where
     constant-right i e h = record { left = omega (arith, h .below, first .kept .count); right = low-id i e; listing = h .listing }
 
   -- the side that is asked for
-  pub on-side : {side : Bool} (t : Bool) → side ≡ t → (k bits other : ℕ) {w′ slots′ : List ℕ} {r : Built} → Builds w slots s (besideConstant t (lent w slots) (nodesIn w (s .count)) k bits other) w′ slots′ r → Builds w slots s (besideConstant side (lent w slots) (nodesIn w (s .count)) k bits other) w′ slots′ r
-  on-side t e k bits other {w′} {slots′} {r} b = subst (λ (x : Bool). Builds w slots s (besideConstant x (lent w slots) (nodesIn w (s .count)) k bits other) w′ slots′ r) (sym e) b
+  pub on-side : {left : Bool} (t : Bool) → left ≡ t → (k bits other : ℕ) {w′ slots′ : List ℕ} {r : Built} → BuildsBy (besideConstant t k bits other) w slots s w′ slots′ r → BuildsBy (besideConstant left k bits other) w slots s w′ slots′ r
+  on-side t e k bits other {w′} {slots′} {r} b = subst (λ (x : Bool). BuildsBy (besideConstant x k bits other) w slots s w′ slots′ r) (sym e) b
 
   -- a replacement that is known by its variant
-  pub carries : {p q : Replacement} → p ≡ q → {w′ slots′ : List ℕ} {r : Built} → Builds w slots s (carried (lent w slots) (nodesIn w (s .count)) q) w′ slots′ r → Builds w slots s (carried (lent w slots) (nodesIn w (s .count)) p) w′ slots′ r
-  carries e {w′} {slots′} {r} b = subst (λ (x : Replacement). Builds w slots s (carried (lent w slots) (nodesIn w (s .count)) x) w′ slots′ r) (sym e) b
+  pub carries : {p q : Replacement} → p ≡ q → {w′ slots′ : List ℕ} {r : Built} → BuildsBy (carried q) w slots s w′ slots′ r → BuildsBy (carried p) w slots s w′ slots′ r
+  carries e {w′} {slots′} {r} b = subst (λ (x : Replacement). BuildsBy (carried x) w slots s w′ slots′ r) (sym e) b
 
   -- ---- the answer of try_apply
-  pub applies-built : {p : PatternResult} {x : Replacement} {plain : Option I.Built} {w′ slots′ : List ℕ} {q : Built} {a : Applied} → p ≡ R.Fits x → plainResult (lent w slots) (nodesIn w (s .count)) p ≡ plain → Builds w slots s (carried (lent w slots) (nodesIn w (s .count)) x) w′ slots′ q → a ≡ appliedOf q → Applies w slots s plain w′ slots′ a
+  pub applies-built : {p : PatternResult} {x : Replacement} {plain : Option I.Built} {w′ slots′ : List ℕ} {q : Built} {a : Applied} → p ≡ R.Fits x → plainResult (lent w slots) (nodesIn w (s .count)) p ≡ plain → BuildsBy (carried x) w slots s w′ slots′ q → a ≡ appliedOf q → Applies w slots s plain w′ slots′ a
   applies-built {plain = plain} {w′ = w′} {slots′ = slots′} {q = q} e f b g = subst (λ (a : Applied). Applies w slots s plain w′ slots′ a) (sym g) (record {
     is = matched-is (q .answer) (nodesIn w′ (q .arena .count)) ∙ ap some (b .answer) ∙ ap (plainResult (lent w slots) (nodesIn w (s .count))) (sym e) ∙ f;
     kept = b .kept;

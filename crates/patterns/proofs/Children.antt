@@ -1,7 +1,7 @@
--- What the children of a node say: the operand of a Neg, and the coefficient of a product or a sum.
-use Prim.Native.Nat.{ℕ, zero, suc, _<_, _≤_}
+-- What the children of a node say: the operand of a Neg, and the constant among the two children of a product or a sum.
+use Prim.Native.Nat.{ℕ, _<_}
 use mathlib.Core.Path.{_≡_, refl, sym, ap, ap₂, _∙_, subst}
-use mathlib.Core.Bool.{Bool, true, false, cond}
+use mathlib.Core.Bool.{cond}
 use mathlib.Core.List.{List, [], _∷_}
 use mathlib.Core.Option.{Option, none, some}
 use lib.ListN.{length, getD}
@@ -19,8 +19,8 @@ use Rattle.patterns.specs.Reading.{Split, plainSplit, splitBy, split, Sp
 use Rattle.patterns.specs.Deciding.{Decides}
 use Rattle.patterns.specs.declared.PatternResult.the-variants.{Fits, Declined}
 use Rattle.patterns.specs.declared.Replacement.the-variants.{Id}
-use Rattle.patterns.specs.declared.merging.Coefficient.{Coefficient}
-use Rattle.patterns.specs.declared.merging.Coefficient.the-variants as F
+use Rattle.patterns.specs.declared.merging.ConstantChild.{ConstantChild}
+use Rattle.patterns.specs.declared.merging.ConstantChild.the-variants as F
 
 -- ---- lists of one and of two
 not-one : (ns : List Node) (c : List ℕ) → (length c ≡ 1 → ⊥) → none ≡ onlyChild ns c
@@ -87,9 +87,9 @@ module _ {w : List ℕ} {count a : ℕ} (h : Lookup w count a) where
         low = rw g (child-below 0 (omega (arith, long, f)));
       }
 
-  -- ---- the coefficient of a node of kind t
+  -- ---- the constant among the two children of a node of kind t
   module _ (t : ℕ) {j : ℕ} (k : j ≡ at (nodesIn w count) a .kind) where
-    abbrev Splitting : Coefficient → Type 0
+    abbrev Splitting : ConstantChild → Type 0
     Splitting r = Splits (nodesIn w count) count t a r
 
     pub no-kind : (j ≡ t → ⊥) → Splitting F.Missing
@@ -107,7 +107,7 @@ module _ {w : List ℕ} {count a : ℕ} (h : Lookup w count a) where
         is-pair =
             ap₂ (λ (u v : ℕ). some (u, v)) x y ∙ two (n .children) (sym long ∙ f) ∙ this-kind (n .kind) t j (pair (n .children)) none k e
 
-        splits : (r : Coefficient) → plainSplit r ≡ splitBy p q (constantValue (at (nodesIn w count) p)) (constantValue (at (nodesIn w count) q)) → OtherLow count r → Splitting r
+        splits : (r : ConstantChild) → plainSplit r ≡ splitBy p q (constantValue (at (nodesIn w count) p)) (constantValue (at (nodesIn w count) q)) → OtherLow count r → Splitting r
         splits r g l = record { is = g ∙ ap (split (nodesIn w count)) is-pair; low = l }
 
         pub constant-first : (b : ℕ) → some (ofBits binary64 b) ≡ constantValue (at (nodesIn w count) p) → Splitting (F.Left b q)
@@ -121,9 +121,9 @@ module _ {w : List ℕ} {count a : ℕ} (h : Lookup w count a) where
           pub no-constants : none ≡ constantValue (at (nodesIn w count) q) → Splitting F.Missing
           no-constants g = splits F.Missing (ap₂ (λ (o u : Option Float). splitBy p q o u) none-first g) tt
 
--- a coefficient that is known by its variant
-pub known-split : {r s : Coefficient} {o : Split} → r ≡ s → plainSplit r ≡ o → plainSplit s ≡ o
+-- a split that is known by its variant
+pub known-split : {r s : ConstantChild} {o : Split} → r ≡ s → plainSplit r ≡ o → plainSplit s ≡ o
 known-split e p = sym (ap plainSplit e) ∙ p
 
-pub known-other : (count : ℕ) {r s : Coefficient} → r ≡ s → OtherLow count r → OtherLow count s
+pub known-other : (count : ℕ) {r s : ConstantChild} → r ≡ s → OtherLow count r → OtherLow count s
 known-other count e l = subst (OtherLow count) e l

@@ -9,7 +9,6 @@ use Rattle.definitions.specs.Node.{Node, node, at, constantKind}
 use Rattle.definitions.specs.Intern.{Lent, Built, intern}
 use Rattle.definitions.specs.Patterns.{constantValue, internConstant, constantFold, foldBoth, folded, fold}
 use Rattle.fold.specs.Fold.{stored}
-use Rattle.fold.specs.declared.Folded.{Folded}
 use Rattle.fold.specs.declared.Folded.the-variants as F
 use Rattle.store.specs.View.{nodesIn}
 use Rattle.patterns.specs.Deciding.{Both, Decides}

@@ -1,20 +1,17 @@
 -- Each way of each identity, as a decision.
 use Prim.Native.Nat.{ℕ}
-use mathlib.Core.Path.{_≡_, refl, sym, ap, _∙_}
-use mathlib.Core.Bool.{Bool, true, false, _&&_}
+use mathlib.Core.Path.{_≡_, refl, ap}
+use mathlib.Core.Bool.{true, false, _&&_}
 use mathlib.Core.List.{List, []}
 use mathlib.Core.Option.{Option, none, some}
-use lib.Dec.{eqb}
-use lib.Ieee.{Float, binary64, toBits}
+use lib.Ieee.{Float, toBits}
 use borrow.Author.Tests.{eq-eqb, ne-eqb}
 use Rattle.definitions.specs.Node.{Node, node, at, constantKind}
 use Rattle.definitions.specs.Intern.{Lent, Built, intern}
 use Rattle.definitions.specs.Patterns.{constantValue, isZero, isOne, isFinite, isPositive, zero64, one64, internConstant, addZero, subIdentity, mulIdentity, divIdentity, powIdentity}
 use Rattle.store.specs.View.{nodesIn}
 use Rattle.patterns.specs.Deciding.{Both, Decides}
-use Rattle.patterns.specs.declared.PatternResult.{PatternResult}
 use Rattle.patterns.specs.declared.PatternResult.the-variants.{Fits, Declined}
-use Rattle.patterns.specs.declared.Replacement.{Replacement}
 use Rattle.patterns.specs.declared.Replacement.the-variants.{Id, Constant}
 use Rattle.patterns.proofs.Values.{constant-kind, no-constant-kind}
 

@@ -1,19 +1,18 @@
 -- The patterns of a kind over its children, first that fits.
 use Prim.Native.Nat.{ℕ, zero, suc, _≤_, _<_}
 use mathlib.Core.Path.{_≡_, refl, sym, ap, _∙_, subst}
-use mathlib.Core.Bool.{Bool, true, false}
+use mathlib.Core.Bool.{true, false}
 use mathlib.Core.List.{List, [], _∷_}
 use mathlib.Core.Option.{Option, none, some}
 use mathlib.Core.Logic.{_⊎_, inl, inr}
 use lib.ListN.{length, getD, take}
-use lib.Dec.{eqb}
 use lib.Seq.{ext-getD, length-take-le}
 use lib.Ieee.{Float}
 use native.Mathlib.Omega.{arith}
-use borrow.Author.Tests.{eq-eqb, ne-eqb}
+use borrow.Author.Tests.{ne-eqb}
 use Rattle.definitions.specs.Node.{Node, at, addKind, subKind, mulKind, divKind, powKind, negKind}
 use Rattle.definitions.specs.Intern.{Lent, Built}
-use Rattle.definitions.specs.Patterns.{orElse, constantValue, addZero, subIdentity, mulIdentity, divIdentity, powIdentity, negDouble, identities, fold, folded, foldBoth, constantFold, mulCoefMerge, addCoefMerge, merges, tryApply}
+use Rattle.definitions.specs.Patterns.{orElse, constantValue, addZero, subIdentity, mulIdentity, divIdentity, powIdentity, negDouble, identities, fold, foldBoth, constantFold, mulCoefMerge, addCoefMerge, merges, tryApply}
 use Rattle.store.specs.View.{nodesIn}
 use Rattle.patterns.specs.Deciding.{Decides, plainResult, declines}
 use Rattle.patterns.specs.declared.PatternResult.{PatternResult}

@@ -1,12 +1,11 @@
 -- Each way of merging a constant into a product or a sum, as a decision.
 use Prim.Native.Nat.{ℕ, _<_}
 use mathlib.Core.Path.{_≡_, refl, sym, ap, _∙_, subst}
-use mathlib.Core.Bool.{true, false}
-use mathlib.Core.List.{List, [], _∷_}
+use mathlib.Core.List.{List}
 use mathlib.Core.Option.{Option, none, some}
-use lib.Ieee.{Float, binary64, toBits}
-use Rattle.definitions.specs.Node.{Node, node, at, addKind, mulKind}
-use Rattle.definitions.specs.Intern.{Lent, Built, intern}
+use lib.Ieee.{Float}
+use Rattle.definitions.specs.Node.{Node, at, addKind, mulKind}
+use Rattle.definitions.specs.Intern.{Lent, Built}
 use Rattle.definitions.specs.Patterns.{constantValue, pairOf, internConstant, internAdd, internMul, fold, mulLeft, mulRight, mulMerged, mulMerge, addRight, addMerged, addMerge, addCoefMerge}
 use Rattle.fold.specs.Fold.{stored}
 use Rattle.fold.specs.declared.Folded.{Folded}
@@ -14,9 +13,10 @@ use Rattle.fold.specs.declared.Folded.the-variants as F
 use Rattle.arena.specs.Kind.{operatorArity}
 use Rattle.store.specs.View.{nodesIn, listed}
 use Rattle.patterns.specs.Reading.{Split, left, right, neither, splitBy, split}
-use Rattle.patterns.specs.Deciding.{Both, Decides, Operand, ResultLow, plainResult, leftOf, rightOf}
+use Rattle.patterns.specs.Carrying.{Operand}
+use Rattle.patterns.specs.Deciding.{Both, Decides, ResultLow, plainResult, leftOf, rightOf}
 use Rattle.patterns.specs.declared.PatternResult.{PatternResult}
-use Rattle.patterns.specs.declared.PatternResult.the-variants.{Fits, Declined}
+use Rattle.patterns.specs.declared.PatternResult.the-variants.{Declined}
 
 -- ---- what merging builds, by the split of the other operand
 abbrev mulSplit : Lent → List Node → Float → Split → Option Built

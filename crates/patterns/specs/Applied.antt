@@ -5,6 +5,7 @@ use mathlib.Core.List.{List}
 use mathlib.Core.Option.{Option, none, some}
 use lib.ListN.{getD}
 use Rattle.arena.specs.declared.DagArena.{DagArena}
+use Rattle.definitions.specs.Limits.{mostChildren}
 use Rattle.definitions.specs.Node.{Node}
 use Rattle.definitions.specs.Intern as I
 use Rattle.store.specs.View.{nodesIn, Kept}
@@ -16,14 +17,14 @@ use Rattle.patterns.specs.declared.Applied.{Applied}
 use Rattle.patterns.specs.declared.Matched.{Matched}
 use Rattle.patterns.specs.declared.Matched.the-variants.{Declined, Id, Refused}
 
--- the children are at most four nodes of the store
+-- the children are nodes of the store, as many as a node may have at most
 pub record Operands (count arity : ℕ) (children : List ℕ) : Type 0 where
-  pub few : arity ≤ 4
+  pub few : arity ≤ mostChildren
   pub low : (j : ℕ) → j < arity → getD children j 0 < count
 
 -- the same, for reading
 pub record Ready (w : List ℕ) (count arity : ℕ) (children : List ℕ) : Type 0 where
-  pub few : arity ≤ 4
+  pub few : arity ≤ mostChildren
   pub lookup : (j : ℕ) → j < arity → Lookup w count (getD children j 0)
 
 -- an answer over the nodes after it: no pattern fits, or the nodes with the id, or the nodes with the refusal

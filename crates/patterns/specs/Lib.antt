@@ -1,3 +1,4 @@
 pub mod Reading
+pub mod Carrying
 pub mod Deciding
 pub mod Applied

@@ -1,4 +1,4 @@
--- What the patterns read of a node: the constant that it is, and its coefficient.
+-- What the patterns read of a node: the constant that it is, and the constant among its two children.
 use Prim.Native.Nat.{ℕ, _<_}
 use mathlib.Core.Path.{_≡_}
 use mathlib.Core.List.{List}
@@ -8,8 +8,8 @@ use Rattle.definitions.specs.Node.{Node, at}
 use Rattle.definitions.specs.Patterns.{constantValue, pairOf}
 use Rattle.patterns.specs.declared.constants.Constant.{Constant}
 use Rattle.patterns.specs.declared.constants.Constant.the-variants as C
-use Rattle.patterns.specs.declared.merging.Coefficient.{Coefficient}
-use Rattle.patterns.specs.declared.merging.Coefficient.the-variants as F
+use Rattle.patterns.specs.declared.merging.ConstantChild.{ConstantChild}
+use Rattle.patterns.specs.declared.merging.ConstantChild.the-variants as F
 
 -- the number of a constant that was read
 abbrev pub valueOf : Constant → Option Float
@@ -32,17 +32,17 @@ abbrev pub split : List Node → Option (ℕ × ℕ) → Split
 split ns none = neither
 split ns (some pq) = splitBy (pq .0) (pq .1) (constantValue (at ns (pq .0))) (constantValue (at ns (pq .1)))
 
-abbrev pub plainSplit : Coefficient → Split
+abbrev pub plainSplit : ConstantChild → Split
 plainSplit (F.Left b o) = left (ofBits binary64 b) o
 plainSplit (F.Right b o) = right (ofBits binary64 b) o
 plainSplit F.Missing = neither
 
-abbrev pub OtherLow : ℕ → Coefficient → Type 0
+abbrev pub OtherLow : ℕ → ConstantChild → Type 0
 OtherLow count (F.Left b o) = o < count
 OtherLow count (F.Right b o) = o < count
 OtherLow count F.Missing = Unit {0}
 
--- the coefficient of a node of a kind that has two children; the other child is a node of the store
-pub record Splits (ns : List Node) (count kind id : ℕ) (r : Coefficient) : Type 0 where
+-- the constant among the children of a node of a kind that has two; the other child is a node of the store
+pub record Splits (ns : List Node) (count kind id : ℕ) (r : ConstantChild) : Type 0 where
   pub is : plainSplit r ≡ split ns (pairOf kind (at ns id))
   pub low : OtherLow count r

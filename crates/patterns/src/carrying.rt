@@ -1,25 +1,33 @@
 // Carrying out a replacement through the store, which alone makes nodes.
-ghost use mathlib.Core.Path.{_≡_};
-ghost use mathlib.Core.Bool.{Bool};
 ghost use mathlib.Core.List.{[], _∷_};
-ghost use Rattle.definitions.specs.Node as N;
-ghost use Rattle.definitions.specs.Intern as I;
-ghost use Rattle.store.specs.View.{nodesIn, lent, Sound, Builds};
-ghost use Rattle.patterns.specs.Deciding.{carried, besideConstant, Low, Operand, TwoOperands};
+ghost use Rattle.store.specs.View.{Sound};
+ghost use Rattle.patterns.specs.Carrying.{BuildsBy, constantOf, operatorOf, besideConstant, carried, Low, Operand, TwoOperands};
 use crate::Replacement;
+use arena::ASSOCIATIVE;
+use arena::COMMUTATIVE;
 use arena::DagArena;
-use fold::kind::CONSTANT;
+use arena::MOST_CHILDREN;
+use arena::kind::CONSTANT;
 use store::Answer;
 use store::Built;
 
-// Flags 1 commutative and 2 associative, which the constructors `add` and `mul` give.
-const COMMUTATIVE_ASSOCIATIVE: u64 = 3;
+// 01: "`add` and `mul` give flags 3".
+const ADD_AND_MUL_FLAGS: u64 = COMMUTATIVE + ASSOCIATIVE;
 
 fn intern_constant(nodes: &mut [u64], slots: &mut [u32], arena: DagArena, bits: u64) -> Built
     requires { ⌜ Sound (now nodes) (now slots) arena ⌝ }
-    ensures { λ r. ⌜ Builds (now (nodes .entry)) (now (slots .entry)) arena (I.intern (lent (now (nodes .entry)) (now (slots .entry))) (nodesIn (now (nodes .entry)) (arena .count)) (N.node N.constantKind bits 0 [])) (now (nodes .exit)) (now (slots .exit)) r ⌝ }
+    ensures { λ r. ⌜ BuildsBy (constantOf bits) (now (nodes .entry)) (now (slots .entry)) arena (now (nodes .exit)) (now (slots .exit)) r ⌝ }
 {
-    store::intern(nodes, slots, arena, CONSTANT, bits, 0, 0, [0; 4])
+    store::intern(
+        nodes,
+        slots,
+        arena,
+        CONSTANT,
+        bits,
+        0,
+        0,
+        [0; MOST_CHILDREN],
+    )
 }
 
 // An Add or a Mul of two operands.
@@ -32,7 +40,7 @@ fn intern_operator(
     rhs: u64,
 ) -> Built
     requires { ⌜ TwoOperands (arena .count) kind lhs rhs × Sound (now nodes) (now slots) arena ⌝ }
-    ensures { λ r. ⌜ Builds (now (nodes .entry)) (now (slots .entry)) arena (I.intern (lent (now (nodes .entry)) (now (slots .entry))) (nodesIn (now (nodes .entry)) (arena .count)) (N.node kind 0 3 (lhs ∷ rhs ∷ []))) (now (nodes .exit)) (now (slots .exit)) r ⌝ }
+    ensures { λ r. ⌜ BuildsBy (operatorOf kind (lhs ∷ rhs ∷ [])) (now (nodes .entry)) (now (slots .entry)) arena (now (nodes .exit)) (now (slots .exit)) r ⌝ }
 {
     store::intern(
         nodes,
@@ -40,7 +48,7 @@ fn intern_operator(
         arena,
         kind,
         0,
-        COMMUTATIVE_ASSOCIATIVE,
+        ADD_AND_MUL_FLAGS,
         2,
         [lhs, rhs, 0, 0],
     )
@@ -58,7 +66,7 @@ fn beside_constant(
     left: bool,
 ) -> Built
     requires { ⌜ Operand (arena .count) kind other × Sound (now nodes) (now slots) arena ⌝ }
-    ensures { λ r. ⌜ Builds (now (nodes .entry)) (now (slots .entry)) arena (besideConstant left (lent (now (nodes .entry)) (now (slots .entry))) (nodesIn (now (nodes .entry)) (arena .count)) kind bits other) (now (nodes .exit)) (now (slots .exit)) r ⌝ }
+    ensures { λ r. ⌜ BuildsBy (besideConstant left kind bits other) (now (nodes .entry)) (now (slots .entry)) arena (now (nodes .exit)) (now (slots .exit)) r ⌝ }
 {
     let constant = intern_constant(nodes, slots, arena, bits);
     let grown = constant.arena;
@@ -78,6 +86,7 @@ fn beside_constant(
     }
 }
 
+// What a replacement says, built.
 pub fn carry_out(
     nodes: &mut [u64],
     slots: &mut [u32],
@@ -85,7 +94,7 @@ pub fn carry_out(
     replacement: Replacement,
 ) -> Built
     requires { ⌜ Low (arena .count) replacement × Sound (now nodes) (now slots) arena ⌝ }
-    ensures { λ r. ⌜ Builds (now (nodes .entry)) (now (slots .entry)) arena (carried (lent (now (nodes .entry)) (now (slots .entry))) (nodesIn (now (nodes .entry)) (arena .count)) replacement) (now (nodes .exit)) (now (slots .exit)) r ⌝ }
+    ensures { λ r. ⌜ BuildsBy (carried replacement) (now (nodes .entry)) (now (slots .entry)) arena (now (nodes .exit)) (now (slots .exit)) r ⌝ }
 {
     match replacement {
         Replacement::Id(id) => Built {

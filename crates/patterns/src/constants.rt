@@ -6,12 +6,7 @@ ghost use Rattle.definitions.specs.Patterns as P;
 ghost use Rattle.store.specs.View.{nodesIn};
 ghost use Rattle.store.specs.Lookup.{Lookup};
 ghost use Rattle.patterns.specs.Reading.{valueOf};
-use fold::kind::CONSTANT;
-
-// The bits of 0.0 and 1.0.
-pub const ZERO_BITS: u64 = 0;
-
-pub const ONE_BITS: u64 = 0x3ff0_0000_0000_0000;
+use arena::kind::CONSTANT;
 
 // The bits of a node that is a constant.
 pub enum Constant {

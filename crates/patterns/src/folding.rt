@@ -1,5 +1,4 @@
 // Folding: an operator over two constants becomes one constant.
-ghost use mathlib.Core.Path.{_≡_};
 ghost use Rattle.definitions.specs.Patterns as P;
 ghost use Rattle.patterns.specs.Deciding.{Both, Decides};
 use crate::PatternResult;

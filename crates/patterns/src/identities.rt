@@ -1,24 +1,23 @@
 // The identities of patterns.rs, in its order. Each decides over the nodes as they are.
-ghost use mathlib.Core.Path.{_≡_};
 ghost use Rattle.definitions.specs.Patterns as P;
 ghost use Rattle.store.specs.Lookup.{Lookup};
 ghost use Rattle.patterns.specs.Deciding.{Both, Decides};
 use crate::PatternResult;
 use crate::Replacement;
 use crate::constants::Constant;
-use crate::constants::ONE_BITS;
-use crate::constants::ZERO_BITS;
 use crate::constants::constant_value;
 use crate::constants::is_one;
 use crate::constants::is_positive;
 use crate::constants::is_zero;
 use crate::constants::vanishes;
-use fold::kind::ADD;
-use fold::kind::DIV;
-use fold::kind::MUL;
-use fold::kind::NEG;
-use fold::kind::POW;
-use fold::kind::SUB;
+use arena::kind::ADD;
+use arena::kind::DIV;
+use arena::kind::MUL;
+use arena::kind::NEG;
+use arena::kind::POW;
+use arena::kind::SUB;
+use fold::BITS_OF_ONE;
+use fold::BITS_OF_ZERO;
 
 // `x + 0 -> x` and `0 + x -> x`.
 pub fn add_zero(nodes: &[u64], count: u64, lhs: u64, rhs: u64) -> PatternResult
@@ -43,7 +42,7 @@ pub fn sub_identity(nodes: &[u64], count: u64, lhs: u64, rhs: u64) -> PatternRes
         return PatternResult::Fits(Replacement::Id(lhs));
     }
     if lhs == rhs {
-        return PatternResult::Fits(Replacement::Constant(ZERO_BITS));
+        return PatternResult::Fits(Replacement::Constant(BITS_OF_ZERO));
     }
     PatternResult::Declined
 }
@@ -56,10 +55,10 @@ pub fn mul_identity(nodes: &[u64], count: u64, lhs: u64, rhs: u64) -> PatternRes
     let x = constant_value(nodes, count, lhs);
     let y = constant_value(nodes, count, rhs);
     if vanishes(x, y) {
-        return PatternResult::Fits(Replacement::Constant(ZERO_BITS));
+        return PatternResult::Fits(Replacement::Constant(BITS_OF_ZERO));
     }
     if vanishes(y, x) {
-        return PatternResult::Fits(Replacement::Constant(ZERO_BITS));
+        return PatternResult::Fits(Replacement::Constant(BITS_OF_ZERO));
     }
     if is_one(x) {
         return PatternResult::Fits(Replacement::Id(rhs));
@@ -80,13 +79,13 @@ pub fn div_identity(nodes: &[u64], count: u64, lhs: u64, rhs: u64) -> PatternRes
     }
     let x = constant_value(nodes, count, lhs);
     if is_zero(x) {
-        return PatternResult::Fits(Replacement::Constant(ZERO_BITS));
+        return PatternResult::Fits(Replacement::Constant(BITS_OF_ZERO));
     }
     if lhs != rhs {
         return PatternResult::Declined;
     }
     match x {
-        Constant::Bits(_) => PatternResult::Fits(Replacement::Constant(ONE_BITS)),
+        Constant::Bits(_) => PatternResult::Fits(Replacement::Constant(BITS_OF_ONE)),
         Constant::Missing => PatternResult::Declined,
     }
 }
@@ -99,19 +98,19 @@ pub fn pow_identity(nodes: &[u64], count: u64, lhs: u64, rhs: u64) -> PatternRes
     let x = constant_value(nodes, count, lhs);
     let y = constant_value(nodes, count, rhs);
     if is_zero(y) {
-        return PatternResult::Fits(Replacement::Constant(ONE_BITS));
+        return PatternResult::Fits(Replacement::Constant(BITS_OF_ONE));
     }
     if is_one(y) {
         return PatternResult::Fits(Replacement::Id(lhs));
     }
     if is_one(x) {
-        return PatternResult::Fits(Replacement::Constant(ONE_BITS));
+        return PatternResult::Fits(Replacement::Constant(BITS_OF_ONE));
     }
     if !is_zero(x) {
         return PatternResult::Declined;
     }
     if is_positive(y) {
-        return PatternResult::Fits(Replacement::Constant(ZERO_BITS));
+        return PatternResult::Fits(Replacement::Constant(BITS_OF_ZERO));
     }
     PatternResult::Declined
 }

@@ -2,10 +2,19 @@
 // nodes as they are what is to stand in an operator's place; `carry_out` then makes it.
 mod carrying;
 mod constants;
-pub mod folding;
-pub mod identities;
-pub mod merging;
+mod folding;
+mod identities;
+mod merging;
 
+pub use folding::constant_fold;
+pub use identities::add_zero;
+pub use identities::div_identity;
+pub use identities::mul_identity;
+pub use identities::neg_double;
+pub use identities::pow_identity;
+pub use identities::sub_identity;
+pub use merging::add_coef_merge;
+pub use merging::mul_coef_merge;
 ghost use mathlib.Core.Path.{_≡_};
 ghost use mathlib.Core.List.{[], _∷_};
 ghost use lib.ListN.{take};
@@ -14,9 +23,10 @@ ghost use Rattle.store.specs.View.{nodesIn, lent, Sound};
 ghost use Rattle.patterns.specs.Deciding.{Both, Decides, declines};
 ghost use Rattle.patterns.specs.Applied.{Operands, Ready, Applies, appliedOf};
 use arena::DagArena;
-use fold::kind::ADD;
-use fold::kind::MOD;
-use fold::kind::NEG;
+use arena::MOST_CHILDREN;
+use arena::kind::ADD;
+use arena::kind::MOD;
+use arena::kind::NEG;
 use store::Answer;
 use store::Built;
 
@@ -47,7 +57,7 @@ pub struct Applied {
 }
 
 // Whether a pattern does not fit.
-pub fn declined(result: PatternResult) -> bool
+pub(crate) fn declined(result: PatternResult) -> bool
     ensures { λ r. ⌜ r ≡ declines result ⌝ }
 {
     match result {
@@ -73,7 +83,13 @@ fn binary_pattern(nodes: &[u64], count: u64, kind: u64, lhs: u64, rhs: u64) -> P
 }
 
 // The first pattern that fits a kind over its children. Only operators have patterns.
-fn pattern(nodes: &[u64], count: u64, kind: u64, children: [u64; 4], arity: u64) -> PatternResult
+fn pattern(
+    nodes: &[u64],
+    count: u64,
+    kind: u64,
+    children: [u64; MOST_CHILDREN],
+    arity: u64,
+) -> PatternResult
     requires { ⌜ Ready (now nodes) count arity children ⌝ }
     ensures { λ r. ⌜ Decides (now (nodes .entry)) count (λ l ns. P.tryApply l ns kind (take arity children)) r ⌝ }
 {
@@ -120,7 +136,7 @@ pub fn try_apply(
     slots: &mut [u32],
     arena: DagArena,
     kind: u64,
-    children: [u64; 4],
+    children: [u64; MOST_CHILDREN],
     arity: u64,
 ) -> Applied
     requires { ⌜ Operands (arena .count) arity children × Sound (now nodes) (now slots) arena ⌝ }

@@ -1,50 +1,48 @@
 // Merging: a constant beside a product or sum that has a constant of its own.
 ghost use mathlib.Core.Path.{_≡_};
-ghost use mathlib.Core.Bool.{true};
-ghost use Prim.Native.Nat.{_<_};
 ghost use Rattle.definitions.specs.Node as N;
 ghost use Rattle.definitions.specs.Patterns as P;
 ghost use Rattle.store.specs.View.{nodesIn};
 ghost use Rattle.store.specs.Lookup.{Lookup};
 ghost use Rattle.patterns.specs.Reading.{Splits};
-ghost use Rattle.patterns.specs.Deciding.{Both, Decides, leftOf, rightOf, declines};
+ghost use Rattle.patterns.specs.Deciding.{Both, Decides, leftOf, rightOf};
 use crate::PatternResult;
 use crate::Replacement;
 use crate::constants::Constant;
 use crate::constants::constant_value;
 use crate::declined;
+use arena::kind::ADD;
+use arena::kind::MUL;
 use fold::Folded;
-use fold::kind::ADD;
-use fold::kind::MUL;
 
-// A node of two children of which one is a constant: its bits, and the other child. Where both are constants the left one is taken.
-pub enum Coefficient {
+// The constant among two children: its bits, and the other child. Where both are constants the left one is taken.
+pub enum ConstantChild {
     Left { bits: u64, other: u64 },
     Right { bits: u64, other: u64 },
     Missing,
 }
 
-// The coefficient of a node of a kind.
-fn coefficient_of(nodes: &[u64], count: u64, kind: u64, id: u64) -> Coefficient
+// The constant among the children of a node of a kind that has two.
+fn constant_child(nodes: &[u64], count: u64, kind: u64, id: u64) -> ConstantChild
     requires { ⌜ Lookup (now nodes) count id ⌝ }
     ensures { λ r. ⌜ Splits (nodesIn (now (nodes .entry)) count) count kind id r ⌝ }
 {
     if store::kind(nodes, count, id) != kind {
-        return Coefficient::Missing;
+        return ConstantChild::Missing;
     }
     if store::arity(nodes, count, id) != 2 {
-        return Coefficient::Missing;
+        return ConstantChild::Missing;
     }
     let lhs = store::child(nodes, count, id, 0);
     let rhs = store::child(nodes, count, id, 1);
     let x = constant_value(nodes, count, lhs);
     if let Constant::Bits(bits) = x {
-        return Coefficient::Left { bits, other: rhs };
+        return ConstantChild::Left { bits, other: rhs };
     }
     let y = constant_value(nodes, count, rhs);
     match y {
-        Constant::Bits(bits) => Coefficient::Right { bits, other: lhs },
-        Constant::Missing => Coefficient::Missing,
+        Constant::Bits(bits) => ConstantChild::Right { bits, other: lhs },
+        Constant::Missing => ConstantChild::Missing,
     }
 }
 
@@ -77,11 +75,15 @@ fn mul_merge(nodes: &[u64], count: u64, constant: u64, product: u64) -> PatternR
     let Constant::Bits(c) = x else {
         return PatternResult::Declined;
     };
-    let y = coefficient_of(nodes, count, MUL, product);
+    let y = constant_child(nodes, count, MUL, product);
     match y {
-        Coefficient::Left { bits, other } => constant_left(MUL, fold::fold(MUL, bits, c), other),
-        Coefficient::Right { bits, other } => constant_right(MUL, fold::fold(MUL, bits, c), other),
-        Coefficient::Missing => PatternResult::Declined,
+        ConstantChild::Left { bits, other } => constant_left(MUL, fold::fold(MUL, bits, c), other),
+        ConstantChild::Right { bits, other } => constant_right(
+            MUL,
+            fold::fold(MUL, bits, c),
+            other,
+        ),
+        ConstantChild::Missing => PatternResult::Declined,
     }
 }
 
@@ -107,11 +109,15 @@ pub fn add_coef_merge(nodes: &[u64], count: u64, lhs: u64, rhs: u64) -> PatternR
     let Constant::Bits(c) = x else {
         return PatternResult::Declined;
     };
-    let y = coefficient_of(nodes, count, ADD, lhs);
+    let y = constant_child(nodes, count, ADD, lhs);
     match y {
-        Coefficient::Left { bits, other } => constant_right(ADD, fold::fold(ADD, bits, c), other),
-        Coefficient::Right { bits, other } => constant_right(ADD, fold::fold(ADD, bits, c), other),
-        Coefficient::Missing => PatternResult::Declined,
+        ConstantChild::Left { bits, other } => constant_right(ADD, fold::fold(ADD, bits, c), other),
+        ConstantChild::Right { bits, other } => constant_right(
+            ADD,
+            fold::fold(ADD, bits, c),
+            other,
+        ),
+        ConstantChild::Missing => PatternResult::Declined,
     }
 }
 

@@ -1,6 +1,6 @@
 -- The balanced sum of terms, over the sums of its halves.
-use Prim.Native.Nat.{ℕ, zero, suc, _+_, _*_, _-_, _/_, _^_, _<_, _≤_}
-use mathlib.Core.Path.{_≡_, refl, sym, ap, _∙_, subst}
+use Prim.Native.Nat.{ℕ, zero, suc, _-_, _/_, _^_, _≤_, min}
+use mathlib.Core.Path.{_≡_, refl, ap, _∙_}
 use mathlib.Core.Bool.{Bool, true, false, cond}
 use mathlib.Core.Logic.{_⊎_, inl, inr}
 use mathlib.Core.Option.{Option, none, some}
@@ -10,7 +10,7 @@ use lib.Dec.{leb, ltb}
 use lib.Ieee.{toBits}
 use native.Mathlib.Omega.{arith}
 use native.Mathlib.Nat.{pow-suc}
-use Rattle.definitions.specs.Limits.{mostTerms, mostHalvings}
+use Rattle.definitions.specs.Limits.{mostNodes, mostTerms, mostHalvings}
 use Rattle.definitions.specs.Refusals.{noNodePlace, noSlotPlace}
 use Rattle.definitions.specs.Node.{Node, node, constantKind}
 use Rattle.definitions.specs.Intern.{Lent, Built, built, stopped, then, find, noPlace, addNew, foundOrNew, intern, tableSize}
@@ -64,13 +64,17 @@ sum-of-halves l ns (a ∷ b ∷ r) h k =
     (λ ms. same-halvings 11 12 l ms (take (length ts / 2) ts) (omega arith) (omega arith))
     (λ ms. same-halvings 11 12 l ms (drop (length ts / 2) ts) (omega arith) (omega arith))
 
-pub sum-of-none : (l : Lent) (ns : List Node) → sumOfKept l ns [] ≡ intern l ns (node constantKind 0 0 [])
-unfolding sumOfKept balancedAdd internConstant toBits
+pub sum-of-none : (l : Lent) (ns : List Node) → sumOfKept l ns [] ≡ internConstant l ns zero64
+unfolding sumOfKept balancedAdd
 sum-of-none l ns = refl
 
 pub sum-of-one : (l : Lent) (ns : List Node) (a : ℕ) → sumOfKept l ns (a ∷ []) ≡ built ns a
 unfolding sumOfKept balancedAdd
 sum-of-one l ns a = refl
+
+pub sum-of-two : (l : Lent) (ns : List Node) (a b : ℕ) → sumOfKept l ns (a ∷ b ∷ []) ≡ internAdd l ns a b
+unfolding sumOfKept balancedAdd
+sum-of-two l ns a b = refl
 
 -- ---- building stops by 21 or 22 alone
 abbrev pub NoPlace : ℕ → Type 0
@@ -86,7 +90,7 @@ WithoutPlace (some number) = NoPlace number
 
 no-place : (l : Lent) (count : ℕ) → WithoutPlace (noPlace l count)
 unfolding noPlace
-no-place l count = go (leb (Prim.Native.Nat.min (l .nodes) 65536) count) (ltb (l .slots) (tableSize (suc count)))
+no-place l count = go (leb (min (l .nodes) mostNodes) count) (ltb (l .slots) (tableSize (suc count)))
   where
     go : (a b : Bool) → WithoutPlace (cond a (some noNodePlace) (cond b (some noSlotPlace) none))
     go true b = inl refl

@@ -2,7 +2,7 @@ pub mod Below
 pub mod Chains
 pub mod Weights
 pub mod Reading
-pub mod Writing
+pub mod Pushing
 pub mod Flattening
 pub mod Filtering
 pub mod Halving

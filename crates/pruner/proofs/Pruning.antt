@@ -1,17 +1,17 @@
 -- Prunes on a sound store, by the plain machine's cases.
-use Prim.Native.Nat.{ℕ, zero, suc, _+_, _-_, _<_, _≤_}
+use Prim.Native.Nat.{ℕ, _-_, _<_, _≤_}
 use mathlib.Core.Path.{_≡_, refl, sym, ap, ap₂, _∙_, subst}
-use mathlib.Core.Bool.{Bool, true, false, cond}
-use mathlib.Core.Logic.{⊎-elim}
-use mathlib.Core.List.{List, [], _∷_}
+use mathlib.Core.Bool.{Bool, true, cond, not, false≢true}
+use mathlib.Core.Logic.{inl, inr}
+use mathlib.Core.List.{List}
 use lib.ListN.{length, take}
 use lib.Seq.{length-take-le}
-use lib.Dec.{eqb, ltb}
+use lib.Dec.{ltb}
 use lib.Ieee.{Float, binary64, ofBits}
 use native.Mathlib.Omega.{arith}
 use borrow.Author.Tests.{eq-eqb, ne-eqb, lt-ltb, le-ltb}
 use Rattle.definitions.specs.Limits.{mostTerms}
-use Rattle.definitions.specs.Refusals.{badOperand, tooManyTerms, noNodePlace, noSlotPlace}
+use Rattle.definitions.specs.Refusals.{badOperand, tooManyTerms}
 use Rattle.definitions.specs.Node.{Node, at, addKind}
 use Rattle.definitions.specs.Intern as I
 use Rattle.definitions.specs.Intern.{Lent}
@@ -24,13 +24,13 @@ use Rattle.arena.specs.declared.DagArena.{DagArena}
 use Rattle.store.specs.declared.Built.{Built}
 use Rattle.store.specs.declared.Answer as Store
 use Rattle.store.specs.declared.Answer.the-variants as Stores
-use Rattle.store.specs.View.{nodesIn, lent, Sound, Kept, Builds, plainBuilt}
-use Rattle.store.specs.Memory.{Memory, memory}
+use Rattle.store.specs.View.{nodesIn, lent, Sound, plainBuilt}
+use Rattle.store.specs.Memory.{Memory, memory, keepsInterned}
 use Rattle.store.proofs.Keeping.{kept-refl}
 use Rattle.store.proofs.Viewing.{plain-length}
 use Rattle.pruner.specs.Terms.{AllBelow, Filters, Flattens, Holds}
-use Rattle.pruner.specs.Sums.{Summable}
-use Rattle.pruner.specs.Answers.{meaning, thresholdOf, Keeps, Prunes}
+use Rattle.pruner.specs.Sums.{Summable, Sums}
+use Rattle.pruner.specs.Answers.{meaning, thresholdOf, Prunes, PrunesChain, PrunesRoot, PrunesCall}
 use Rattle.pruner.specs.declared.threshold.Threshold.{Threshold}
 use Rattle.pruner.specs.declared.threshold.Threshold.the-variants.{Bits, Refusing}
 use Rattle.pruner.specs.declared.chain.Flattened.{Flattened}
@@ -41,6 +41,11 @@ use Rattle.pruner.proofs.Below.{below-of, lower-filter}
 use Rattle.pruner.proofs.Chains.{chain-low}
 use Rattle.pruner.proofs.Reading.{readable, layered}
 use Rattle.pruner.proofs.Halving.{NoPlace, StopsForPlace, sum-stops}
+
+-- 21 and 22 keep what was interned
+for-place : (number : ℕ) → NoPlace number → keepsInterned number ≡ true
+for-place number (inl e) = ap (λ (x : ℕ). keepsInterned x) e
+for-place number (inr e) = ap (λ (x : ℕ). keepsInterned x) e
 
 -- ---- a flattening's answer by its case
 pub holds-of : (terms : List ℕ) (answer : Flattened) (array : List ℕ) (found : ℕ) → Flattens terms answer array → answer ≡ Terms found → Holds terms (Terms found) array
@@ -60,18 +65,15 @@ module _ (words slots : List ℕ) (s : DagArena) (sound : Sound words slots s) w
   ns = nodesIn words (s .count)
 
   -- memory as it was, with any answer
-  stays : (answer : Answer) → Keeps m answer m
-  stays answer = record { kept = kept-refl words slots s sound; untouched = λ number e a b. refl }
-
   pub same : (plain : M.Outcome) (answer : Answer) → outcome (meaning answer) (nodesIn words (s .count)) ≡ plain → Prunes (memory words slots s) plain answer (memory words slots s)
-  same plain answer e = record { plainly = e; leaves = stays answer }
+  same plain answer e = record { plainly = e; kept = kept-refl words slots s sound; unchanged = λ number q u. refl }
 
   -- ---- the root
 
   -- "id not below the count"
-  pub no-root : (root : ℕ) (t : T.Threshold) → s .count ≤ root → Prunes (memory words slots s) (pruneCall (lent words slots) (nodesIn words (s .count)) root t) (Refused badOperand) (memory words slots s)
+  pub no-root : (root : ℕ) (threshold : Threshold) → s .count ≤ root → PrunesCall (memory words slots s) root threshold (Refused badOperand) (memory words slots s)
   unfolding pruneCall
-  no-root root t h = same _ (Refused badOperand) (sym (ap (λ (b : Bool). cond b (pruneAt l ns root t) (outcome (M.refused badOperand) ns)) (le-ltb root (length ns) (omega (arith, plain-length words (s .count))))))
+  no-root root threshold h = same _ (Refused badOperand) (sym (ap (λ (b : Bool). cond b (pruneAt l ns root (thresholdOf threshold)) (outcome (M.refused badOperand) ns)) (le-ltb root (length ns) (omega (arith, plain-length words (s .count))))))
 
   module _ (root : ℕ) (low : root < s .count) where
     known : ltb root (length ns) ≡ true
@@ -82,14 +84,14 @@ module _ (words slots : List ℕ) (s : DagArena) (sound : Sound words slots s) w
     at-known t = sym (ap (λ (b : Bool). cond b (pruneAt l ns root t) (outcome (M.refused badOperand) ns)) known)
 
     pub at-root : (threshold : Threshold) (bits : ℕ) → threshold ≡ Bits bits → (answer : Answer) (m′ : Memory)
-        → Prunes (memory words slots s) (pruneAt (lent words slots) (nodesIn words (s .count)) root (T.bits bits)) answer m′
-        → Prunes (memory words slots s) (pruneCall (lent words slots) (nodesIn words (s .count)) root (thresholdOf threshold)) answer m′
+        → PrunesRoot (memory words slots s) root bits answer m′
+        → PrunesCall (memory words slots s) root threshold answer m′
     at-root threshold bits e answer m′ p =
-        record { plainly = p .plainly ∙ at-known (T.bits bits) ∙ ap (λ (x : Threshold). pruneCall l ns root (thresholdOf x)) (sym e); leaves = p .leaves }
+        record { plainly = p .plainly ∙ at-known (T.bits bits) ∙ ap (λ (x : Threshold). pruneCall l ns root (thresholdOf x)) (sym e); kept = p .kept; unchanged = p .unchanged }
 
     -- a threshold that is refused
     pub no-threshold : (threshold : Threshold) (number : ℕ) → threshold ≡ Refusing number
-        → Prunes (memory words slots s) (pruneCall (lent words slots) (nodesIn words (s .count)) root (thresholdOf threshold)) (Refused number) (memory words slots s)
+        → PrunesCall (memory words slots s) root threshold (Refused number) (memory words slots s)
     unfolding pruneAt
     no-threshold threshold number e = same _ (Refused number) (at-known (T.refusing number) ∙ ap (λ (x : Threshold). pruneCall l ns root (thresholdOf x)) (sym e))
 
@@ -113,22 +115,22 @@ module _ (words slots : List ℕ) (s : DagArena) (sound : Sound words slots s) w
       ks = filter (keeps ns t) ts
 
       -- "A root that is no Add has no chain and is answered itself, 1 kept, 0 dropped."
-      pub no-chain : (at (nodesIn words (s .count)) root .kind ≡ addKind → ⊥) → Prunes (memory words slots s) (pruneAt (lent words slots) (nodesIn words (s .count)) root (T.bits threshold)) (Pruned root 1 0) (memory words slots s)
+      pub no-chain : (at (nodesIn words (s .count)) root .kind ≡ addKind → ⊥) → PrunesRoot (memory words slots s) root threshold (Pruned root 1 0) (memory words slots s)
       unfolding pruneAt
       no-chain other = same _ (Pruned root 1 0) (sym (ap (λ (b : Bool). cond b (pruneChain l ns t ts) (outcome (M.pruned root 1 0) ns)) (ne-eqb (at ns root .kind) addKind other)))
 
       pub at-chain : at (nodesIn words (s .count)) root .kind ≡ addKind → (answer : Answer) (m′ : Memory)
-          → Prunes (memory words slots s) (pruneChain (lent words slots) (nodesIn words (s .count)) (ofBits binary64 threshold) (chain (nodesIn words (s .count)) root)) answer m′
-          → Prunes (memory words slots s) (pruneAt (lent words slots) (nodesIn words (s .count)) root (T.bits threshold)) answer m′
+          → PrunesChain (memory words slots s) root threshold answer m′
+          → PrunesRoot (memory words slots s) root threshold answer m′
       unfolding pruneAt
       at-chain add answer m′ p =
-          record { plainly = p .plainly ∙ sym (ap (λ (b : Bool). cond b (pruneChain l ns t ts) (outcome (M.pruned root 1 0) ns)) (eq-eqb (at ns root .kind) addKind add)); leaves = p .leaves }
+          record { plainly = p .plainly ∙ sym (ap (λ (b : Bool). cond b (pruneChain l ns t ts) (outcome (M.pruned root 1 0) ns)) (eq-eqb (at ns root .kind) addKind add)); kept = p .kept; unchanged = p .unchanged }
 
       -- ---- the chain
 
       -- "over 4,096 terms"
       pub too-many : mostTerms < length (chain (nodesIn words (s .count)) root)
-          → Prunes (memory words slots s) (pruneChain (lent words slots) (nodesIn words (s .count)) (ofBits binary64 threshold) (chain (nodesIn words (s .count)) root)) (Refused tooManyTerms) (memory words slots s)
+          → PrunesChain (memory words slots s) root threshold (Refused tooManyTerms) (memory words slots s)
       unfolding pruneChain
       too-many h = same _ (Refused tooManyTerms) (sym (ap (λ (b : Bool). cond b (outcome (M.refused tooManyTerms) ns) (prunedAs (length ks) (length ts - length ks) (sumOfKept l ns ks))) (lt-ltb mostTerms (length ts) h)))
 
@@ -158,7 +160,7 @@ module _ (words slots : List ℕ) (s : DagArena) (sound : Sound words slots s) w
             ∙ ap₂ (λ (x y : ℕ). prunedAs x y (sumOfKept l ns ks)) a b
             ∙ sym (ap (λ (b : Bool). cond b (outcome (M.refused tooManyTerms) ns) (prunedAs (length ks) (length ts - length ks) (sumOfKept l ns ks))) (le-ltb mostTerms (length ts) (let x = holds .0 in let y = holds .1 in omega arith)))
 
-        module _ (words′ slots′ : List ℕ) (r : Built) (b : Builds words slots s (sumOfKept (lent words slots) (nodesIn words (s .count)) (take kept array′)) words′ slots′ r) where
+        module _ (words′ slots′ : List ℕ) (r : Built) (b : Sums words slots s (take kept array′) words′ slots′ r) where
           abbrev ns′ : List Node
           ns′ = nodesIn words′ (r .arena .count)
 
@@ -166,21 +168,23 @@ module _ (words slots : List ℕ) (s : DagArena) (sound : Sound words slots s) w
           said answer e = ap (λ (x : Store.Answer). plainBuilt x ns′) (sym e) ∙ b .answer
 
           pub answered : (id : ℕ) → r .answer ≡ Stores.Id id
-              → Prunes (memory words slots s) (pruneChain (lent words slots) (nodesIn words (s .count)) (ofBits binary64 threshold) (chain (nodesIn words (s .count)) root)) (Pruned id kept (found - kept)) (memory words′ slots′ (r .arena))
+              → PrunesChain (memory words slots s) root threshold (Pruned id kept (found - kept)) (memory words′ slots′ (r .arena))
           answered id e = record {
             plainly = plain (I.built ns′ id) (said (Stores.Id id) e);
-            leaves = record { kept = b .kept; untouched = λ number q u v. absurd (let z : _≡_ {A = ℕ} 0 1 = cc in omega arith) };
+            kept = b .kept;
+            unchanged = λ number q u. absurd (let z : _≡_ {A = ℕ} 0 1 = cc in omega arith);
           }
 
           -- 21 and 22
           pub stops : (number : ℕ) → r .answer ≡ Stores.Refused number
-              → Prunes (memory words slots s) (pruneChain (lent words slots) (nodesIn words (s .count)) (ofBits binary64 threshold) (chain (nodesIn words (s .count)) root)) (Refused number) (memory words′ slots′ (r .arena))
+              → PrunesChain (memory words slots s) root threshold (Refused number) (memory words′ slots′ (r .arena))
           stops number e = record {
             plainly = plain (I.stopped ns′ number) (said (Stores.Refused number) e);
-            leaves = record { kept = b .kept; untouched = λ other q u v. absurd (⊎-elim (λ x. u (sym (is other q) ∙ x)) (λ x. v (sym (is other q) ∙ x)) by-place) };
+            kept = b .kept;
+            unchanged = λ other q u. absurd (false≢true (sym (ap (λ (x : ℕ). not (keepsInterned x)) (sym (is other q)) ∙ ap not (for-place number by-place)) ∙ u));
           }
             where
-              is : (other : ℕ) → Refused number ≡ Refused other → number ≡ other
+              is : (other : ℕ) → M.refused number ≡ M.refused other → number ≡ other
               is other q = cc
 
               by-place : NoPlace number

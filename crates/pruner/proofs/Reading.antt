@@ -1,6 +1,6 @@
 -- What is read of a sound store's nodes.
-use Prim.Native.Nat.{ℕ, suc, _<_, _≤_}
-use mathlib.Core.Path.{_≡_, refl, sym, ap, _∙_, subst}
+use Prim.Native.Nat.{ℕ, _<_, _≤_}
+use mathlib.Core.Path.{_≡_, refl, subst}
 use mathlib.Core.Bool.{Bool, true, false, _&&_, false≢true}
 use mathlib.Core.List.{List}
 use lib.ListN.{length}
@@ -8,14 +8,13 @@ use lib.Dec.{leb, eqb}
 use native.Mathlib.Omega.{arith}
 use borrow.Author.Tests.{leb-true}
 use Rattle.definitions.specs.Limits.{mostChildren}
-use Rattle.definitions.specs.Node.{Node, at, addKind}
+use Rattle.definitions.specs.Node.{addKind}
 use Rattle.arena.specs.declared.DagArena.{DagArena}
 use Rattle.arena.specs.Kind.{operatorArity}
 use Rattle.store.specs.View.{nodesIn, Sound, listed}
-use Rattle.store.specs.Lookup.{Lookup}
 use Rattle.store.proofs.Viewing.{plain-length}
 use Rattle.store.proofs.Reading as R
-use Rattle.pruner.specs.Terms.{Readable}
+use Rattle.pruner.specs.Terms.{childrenIn, Readable}
 use Rattle.pruner.proofs.Below.{lower-of}
 use Rattle.pruner.proofs.Chains.{Layered}
 
@@ -36,12 +35,12 @@ readable words slots s h = record { lookup = R.lookup-of words slots s h; filled
 module _ (words : List ℕ) (count : ℕ) (r : Readable words count) where
   pub layered : Layered (nodesIn words count)
   layered = record {
-    low = λ i h. lower-of i (at (nodesIn words count) i .children) (R.child-low words count i (r .lookup i (below i h)));
+    low = λ i h. lower-of i (childrenIn words count i) (R.child-low words count i (r .lookup i (below i h)));
     filled = λ i h e. r .filled i (below i h) e;
   }
     where
       below : (i : ℕ) → i < length (nodesIn words count) → i < count
       below i h = omega (arith, plain-length words count)
 
-  pub few-children : (i : ℕ) → i < count → length (at (nodesIn words count) i .children) ≤ mostChildren
+  pub few-children : (i : ℕ) → i < count → length (childrenIn words count i) ≤ mostChildren
   few-children i h = R.few words count i (r .lookup i h)

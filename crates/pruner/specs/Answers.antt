@@ -1,11 +1,16 @@
--- What each case of the crate's enums is in 01's terms, and what a call says of memory and answer.
+-- What each case of the crate's enums is in 01's terms, and what a prune on a sound store says.
 use Prim.Native.Nat.{ℕ}
 use mathlib.Core.Path.{_≡_}
-use Rattle.definitions.specs.Refusals.{noNodePlace, noSlotPlace}
+use mathlib.Core.Bool.{true, not}
+use mathlib.Core.List.{List}
+use lib.Ieee.{binary64, ofBits}
+use Rattle.definitions.specs.Node.{Node}
+use Rattle.definitions.specs.Intern.{Lent}
+use Rattle.definitions.specs.Prune.{chain}
 use Rattle.definitions.specs.Threshold as T
 use Rattle.definitions.specs.Machine as M
-use Rattle.store.specs.View.{nodesIn, Kept}
-use Rattle.store.specs.Memory.{Memory}
+use Rattle.store.specs.View.{nodesIn, lent, Kept}
+use Rattle.store.specs.Memory.{Memory, keepsInterned}
 use Rattle.pruner.specs.declared.Answer.{Answer}
 use Rattle.pruner.specs.declared.Answer.the-variants.{Pruned, Refused}
 use Rattle.pruner.specs.declared.threshold.Threshold.{Threshold}
@@ -21,14 +26,27 @@ abbrev pub thresholdOf : Threshold → T.Threshold
 thresholdOf (Bits bits) = T.bits bits
 thresholdOf (Refusing number) = T.refusing number
 
--- ---- a prune on a sound store
+-- ---- prunes
 
--- What it leaves: all that every call keeps, and after a refusal other than 21 and 22 the memory as it was.
-pub record Keeps (m : Memory) (answer : Answer) (m′ : Memory) : Type 0 where
-  pub kept : Kept (m .words) (m .slots) (m .arena) (m′ .words) (m′ .slots) (m′ .arena)
-  pub untouched : (number : ℕ) → answer ≡ Refused number → (number ≡ noNodePlace → ⊥) → (number ≡ noSlotPlace → ⊥) → m′ ≡ m
+-- the nodes in memory, and how much is lent
+abbrev pub nodesOf : Memory → List Node
+nodesOf m = nodesIn (m .words) (m .arena .count)
 
--- The plain machine's answer and nodes.
+abbrev pub lentIn : Memory → Lent
+lentIn m = lent (m .words) (m .slots)
+
+-- A prune on a sound store: the plain machine's answer and nodes. A refusal, other than 21 and 22, "changes nothing".
 pub record Prunes (m : Memory) (plain : M.Outcome) (answer : Answer) (m′ : Memory) : Type 0 where
-  pub plainly : M.outcome (meaning answer) (nodesIn (m′ .words) (m′ .arena .count)) ≡ plain
-  pub leaves : Keeps m answer m′
+  pub plainly : M.outcome (meaning answer) (nodesOf m′) ≡ plain
+  pub kept : Kept (m .words) (m .slots) (m .arena) (m′ .words) (m′ .slots) (m′ .arena)
+  pub unchanged : (number : ℕ) → meaning answer ≡ M.refused number → not (keepsInterned number) ≡ true → m′ ≡ m
+
+-- The plain machine's prune of a chain, of a root and of a call's arguments.
+abbrev pub PrunesChain : Memory → ℕ → ℕ → Answer → Memory → Type 0
+PrunesChain m root threshold = Prunes m (M.pruneChain (lentIn m) (nodesOf m) (ofBits binary64 threshold) (chain (nodesOf m) root))
+
+abbrev pub PrunesRoot : Memory → ℕ → ℕ → Answer → Memory → Type 0
+PrunesRoot m root threshold = Prunes m (M.pruneAt (lentIn m) (nodesOf m) root (T.bits threshold))
+
+abbrev pub PrunesCall : Memory → ℕ → Threshold → Answer → Memory → Type 0
+PrunesCall m root threshold = Prunes m (M.pruneCall (lentIn m) (nodesOf m) root (thresholdOf threshold))

@@ -1,10 +1,13 @@
--- What a sum of kept terms leans on.
+-- What a sum of kept terms leans on, and what it builds.
 use Prim.Native.Nat.{ℕ, _≤_}
 use mathlib.Core.List.{List}
 use lib.ListN.{length}
 use Rattle.definitions.specs.Limits.{mostTerms}
+use Rattle.definitions.specs.Patterns.{zero64, internConstant, internAdd}
+use Rattle.definitions.specs.Prune.{sumOfKept}
 use Rattle.arena.specs.declared.DagArena.{DagArena}
-use Rattle.store.specs.View.{Sound}
+use Rattle.store.specs.declared.Built.{Built}
+use Rattle.store.specs.View.{nodesIn, lent, Sound, Builds}
 use Rattle.pruner.specs.Terms.{AllBelow}
 
 -- at most 4,096 terms of a sound store
@@ -12,3 +15,13 @@ pub record Summable (words slots : List ℕ) (arena : DagArena) (terms : List �
   pub sound : Sound words slots arena
   pub few : length terms ≤ mostTerms
   pub below : AllBelow (arena .count) terms
+
+-- the plain machine's 0.0, sum of two ids, and sum of a list of terms
+abbrev pub Zero : List ℕ → List ℕ → DagArena → List ℕ → List ℕ → Built → Type 0
+Zero words slots arena = Builds words slots arena (internConstant (lent words slots) (nodesIn words (arena .count)) zero64)
+
+abbrev pub Adds : List ℕ → List ℕ → DagArena → ℕ → ℕ → List ℕ → List ℕ → Built → Type 0
+Adds words slots arena left right = Builds words slots arena (internAdd (lent words slots) (nodesIn words (arena .count)) left right)
+
+abbrev pub Sums : List ℕ → List ℕ → DagArena → List ℕ → List ℕ → List ℕ → Built → Type 0
+Sums words slots arena terms = Builds words slots arena (sumOfKept (lent words slots) (nodesIn words (arena .count)) terms)

@@ -1,64 +1,83 @@
 // The terms of an additive chain. 01: "the chain is flattened left to right through Adds".
 ghost use mathlib.Core.Path.{_≡_};
-ghost use Prim.Native.Nat.{_+_, _<_, _≤_};
+ghost use Prim.Native.Nat.{_<_, _≤_};
 ghost use lib.ListN.{length};
-ghost use lib.Seq.{paste};
 ghost use Rattle.definitions.specs.Limits.{mostTerms};
-ghost use Rattle.definitions.specs.Node.{at};
 ghost use Rattle.definitions.specs.Prune.{chain};
 ghost use Rattle.store.specs.View.{nodesIn};
 ghost use Rattle.store.specs.Lookup.{Lookup};
-ghost use Rattle.pruner.specs.Terms.{Readable, Flattens};
-use crate::ADD;
+ghost use Rattle.pruner.specs.Terms.{childrenIn, Readable, Pushes, Flattens};
+use arena::kind::ADD;
 
 // 01: "over 4,096 terms" is refused.
 pub const MOST_TERMS: usize = 4096;
 
+// Where the ids that wait to be flattened stand: in the last places of the array, in order.
+pub enum Waiting {
+    // From this place on.
+    From(usize),
+    // There is no place for them.
+    Nowhere,
+}
+
 pub enum Flattened {
-    // So many terms, in the first places of the lent array.
+    // So many terms, in the first places of the array.
     Terms(usize),
     // Over 4,096 terms.
     TooMany,
 }
 
-// The children of a node, written from a place on.
-fn write_children(nodes: &[u64], count: u64, id: u64, terms: &mut [u64; MOST_TERMS], from: usize)
-    requires { ⌜ Lookup (now nodes) count id × (from + length (at (nodesIn (now nodes) count) id .children) ≤ mostTerms) × (length (now terms) ≡ mostTerms) ⌝ }
-    ensures { λ r. ⌜ now (terms .exit) ≡ paste (now (terms .entry)) from (at (nodesIn (now (nodes .entry)) count) id .children) (length (at (nodesIn (now (nodes .entry)) count) id .children)) ⌝ }
+// The children of a node after its first, put before the ids that wait from `top` on. The first `used` places stay.
+fn push_siblings(
+    nodes: &[u64],
+    count: u64,
+    id: u64,
+    terms: &mut [u64; MOST_TERMS],
+    used: usize,
+    top: usize,
+) -> Waiting
+    requires { ⌜ Lookup (now nodes) count id × (0 < length (childrenIn (now nodes) count id)) × (used ≤ top) × (top ≤ mostTerms) × (length (now terms) ≡ mostTerms) ⌝ }
+    ensures { λ r. ⌜ Pushes (childrenIn (now (nodes .entry)) count id) used top (now (terms .entry)) r (now (terms .exit)) ⌝ }
 {
-    let arity = store::arity(nodes, count, id) as usize;
-    let mut j: usize = 0;
-    while j < arity {
-        terms[from + j] = store::child(nodes, count, id, j);
-        j += 1;
+    let mut place = store::arity(nodes, count, id) as usize;
+    let mut from = top;
+    while 1 < place {
+        if from <= used {
+            return Waiting::Nowhere;
+        }
+        place -= 1;
+        from -= 1;
+        terms[from] = store::child(nodes, count, id, place);
     }
+    Waiting::From(from)
 }
 
-// The terms under an id. The terms found stand in the first places of `terms`, and the ids that are still to be
-// flattened in the last ones, from `top` on, in order. Each of these gives a term at least, so that there are too many
-// terms exactly if the two parts would overlap.
+// The terms under an id. The terms found stand in the first places, and the ids that wait in the last ones, from `top`
+// on. Each of these and `id` give a term at least, so that there are too many terms exactly if there is no place.
 pub fn flatten(nodes: &[u64], count: u64, root: u64, terms: &mut [u64; MOST_TERMS]) -> Flattened
     requires { ⌜ (root < count) × Readable (now nodes) count × (length (now terms) ≡ mostTerms) ⌝ }
     ensures { λ r. ⌜ Flattens (chain (nodesIn (now (nodes .entry)) count) root) r (now (terms .exit)) ⌝ }
 {
     let mut found: usize = 0;
-    let mut top: usize = MOST_TERMS - 1;
-    terms[top] = root;
-    while top < MOST_TERMS {
-        let id = terms[top];
+    let mut top: usize = MOST_TERMS;
+    let mut id = root;
+    loop {
         if store::kind(nodes, count, id) == ADD {
-            let arity = store::arity(nodes, count, id) as usize;
-            let past = top + 1;
-            if past < found + arity {
-                return Flattened::TooMany;
+            match push_siblings(nodes, count, id, terms, found + 1, top) {
+                Waiting::Nowhere => return Flattened::TooMany,
+                Waiting::From(from) => {
+                    top = from;
+                    id = store::child(nodes, count, id, 0);
+                }
             }
-            top = past - arity;
-            write_children(nodes, count, id, terms, top);
         } else {
             terms[found] = id;
             found += 1;
+            if top == MOST_TERMS {
+                return Flattened::Terms(found);
+            }
+            id = terms[top];
             top += 1;
         }
     }
-    Flattened::Terms(found)
 }

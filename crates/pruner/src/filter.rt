@@ -11,8 +11,8 @@ ghost use Rattle.definitions.specs.Prune as Prune;
 ghost use Rattle.store.specs.View.{nodesIn};
 ghost use Rattle.store.specs.Lookup.{Lookup};
 ghost use Rattle.pruner.specs.Terms.{Readable, AllBelow, Filters};
-use crate::CONSTANT;
 use crate::chain::MOST_TERMS;
+use arena::kind::CONSTANT;
 
 // The binary64 bits of 1.0.
 const BITS_OF_ONE: u64 = 0x3ff0_0000_0000_0000;

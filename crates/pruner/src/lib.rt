@@ -6,22 +6,15 @@ pub mod sum;
 pub mod threshold;
 
 ghost use Prim.Native.Nat.{_<_};
-ghost use lib.Ieee.{binary64, ofBits};
 ghost use Rattle.definitions.specs.Machine as M;
-ghost use Rattle.definitions.specs.Prune as Prune;
-ghost use Rattle.definitions.specs.Threshold as T;
-ghost use Rattle.store.specs.View.{Sound, nodesIn, lent};
-ghost use Rattle.pruner.specs.Answers.{thresholdOf, meaning, Prunes};
+ghost use Rattle.store.specs.View.{Sound};
 ghost use Rattle.store.specs.Memory.{memory, Leaves};
+ghost use Rattle.pruner.specs.Answers.{meaning, PrunesChain, PrunesRoot, PrunesCall};
 use arena::DagArena;
+use arena::kind::ADD;
 use chain::Flattened;
 use chain::MOST_TERMS;
 use threshold::Threshold;
-
-// 01: "1 constant (payload the binary64 bits), 2 to 8 operator Add, ..".
-pub const CONSTANT: u64 = 1;
-
-pub const ADD: u64 = 2;
 
 pub enum Answer {
     // The id that stands for the pruned chain, and the numbers of terms kept and dropped.
@@ -45,7 +38,7 @@ fn prune_chain(
     threshold: u64,
 ) -> Outcome
     requires { ⌜ (root < arena .count) × Sound (now nodes) (now slots) arena ⌝ }
-    ensures { λ r. ⌜ Prunes (memory (now (nodes .entry)) (now (slots .entry)) arena) (M.pruneChain (lent (now (nodes .entry)) (now (slots .entry))) (nodesIn (now (nodes .entry)) (arena .count)) (ofBits binary64 threshold) (Prune.chain (nodesIn (now (nodes .entry)) (arena .count)) root)) (r .answer) (memory (now (nodes .exit)) (now (slots .exit)) (r .arena)) ⌝ }
+    ensures { λ r. ⌜ PrunesChain (memory (now (nodes .entry)) (now (slots .entry)) arena) root threshold (r .answer) (memory (now (nodes .exit)) (now (slots .exit)) (r .arena)) ⌝ }
 {
     let mut terms = [0u64; MOST_TERMS];
     let count = arena.count;
@@ -86,7 +79,7 @@ fn prune_additive_chain(
     threshold: u64,
 ) -> Outcome
     requires { ⌜ (root < arena .count) × Sound (now nodes) (now slots) arena ⌝ }
-    ensures { λ r. ⌜ Prunes (memory (now (nodes .entry)) (now (slots .entry)) arena) (M.pruneAt (lent (now (nodes .entry)) (now (slots .entry))) (nodesIn (now (nodes .entry)) (arena .count)) root (T.bits threshold)) (r .answer) (memory (now (nodes .exit)) (now (slots .exit)) (r .arena)) ⌝ }
+    ensures { λ r. ⌜ PrunesRoot (memory (now (nodes .entry)) (now (slots .entry)) arena) root threshold (r .answer) (memory (now (nodes .exit)) (now (slots .exit)) (r .arena)) ⌝ }
 {
     if store::kind(nodes, arena.count, root) == ADD {
         return prune_chain(nodes, slots, arena, root, threshold);
@@ -101,8 +94,8 @@ fn prune_additive_chain(
     }
 }
 
-// A prune on a store that is known to be sound.
-pub fn prune_sound(
+// What comes before the chain: 4, then 7 or 8.
+fn prune_call(
     nodes: &mut [u64],
     slots: &mut [u32],
     arena: DagArena,
@@ -110,7 +103,7 @@ pub fn prune_sound(
     threshold: Threshold,
 ) -> Outcome
     requires { ⌜ Sound (now nodes) (now slots) arena ⌝ }
-    ensures { λ r. ⌜ Prunes (memory (now (nodes .entry)) (now (slots .entry)) arena) (M.pruneCall (lent (now (nodes .entry)) (now (slots .entry))) (nodesIn (now (nodes .entry)) (arena .count)) root (thresholdOf threshold)) (r .answer) (memory (now (nodes .exit)) (now (slots .exit)) (r .arena)) ⌝ }
+    ensures { λ r. ⌜ PrunesCall (memory (now (nodes .entry)) (now (slots .entry)) arena) root threshold (r .answer) (memory (now (nodes .exit)) (now (slots .exit)) (r .arena)) ⌝ }
 {
     let id = root as u64;
     if arena.count <= id {
@@ -126,6 +119,34 @@ pub fn prune_sound(
             arena,
         },
     }
+}
+
+// A prune of an id at a threshold, on a store that is known to be sound.
+pub fn prune_sound(
+    nodes: &mut [u64],
+    slots: &mut [u32],
+    arena: DagArena,
+    root: u32,
+    threshold: u64,
+) -> Outcome
+    requires { ⌜ Sound (now nodes) (now slots) arena ⌝ }
+    ensures { λ r. ⌜ Leaves (M.prune root threshold) (memory (now (nodes .entry)) (now (slots .entry)) arena) (meaning (r .answer)) (memory (now (nodes .exit)) (now (slots .exit)) (r .arena)) ⌝ }
+{
+    prune_call(nodes, slots, arena, root, threshold::given(threshold))
+}
+
+// 01: "a prune by setting is the prune at that threshold"; on a store that is known to be sound.
+pub fn prune_sound_by_setting(
+    nodes: &mut [u64],
+    slots: &mut [u32],
+    arena: DagArena,
+    root: u32,
+    setting: u32,
+) -> Outcome
+    requires { ⌜ Sound (now nodes) (now slots) arena ⌝ }
+    ensures { λ r. ⌜ Leaves (M.pruneBySetting root setting) (memory (now (nodes .entry)) (now (slots .entry)) arena) (meaning (r .answer)) (memory (now (nodes .exit)) (now (slots .exit)) (r .arena)) ⌝ }
+{
+    prune_call(nodes, slots, arena, root, threshold::of_setting(setting))
 }
 
 // A prune of an id at a threshold, both of any value, on any store.
@@ -144,10 +165,10 @@ pub fn prune(
             arena,
         };
     }
-    prune_sound(nodes, slots, arena, root, threshold::given(threshold))
+    prune_sound(nodes, slots, arena, root, threshold)
 }
 
-// A prune of an id by a setting. 01: "a prune by setting is the prune at that threshold".
+// A prune of an id by a setting, both of any value, on any store.
 pub fn prune_by_setting(
     nodes: &mut [u64],
     slots: &mut [u32],
@@ -163,5 +184,5 @@ pub fn prune_by_setting(
             arena,
         };
     }
-    prune_sound(nodes, slots, arena, root, threshold::of_setting(setting))
+    prune_sound_by_setting(nodes, slots, arena, root, setting)
 }

@@ -4,6 +4,7 @@ use mathlib.Core.Path.{_≡_, refl, sym, ap, _∙_}
 use mathlib.Core.Bool.{true}
 use mathlib.Core.List.{List}
 use lib.ListN.{length}
+use native.Mathlib.Omega.{arith}
 use Rattle.arena.specs.Layout.{nodeWords}
 use Rattle.definitions.specs.Limits.{mostDoublings}
 use Rattle.definitions.specs.Refusals.{notSound}
@@ -29,9 +30,12 @@ module _ (c : Call) (m : Memory) where
   pub leaves-unsound : (SoundMemory m → ⊥) → Leaves c m (refused notSound) m
   leaves-unsound n = record {
     called = record { unsound = λ _. (refl, refl); answer = λ h. absurd (n h); left = λ h. absurd (n h); sound = λ h. h; same-lent = refl };
+    count = omega arith;
     size = λ h. absurd (n h);
     words-past = refl;
     slots-past = refl;
+    slots-same = λ _. refl;
+    slots-used = λ _ at used. refl;
     unchanged = λ number e u. refl;
   }
 
@@ -45,9 +49,12 @@ module _ (c : Call) (m : Memory) where
       sound = λ _. k .whole;
       same-lent = rw (k .long, k .wide) refl;
     };
+    count = k .count;
     size = λ _. grown-is (m .arena .size) (m′ .arena .count) (m′ .arena .size) (h .table .doubled) (k .whole .nodes .formed .many) (k .whole .table .load) (k .grown);
     words-past = k .words-past;
     slots-past = k .slots-past;
+    slots-same = k .slots-same;
+    slots-used = k .slots-used;
     unchanged = u;
   }
 

@@ -1,4 +1,3 @@
-pub mod ChildLists
 pub mod Viewing
 pub mod Sizes
 pub mod Keeping
@@ -7,4 +6,6 @@ pub mod Reading
 pub mod NewNodes
 pub mod Marking
 pub mod Leaving
+pub mod Staying
+pub mod Determined
 pub mod Histories

@@ -5,7 +5,7 @@ use mathlib.Core.Bool.{Bool, true, false, cond, _||_, false≢true}
 use mathlib.Core.List.{List, [], _∷_, _++_}
 use mathlib.Core.Logic.{_⊎_, inl, inr, ⊎-elim}
 use mathlib.Core.Option.{Option, none, some}
-use lib.ListN.{length, drop, List·getD-append}
+use lib.ListN.{length, getD, drop, List·getD-append}
 use lib.Dec.{leb, ltb}
 use native.Mathlib.Omega.{arith}
 use native.Mathlib.Numerals.{add-one}
@@ -21,11 +21,13 @@ use Rattle.arena.proofs.Finding.{found-at}
 use Rattle.dedup.specs.declared.Interned.{Interned}
 use Rattle.dedup.specs.declared.Answer as DA
 use Rattle.dedup.specs.declared.Answer.the-variants as DV
+use Rattle.dedup.specs.Table.{UsedStay}
 use Rattle.dedup.specs.Intern as D
 use Rattle.dedup.specs.Intern.{answered, newAnswer, internAnswer, wordsAfter, SlotsKept}
 use Rattle.definitions.specs.Node as N
+use Rattle.definitions.specs.Refusals.{noNodePlace, noSlotPlace}
 use Rattle.definitions.specs.Intern as I
-use Rattle.definitions.specs.Intern.{noPlace, foundOrNew, addNew}
+use Rattle.definitions.specs.Intern.{capacity, noPlace, foundOrNew, addNew}
 use Rattle.store.specs.declared.Built.{Built}
 use Rattle.store.specs.declared.Answer.{Answer}
 use Rattle.store.specs.declared.Answer.the-variants.{Id, Refused}
@@ -87,8 +89,8 @@ module _ (w slots : List ℕ) (s : DagArena) (key : DagNode) (four : length (key
     after : (a : DA.Answer) → t .answer ≡ a → w′ ≡ wordsAfter a w key
     after a e = i .words-after ∙ ap (λ (x : DA.Answer). wordsAfter x w key) e
 
-    kept-slots : (a : DA.Answer) → t .answer ≡ a → SlotsKept a slots slots′
-    kept-slots a e = subst (λ (x : DA.Answer). SlotsKept x slots slots′) e (i .slots-kept)
+    kept-slots : (a : DA.Answer) → t .answer ≡ a → SlotsKept a z (t .arena .size) slots slots′
+    kept-slots a e = subst (λ (x : DA.Answer). SlotsKept x z (t .arena .size) slots slots′) e (i .slots-kept)
 
     -- the same nodes and slots
     stays : (a : DA.Answer) → t ≡ answered a (s .count) (s .size) → w′ ≡ w → slots′ ≡ slots → plainBuilt (viewed a) (nodesIn w c) ≡ plain → Low (viewed a) c → Goal
@@ -106,6 +108,8 @@ module _ (w slots : List ℕ) (s : DagArena) (key : DagNode) (four : length (key
               wide = ls;
               words-past = ap (drop (c * nodeWords)) q;
               slots-past = ap (drop z) r;
+              slots-same = λ _. r;
+              slots-used = λ _ at n. ap (λ (x : List ℕ). getD x at 0) r;
               children = λ j l. ap (λ (x : List ℕ). N.at (nodesIn x c) j .children) q;
             };
             low = low;
@@ -123,9 +127,10 @@ module _ (w slots : List ℕ) (s : DagArena) (key : DagNode) (four : length (key
       refuse number q e = let a = ap (λ (x : Interned). x .answer) e in stays (DV.Refused number) e (after _ a) (kept-slots _ a) (sym (fresh (some number) g q)) tt
 
       add : (size : ℕ) → c * nodeWords + nodeWords ≤ length w → s .size ≤ size → Grown (s .size) (c + 1) size → noPlace (lent w slots) c ≡ none → t ≡ answered (DV.New c) (c + 1) size → Goal
-      unfolding wordsAfter
+      unfolding wordsAfter SlotsKept
       add size fits m d q e =
           let p : w′ ≡ put w c key = after (DV.New c) (ap (λ (x : Interned). x .answer) e) in
+          let used : t .arena .size ≡ z → UsedStay slots slots′ = kept-slots (DV.New c) (ap (λ (x : Interned). x .answer) e) in
           let ten : (c + 1) * nodeWords ≡ c * nodeWords + nodeWords = omega arith in
           let nodes : nodesIn w′ (c + 1) ≡ nodesIn w c ++ (plainNode key ∷ []) = ap (λ (x : List ℕ). nodesIn x (c + 1)) p ∙ put-nodes fits in
           subst (λ (x : Interned). Interns w slots s (plainNode key) w′ slots′ (out x)) (sym e)
@@ -144,6 +149,8 @@ module _ (w slots : List ℕ) (s : DagArena) (key : DagNode) (four : length (key
                 wide = ls;
                 words-past = rw ten (ap (drop (c * nodeWords + nodeWords)) p ∙ put-past w c key fits four);
                 slots-past = subst (λ (x : Interned). drop (x .arena .size) slots′ ≡ drop (x .arena .size) slots) e (i .slots-past);
+                slots-same = λ same. absurd (omega arith);
+                slots-used = λ same. used (ap (λ (x : Interned). x .arena .size) e ∙ same);
                 children = λ j l.
                     ap (λ (x : List N.Node). N.at x j .children) nodes
                     ∙ ap (λ (x : N.Node). x .children) (List·getD-append (nodesIn w c) (plainNode key ∷ []) N.blank j (rw (plain-length w c) l));
@@ -164,7 +171,7 @@ module _ (w slots : List ℕ) (s : DagArena) (key : DagNode) (four : length (key
       unfolding newAnswer
       new = let d = h .table .doubled in let load = h .table .load in let sized = h .table .sized in
           pick (leb mostNodes c || ltb (length w) (c * nodeWords + nodeWords)) _ _
-          (λ y. refuse 21 (full-nodes L c z d load sized (⊎-elim
+          (λ y. refuse noNodePlace (full-nodes L c z d load sized (⊎-elim
           (λ a. let b = leb-true mostNodes c a in omega arith)
           (λ a. let b = ltb-true (length w) (c * nodeWords + nodeWords) a in omega arith)
           (either (leb mostNodes c) (ltb (length w) (c * nodeWords + nodeWords)) y))))
@@ -172,11 +179,11 @@ module _ (w slots : List ℕ) (s : DagArena) (key : DagNode) (four : length (key
           let few = leb-false mostNodes c (both .0) in
           let fits = ltb-false (length w) (c * nodeWords + nodeWords) (both .1) in
           let place : c < min (length w / nodeWords) mostNodes = omega arith in
-          pick (leb (c + 1) (z * 7 / 10)) _ _
-          (λ m. let k = leb-true (c + 1) (z * 7 / 10) m in add z fits (omega arith) (grown-refl z (c + 1)) (full-not L c z d load sized place k))
-          (λ m. let k = leb-false (c + 1) (z * 7 / 10) m in
+          pick (leb (c + 1) (capacity z)) _ _
+          (λ m. let k = leb-true (c + 1) (capacity z) m in add z fits (omega arith) (grown-refl z (c + 1)) (full-not L c z d load sized place k))
+          (λ m. let k = leb-false (c + 1) (capacity z) m in
           pick (ltb (length slots) (z * 2)) _ _
-          (λ r. refuse 22 (full-slots L c z d load sized place k (ltb-true (length slots) (z * 2) r)))
+          (λ r. refuse noSlotPlace (full-slots L c z d load sized place k (ltb-true (length slots) (z * 2) r)))
           (λ r. add (z * 2) fits (omega arith) (grown-once z (c + 1) k) (full-double L c z d load sized place k (ltb-false (length slots) (z * 2) r)))))
 
     pub refined : Goal

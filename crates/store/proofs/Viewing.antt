@@ -24,7 +24,6 @@ use Rattle.arena.proofs.OneNode.{children-eq, children-refl, one-sym, one-trans
 use Rattle.arena.proofs.Finding.{find-none}
 use Rattle.definitions.specs.Node as N
 use Rattle.definitions.specs.Intern as I
-use Rattle.store.proofs.ChildLists.{sameChildren-eq, sameChildren-refl}
 use Rattle.store.specs.View.{plainNode, nodesIn}
 
 pub plain-more : (w : List ℕ) (n : ℕ) → nodesIn w (suc n) ≡ nodesIn w n ++ (plainNode (nodeAt w n) ∷ [])
@@ -69,12 +68,10 @@ four-tests : (a b c d e : Bool) → d ≡ e → a && (b && (c && d)) ≡ a && (b
 four-tests a b c d e h = rw h refl
 
 module _ (m k : DagNode) (nm : Neat m) (nk : Neat k) where
-  taken-to : N.sameChildren (take (m .arity) (m .children)) (take (k .arity) (k .children)) ≡ true → eqb (m .arity) (k .arity) && A.sameChildren (m .children) (k .children) ≡ true
-  taken-to h = rw (eq-eqb _ _ long, all) (children-refl (k .children))
+  -- the children decide the child count and the places
+  pub taken-all : take (m .arity) (m .children) ≡ take (k .arity) (k .children) → (m .arity ≡ k .arity) × (m .children ≡ k .children)
+  taken-all same = (long, ext-getD 0 (m .children) (k .children) (nm .four ∙ sym (nk .four)) (λ j l. place j))
     where
-      same : take (m .arity) (m .children) ≡ take (k .arity) (k .children)
-      same = sameChildren-eq _ _ h
-
       lm : length (take (m .arity) (m .children)) ≡ m .arity
       lm = length-take-le _ _ (let f = nm .four in let g = nm .few in omega arith)
 
@@ -91,18 +88,18 @@ module _ (m k : DagNode) (nm : Neat m) (nk : Neat k) where
           go (yes l) = sym (getD-take (m .arity) (m .children) j 0 l) ∙ ap (λ (x : List ℕ). getD x j 0) same ∙ getD-take (k .arity) (k .children) j 0 (omega (arith, long))
           go (no l) = nm .unused j (omega arith) ∙ sym (nk .unused j (omega (arith, long)))
 
-      all : m .children ≡ k .children
-      all = ext-getD 0 (m .children) (k .children) (nm .four ∙ sym (nk .four)) (λ j l. place j)
+  taken-to : N.sameChildren (take (m .arity) (m .children)) (take (k .arity) (k .children)) ≡ true → eqb (m .arity) (k .arity) && N.sameChildren (m .children) (k .children) ≡ true
+  taken-to h = let t = taken-all (children-eq _ _ h) in rw (eq-eqb _ _ (t .0), t .1) (children-refl (k .children))
 
-  taken-from : eqb (m .arity) (k .arity) && A.sameChildren (m .children) (k .children) ≡ true → N.sameChildren (take (m .arity) (m .children)) (take (k .arity) (k .children)) ≡ true
+  taken-from : eqb (m .arity) (k .arity) && N.sameChildren (m .children) (k .children) ≡ true → N.sameChildren (take (m .arity) (m .children)) (take (k .arity) (k .children)) ≡ true
   taken-from h =
-      let b = both (eqb (m .arity) (k .arity)) (A.sameChildren (m .children) (k .children)) h in
+      let b = both (eqb (m .arity) (k .arity)) (N.sameChildren (m .children) (k .children)) h in
       let e = eqb-true (m .arity) (k .arity) (b .0) in
       let f = children-eq (m .children) (k .children) (b .1) in
-      rw (e, f) (sameChildren-refl (take (k .arity) (k .children)))
+      rw (e, f) (children-refl (take (k .arity) (k .children)))
 
   -- the children agree exactly if the child counts and places do
-  pub children-same : N.sameChildren (take (m .arity) (m .children)) (take (k .arity) (k .children)) ≡ (eqb (m .arity) (k .arity) && A.sameChildren (m .children) (k .children))
+  pub children-same : N.sameChildren (take (m .arity) (m .children)) (take (k .arity) (k .children)) ≡ (eqb (m .arity) (k .arity) && N.sameChildren (m .children) (k .children))
   children-same = same-test _ _ taken-to taken-from
 
   pub same-one : N.same (plainNode m) (plainNode k) ≡ one m k

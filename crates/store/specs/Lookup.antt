@@ -8,6 +8,7 @@ use Rattle.definitions.specs.Node.{at}
 use Rattle.definitions.specs.Walk.{standard, marked}
 use Rattle.arena.specs.declared.DagArena.{DagArena}
 use Rattle.arena.specs.Layout.{mostChildren}
+use Rattle.arena.specs.Node.{canonical}
 use Rattle.arena.specs.Nodes.{Nodes}
 use Rattle.store.specs.Sound.{Sound}
 use Rattle.store.specs.View.{nodesIn, Kept, listed}
@@ -32,7 +33,7 @@ pub record Marked (words : List ℕ) (count id : ℕ) (words′ : List ℕ) : Ty
 -- a node that may be interned: kind, payload and child count as listed, children of the store, unused places 0
 pub record Fits (count kind payload flags arity : ℕ) (children : List ℕ) : Type 0 where
   pub listing : listed kind payload arity ≡ true
-  pub unmarked : flags < 4
+  pub unmarked : flags < canonical
   pub few : arity ≤ mostChildren
   pub lower : (j : ℕ) → j < arity → getD children j 0 < count
   pub unused : (j : ℕ) → arity ≤ j → getD children j 0 ≡ 0

@@ -1,5 +1,5 @@
--- The memory of a store as calls have it, and what the contract of every public call says.
-use Prim.Native.Nat.{ℕ, _*_}
+-- The memory of a store as calls have it, and what the contract of each store, simplify and prune call says.
+use Prim.Native.Nat.{ℕ, _*_, _≤_}
 use mathlib.Core.Path.{_≡_}
 use mathlib.Core.Bool.{Bool, true, _||_, not}
 use mathlib.Core.List.{List}
@@ -7,6 +7,7 @@ use lib.ListN.{drop}
 use lib.Dec.{eqb}
 use Rattle.arena.specs.declared.DagArena.{DagArena}
 use Rattle.arena.specs.Layout.{nodeWords}
+use Rattle.dedup.specs.Table.{UsedStay}
 use Rattle.definitions.specs.Limits.{mostDoublings}
 use Rattle.definitions.specs.Refusals.{noNodePlace, noSlotPlace}
 use Rattle.definitions.specs.Intern.{tableSizeFrom}
@@ -15,7 +16,7 @@ use Rattle.definitions.specs.Promise.{Model, Called}
 use Rattle.store.specs.declared.Answer.{Answer}
 use Rattle.store.specs.declared.Answer.the-variants.{Id, Refused}
 use Rattle.store.specs.Sound.{Sound}
-use Rattle.store.specs.View.{nodesIn, lent}
+use Rattle.store.specs.View.{nodesIn, lent, Grown}
 
 -- the lent words and slots, with the counts
 pub record Memory : Type 0 where
@@ -51,13 +52,30 @@ changesNothing (M.simplify id depth budget) number = not (keepsInterned number)
 changesNothing (M.prune id threshold) number = not (keepsInterned number)
 changesNothing (M.pruneBySetting id setting) number = not (keepsInterned number)
 
--- What every public call that may change the memory says of the memory before it, its answer and the memory after it. The call is the plain
--- machine's, and a sound store stays sound; what it does not say of the nodes follows from these, and only the choice of slots is left open.
+-- What each store, simplify and prune call says of the memory before it, its answer and the memory after it. The call is the plain machine's,
+-- and a sound store stays sound; what it does not say of the words follows from these (proofs Determined), and only the choice of slots is
+-- left open.
 pub record Leaves (c : M.Call) (m : Memory) (a : M.Answer) (m′ : Memory) : Type 0 where
   pub called : Called model c m a m′
+  -- no node is taken away
+  pub count : m .arena .count ≤ m′ .arena .count
   -- the table "doubles before an insertion that would make the count exceed floor(size·7/10)"
   pub size : Sound (m .words) (m .slots) (m .arena) → m′ .arena .size ≡ tableSizeFrom mostDoublings (m .arena .size) (m′ .arena .count)
   -- "Words and slots past the used ones stay."
   pub words-past : drop (m′ .arena .count * nodeWords) (m′ .words) ≡ drop (m′ .arena .count * nodeWords) (m .words)
   pub slots-past : drop (m′ .arena .size) (m′ .slots) ≡ drop (m′ .arena .size) (m .slots)
+  -- no slot changes where no node is added, and a slot in use stays where the table keeps its size
+  pub slots-same : m′ .arena .count ≡ m .arena .count → m′ .slots ≡ m .slots
+  pub slots-used : m′ .arena .size ≡ m .arena .size → UsedStay (m .slots) (m′ .slots)
   pub unchanged : (number : ℕ) → a ≡ M.refused number → changesNothing c number ≡ true → m′ ≡ m
+
+-- What any list of such calls leaves of a sound memory: a sound one with at least its nodes, the table as large as they need, and what lies
+-- past the used words and slots.
+pub record Stays (m m′ : Memory) : Type 0 where
+  pub sound : model .Sound m′
+  pub count : m .arena .count ≤ m′ .arena .count
+  pub grown : Grown (m .arena .size) (m′ .arena .count) (m′ .arena .size)
+  pub same-lent : model .lent m′ ≡ model .lent m
+  pub words-past : drop (m′ .arena .count * nodeWords) (m′ .words) ≡ drop (m′ .arena .count * nodeWords) (m .words)
+  pub slots-past : drop (m′ .arena .size) (m′ .slots) ≡ drop (m′ .arena .size) (m .slots)
+  pub slots-same : m′ .arena .count ≡ m .arena .count → m′ .slots ≡ m .slots

@@ -22,7 +22,7 @@ use Rattle.arena.specs.declared.DagArena.{DagArena}
 use Rattle.walk.specs.declared.state.Walk.{Walk}
 use Rattle.walk.specs.declared.Outcome as Outcomes
 use Rattle.walk.specs.declared.Answer.the-variants.{Refused}
-use Rattle.walk.specs.Memory.{Memory, memory, Sound, nodesOf, lentOf, Keeps}
+use Rattle.rebuild.specs.Memory.{Memory, memory, Sound, nodesOf, lentOf, Keeps}
 use Rattle.walk.specs.Answers.{meaning}
 use Rattle.walk.specs.Turns.{Starts, Startable, Runs}
 use Rattle.walk.proofs.Refusing.{refused-full}

@@ -6,12 +6,13 @@ use lib.ListN.{length, getD, set, length-set}
 use lib.Seq.{getD-set-same, getD-set-other}
 use native.Mathlib.Omega.{arith}
 use native.Mathlib.Decide.{ℕ-discrete}
+use Rattle.definitions.specs.Limits.{mostChildren}
 use Rattle.walk.specs.Stack.{Gathered}
 
 -- the first j of n places are filled
 pub record Filled (values : List ℕ) (from n : ℕ) (places : List ℕ) (j : ℕ) : Type 0 where
   pub within : j ≤ n
-  pub long : length places ≡ 4
+  pub long : length places ≡ mostChildren
   pub done : (i : ℕ) → i < j → getD places i 0 ≡ getD values (from + i) 0
   pub rest : (i : ℕ) → j ≤ i → getD places i 0 ≡ 0
 
@@ -25,7 +26,7 @@ zeros (suc (suc (suc (suc i)))) = refl
 pub filled-none : (values : List ℕ) (from n : ℕ) → Filled values from n (0 ∷ 0 ∷ 0 ∷ 0 ∷ []) 0
 filled-none values from n = record { within = omega arith; long = refl; done = λ i l. absurd (omega arith); rest = λ i l. zeros i }
 
-pub filled-next : (values : List ℕ) (from n : ℕ) (places : List ℕ) (j : ℕ) → Filled values from n places j → j < n → n ≤ 4
+pub filled-next : (values : List ℕ) (from n : ℕ) (places : List ℕ) (j : ℕ) → Filled values from n places j → j < n → n ≤ mostChildren
     → Filled values from n (set places j (getD values (from + j) 0)) (j + 1)
 filled-next values from n places j f l few = record {
   within = omega arith;

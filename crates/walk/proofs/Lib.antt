@@ -1,5 +1,3 @@
-pub mod ChildPlaces
-pub mod Rebuilding
 pub mod Stacks
 pub mod Gathering
 pub mod Descending
@@ -7,3 +5,4 @@ pub mod Turning
 pub mod Running
 pub mod Refusing
 pub mod Calling
+pub mod Stepping

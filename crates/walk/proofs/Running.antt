@@ -3,9 +3,10 @@ use Prim.Native.Nat.{ℕ, zero, suc, _+_, _-_, _/_, _≤_, _<_}
 use mathlib.Core.Path.{_≡_, refl, sym, ap, ap₂, _∙_, subst}
 use mathlib.Core.Bool.{true, false}
 use mathlib.Core.List.{List, [], _∷_}
-use lib.ListN.{length, getD, set, length-set}
-use lib.Seq.{getD-set-same}
+use mathlib.Core.Logic.{_⊎_, ⊎-elim}
+use lib.ListN.{length, getD}
 use native.Mathlib.Omega.{arith}
+use native.Mathlib.Decide.{ℕ-discrete}
 use native.Mathlib.Nat.{sub-zero}
 use native.Mathlib.Numerals.{add-one}
 use Rattle.definitions.specs.Limits.{mostDepth}
@@ -20,10 +21,11 @@ use Rattle.walk.specs.declared.state.Progress.{Progress}
 use Rattle.walk.specs.declared.state.Status.{Status}
 use Rattle.walk.specs.declared.state.Status.the-variants.{Going, Stopped}
 use Rattle.walk.specs.declared.Outcome.{Outcome}
+use Rattle.walk.specs.declared.Answer.{Answer}
 use Rattle.walk.specs.declared.Answer.the-variants.{Simplified, Spent, Refused}
-use Rattle.walk.specs.Memory.{Memory, memory, Sound, nodesOf, lentOf, Keeps}
+use Rattle.rebuild.specs.Memory.{Memory, memory, Sound, nodesOf, lentOf, Keeps}
 use Rattle.walk.specs.Stack.{Stack, stack, framesOf, valuesOf, framesIn, valuesIn, Valid, Whole, Invariant}
-use Rattle.walk.specs.Turns.{Ready, turned, turnOf, Turns, stackOf, memoryOf, Starts, Startable, Runs}
+use Rattle.walk.specs.Turns.{Ready, turned, turnOf, Turns, stackOf, memoryOf, Starts, Startable, Ends, Runs}
 use Rattle.walk.proofs.Stacks as S
 
 -- ---- the plain walk, a turn at a time
@@ -107,8 +109,8 @@ module _ (m : Memory) (root limit budget : ℕ) where
       unfolding next
       stops number e = record { plainly = ap (M.walkedAs root) (walked (Stopped number) e); kept = kept-on }
 
-    pub ends : k .frames ≡ 0 → Runs m root limit budget here (record { answer = Simplified (getD (k .values) 0 0) steps; arena = here .arena })
-    ends z =
+    finishes : k .frames ≡ 0 → Runs m root limit budget here (record { answer = Simplified (getD (k .values) 0 0) steps; arena = here .arena })
+    finishes z =
         let none : framesIn k ≡ [] = ap (framesOf (k .ids) (k .cursors)) z in
         let v : Valid (nodesOf here) [] (valuesIn k) = subst (λ (x : List Frame). Valid (nodesOf here) x (valuesIn k)) none (R .invariant .valid) in
         let one : k .filled ≡ 1 = sym (S.values-length (k .values) (k .filled)) ∙ v .0 in
@@ -121,13 +123,24 @@ module _ (m : Memory) (root limit budget : ℕ) where
           kept = R .kept;
         }
 
-    pub spends : budget ≤ steps → (k .frames ≡ 0 → ⊥) → Runs m root limit budget here (record { answer = Spent root steps; arena = here .arena })
+    spends : budget ≤ steps → (k .frames ≡ 0 → ⊥) → Runs m root limit budget here (record { answer = Spent root steps; arena = here .arena })
     spends b h = record {
       plainly =
           ap (M.walkedAs root)
           (sym (walk-spent (lentOf m) limit (budget - steps) steps (nodesOf here) (framesIn k) (valuesIn k) (omega arith) (some h)) ∙ R .same);
       kept = R .kept;
     }
+
+    -- no turn is left to do
+    pub ends : (budget ≤ steps) ⊎ (k .frames ≡ 0) → (r : Answer) → Ends (k .frames) (getD (k .values) 0 0) root steps r
+        → Runs m root limit budget here (record { answer = r; arena = here .arena })
+    ends over r e = by (ℕ-discrete (k .frames) 0)
+      where
+        by : Dec (k .frames ≡ 0) → Runs m root limit budget here (record { answer = r; arena = here .arena })
+        by (yes z) = subst (λ (x : Answer). Runs m root limit budget here (record { answer = x; arena = here .arena })) (sym (e .finished z)) (finishes z)
+        by (no n) =
+            subst (λ (x : Answer). Runs m root limit budget here (record { answer = x; arena = here .arena })) (sym (e .spent n))
+            (spends (⊎-elim (λ b. b) (λ z. absurd (n z)) over) n)
 
 -- ---- the first state
 
@@ -153,7 +166,3 @@ module _ (m : Memory) (root budget : ℕ) (w : Walk) (s : Startable m root w) wh
     within = omega arith;
     same = λ i. walk standard (lentOf m) (w .limit) (sub-zero budget i) 0 (nodesOf m) (s .starts .frames i) (no-values i);
   }
-
--- the root's frame in filled arrays
-pub first-frame : (ids cursors : List ℕ) (root : ℕ) → 0 < length ids → getD cursors 0 0 ≡ 0 → framesOf (set ids 0 root) cursors 1 ≡ frame root 0 0 ∷ []
-first-frame ids cursors root l z = ap₂ (λ (x y : ℕ). frame x 0 y ∷ []) (getD-set-same ids 0 root 0 l) z

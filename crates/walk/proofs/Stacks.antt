@@ -8,6 +8,7 @@ use lib.Seq.{getD-set-same, getD-set-other, take-suc, getD-drop, getD-take, ext-
 use native.Mathlib.Omega.{arith}
 use native.Mathlib.Nat.{add-suc, eq-or-lt-of-le, le-of-suc-le-suc}
 use native.Mathlib.Numerals.{add-one}
+use Rattle.definitions.specs.Limits.{mostChildren}
 use Rattle.definitions.specs.Node.{Node, at}
 use Rattle.definitions.specs.Walk.{Frame, frame, reverseOnto}
 use Rattle.walk.specs.Stack.{framesOf, valuesOf, AllBelow, Waiting, held, Valid, Gathered}
@@ -71,7 +72,7 @@ append-nil : (l : List ℕ) → l ++ [] ≡ l
 append-nil [] = refl
 append-nil (x ∷ l) = ap (λ (r : List ℕ). x ∷ r) (append-nil l)
 
-pub gathered : (vs : List ℕ) (from n : ℕ) (places : List ℕ) → from + n ≤ length vs → n ≤ 4 → Gathered vs from n places
+pub gathered : (vs : List ℕ) (from n : ℕ) (places : List ℕ) → from + n ≤ length vs → n ≤ mostChildren → Gathered vs from n places
     → take n places ≡ reverseOnto (take n (valuesOf vs (from + n))) []
 gathered vs from n places l few g =
     let a : length (take n places) ≡ n = length-take-le n places (omega (arith, g .long)) in
@@ -111,6 +112,6 @@ popped ns i [] vs l b e a = (ap suc e, (l, a))
 popped ns i (g ∷ gs) vs l b e a = (b .0, b .2, b .3, omega (arith, b .1), (l, a))
 
 -- a frame that waits has three values at most
-pub few-held : (ns : List Node) → ((i : ℕ) → i < length ns → length (at ns i .children) ≤ 4) → (fs : List Frame) → Waiting ns fs → held fs ≤ 3 * length fs
+pub few-held : (ns : List Node) → ((i : ℕ) → i < length ns → length (at ns i .children) ≤ mostChildren) → (fs : List Frame) → Waiting ns fs → held fs ≤ 3 * length fs
 few-held ns k [] h = omega arith
 few-held ns k (f ∷ fs) h = omega (arith, k (f .id) (h .0), h .1, h .2, few-held ns k fs (h .3))

@@ -7,10 +7,12 @@ use lib.ListN.{length, getD, take, drop, set, length-set}
 use lib.Dec.{leb, ltb}
 use native.Mathlib.Omega.{arith}
 use borrow.Author.Tests.{le-leb, lt-leb, lt-ltb, le-ltb}
+use Rattle.definitions.specs.Limits.{mostChildren}
 use Rattle.definitions.specs.Node.{Node, at}
 use Rattle.definitions.specs.Intern.{Lent}
 use Rattle.definitions.specs.Walk as W
 use Rattle.definitions.specs.Walk.{Frame, frame, Turn, go, stop, standard, turn, descend, ascend, finish, reverseOnto, rebuildOrMatch}
+use Rattle.arena.specs.declared.DagArena.{DagArena}
 use Rattle.store.specs.View.{Low}
 use Rattle.store.specs.Lookup.{Lookup}
 use Rattle.store.specs.declared.Answer.{Answer}
@@ -21,9 +23,9 @@ use Rattle.store.proofs.Keeping.{kept-refl}
 use Rattle.walk.specs.declared.state.Progress.{Progress}
 use Rattle.walk.specs.declared.state.Status.{Status}
 use Rattle.walk.specs.declared.state.Status.the-variants.{Going, Stopped}
-use Rattle.walk.specs.Memory.{Memory, memory, Sound, nodesOf, lentOf, Keeps}
-use Rattle.walk.specs.Rebuild.{Rebuildable, newChildren, finished, Finishes}
-use Rattle.walk.specs.Stack.{Stack, stack, framesOf, valuesOf, framesIn, valuesIn, topId, topCursor, topFrame, framesUnder, AllBelow, held, Valid, Whole, Invariant, Gathered}
+use Rattle.rebuild.specs.Memory.{Memory, memory, Sound, nodesOf, lentOf, Keeps}
+use Rattle.rebuild.specs.Rebuild.{Rebuildable, newChildren, finished, Finishes}
+use Rattle.walk.specs.Stack.{mostFrames, mostValues, Stack, stack, framesOf, valuesOf, framesIn, valuesIn, topId, topCursor, topFrame, framesUnder, AllBelow, held, Valid, Whole, Invariant, Gatherable, Gathered}
 use Rattle.walk.specs.Turns.{Descendable, Descends, Ready, turned, turnOf, Turns}
 use Rattle.walk.proofs.Stacks as S
 use Rattle.walk.proofs.Descending.{frames-are}
@@ -99,10 +101,10 @@ module _ (m : Memory) (limit : ℕ) (k : Stack) (r : Ready m limit k) where
   pub may-read : Lookup (m .words) (m .arena .count) (topId k)
   may-read = lookup id below
 
-  all-few : (i : ℕ) → i < length ns → length (at ns i .children) ≤ 4
+  all-few : (i : ℕ) → i < length ns → length (at ns i .children) ≤ mostChildren
   all-few i h = R.few (m .words) (m .arena .count) i (lookup i (omega (arith, count-is)))
 
-  few : length (at ns id .children) ≤ 4
+  few : length (at ns id .children) ≤ mostChildren
   few = all-few id (valid .0)
 
   filled-is : k .filled ≡ cursor + held fs
@@ -111,13 +113,13 @@ module _ (m : Memory) (limit : ℕ) (k : Stack) (r : Ready m limit k) where
   -- the bounds of what is read and written
   pub record Bounds : Type 0 where
     pub some : 1 ≤ k .frames
-    pub frames : k .frames ≤ 256
-    pub ids : length (k .ids) ≡ 256
-    pub cursors : length (k .cursors) ≡ 256
-    pub values : length (k .values) ≡ 1024
+    pub frames : k .frames ≤ mostFrames
+    pub ids : length (k .ids) ≡ mostFrames
+    pub cursors : length (k .cursors) ≡ mostFrames
+    pub values : length (k .values) ≡ mostValues
     pub results : topCursor k ≤ k .filled
-    pub room : k .filled < 1024
-    pub small : topCursor k ≤ 4
+    pub room : k .filled < mostValues
+    pub small : topCursor k ≤ mostChildren
 
   pub bounds : Bounds
   bounds = record {
@@ -210,7 +212,7 @@ module _ (m : Memory) (limit : ℕ) (k : Stack) (r : Ready m limit k) where
         → Turns m limit k (memory (m .words) (m .slots) (q .arena)) k′ (q .status)
     descended c p a k′ q d =
         subst (λ (s : Status). Turns m limit k (memory (m .words) (m .slots) (q .arena)) k′ s) (sym (d .status))
-        (subst (λ (s : Rattle.arena.specs.declared.DagArena.DagArena). Turns m limit k (memory (m .words) (m .slots) s) k′ Going) (sym (d .arena ∙ a))
+        (subst (λ (s : DagArena). Turns m limit k (memory (m .words) (m .slots) s) k′ Going) (sym (d .arena ∙ a))
         (record {
           plainly = d .plainly ∙ sym (turn-is ∙ descending (lentOf m) limit ns (topFrame k) fs vs h (omega (arith, ea)));
           kept = unchanged;
@@ -226,8 +228,8 @@ module _ (m : Memory) (limit : ℕ) (k : Stack) (r : Ready m limit k) where
       from-on : from + cursor ≡ k .filled
       from-on = omega (arith, filled-is)
 
-      pub may-gather : (topCursor k ≤ 4) × (k .filled - topCursor k + topCursor k ≤ 1024)
-      may-gather = (bounds .small, omega (arith, from-on, bounds .room))
+      pub may-gather : Gatherable (k .filled - topCursor k) (topCursor k)
+      may-gather = record { few = bounds .small; within = omega (arith, from-on, bounds .room) }
 
       module _ (places : List ℕ) (g : Gathered (k .values) (k .filled - topCursor k) (topCursor k) places) where
         pub rebuildable : Rebuildable m (topId k) places

@@ -1,5 +1,3 @@
-pub mod Memory
 pub mod Answers
-pub mod Rebuild
 pub mod Stack
 pub mod Turns

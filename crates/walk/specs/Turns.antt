@@ -3,21 +3,25 @@ use Prim.Native.Nat.{ℕ, _+_, _-_, _≤_, _<_}
 use mathlib.Core.Path.{_≡_}
 use mathlib.Core.List.{List, [], _∷_}
 use lib.ListN.{length}
+use Rattle.definitions.specs.Limits.{mostDepth}
 use Rattle.definitions.specs.Node.{Node, at}
 use Rattle.definitions.specs.Intern.{Lent}
 use Rattle.definitions.specs.Walk as W
 use Rattle.definitions.specs.Walk.{Frame, frame, Turn, go, stop, standard, walkRoot}
 use Rattle.definitions.specs.Machine as M
+use Rattle.arena.specs.declared.DagArena.{DagArena}
 use Rattle.store.specs.View.{nodesIn}
 use Rattle.store.specs.Lookup.{Lookup}
 use Rattle.walk.specs.declared.state.Progress.{Progress}
 use Rattle.walk.specs.declared.state.Walk.{Walk}
 use Rattle.walk.specs.declared.state.Status.{Status}
 use Rattle.walk.specs.declared.state.Status.the-variants.{Going, Stopped}
+use Rattle.walk.specs.declared.Answer.{Answer}
+use Rattle.walk.specs.declared.Answer.the-variants.{Simplified, Spent}
 use Rattle.walk.specs.declared.Outcome.{Outcome}
-use Rattle.walk.specs.Memory.{Memory, memory, Sound, nodesOf, lentOf, Keeps}
+use Rattle.rebuild.specs.Memory.{Memory, memory, Sound, nodesOf, lentOf, Keeps}
 use Rattle.walk.specs.Answers.{meaning}
-use Rattle.walk.specs.Stack.{Stack, stack, framesIn, valuesIn, topId, topCursor, topFrame, framesUnder, Valid, Whole, Invariant}
+use Rattle.walk.specs.Stack.{mostFrames, mostValues, Stack, stack, framesIn, valuesIn, topId, topCursor, topFrame, framesUnder, Valid, Whole, Invariant}
 
 -- ---- the next child
 
@@ -25,11 +29,11 @@ use Rattle.walk.specs.Stack.{Stack, stack, framesIn, valuesIn, topId, to
 pub record Descendable (words : List ℕ) (count : ℕ) (k : Stack) : Type 0 where
   pub lookup : (id : ℕ) → id < count → Lookup words count id
   pub some : 1 ≤ k .frames
-  pub room : k .frames < 256
+  pub room : k .frames < mostFrames
   pub whole : Whole k
   pub valid : Valid (nodesIn words count) (framesIn k) (valuesIn k)
   pub more : topCursor k < length (at (nodesIn words count) (topId k) .children)
-  pub free : k .filled < 1024
+  pub free : k .filled < mostValues
 
 -- "A child that is a leaf or marked is taken unwalked"; another gets a frame
 pub record Descends (ns : List Node) (k : Stack) (progress : Progress) (k′ : Stack) (r : Progress) : Type 0 where
@@ -74,7 +78,7 @@ abbrev pub memoryOf : List ℕ → List ℕ → Walk → Memory
 memoryOf words slots walk = memory words slots (walk .progress .arena)
 
 -- "the root is always walked": it has the first frame, and there is no value
-pub record Starts (root limit : ℕ) (arena : Rattle.arena.specs.declared.DagArena.DagArena) (walk : Walk) : Type 0 where
+pub record Starts (root limit : ℕ) (arena : DagArena) (walk : Walk) : Type 0 where
   pub frames : framesIn (stackOf walk) ≡ frame root 0 0 ∷ []
   pub one : walk .progress .frames ≡ 1
   pub none : walk .progress .filled ≡ 0
@@ -94,8 +98,13 @@ pub record Steps (words slots : List ℕ) (walk : Walk) (words′ slots′ : Lis
 pub record Startable (m : Memory) (root : ℕ) (walk : Walk) : Type 0 where
   pub sound : Sound m
   pub below : root < m .arena .count
-  pub listed : walk .limit ≤ Rattle.definitions.specs.Limits.mostDepth
+  pub listed : walk .limit ≤ mostDepth
   pub starts : Starts root (walk .limit) (m .arena) walk
+
+-- "Exactly if the budget is used up with frames left, the answer is the root, 'spent'"
+pub record Ends (frames result root steps : ℕ) (r : Answer) : Type 0 where
+  pub finished : frames ≡ 0 → r ≡ Simplified result steps
+  pub spent : (frames ≡ 0 → ⊥) → r ≡ Spent root steps
 
 -- the whole walk of a root, with the budget
 pub record Runs (m : Memory) (root limit budget : ℕ) (m′ : Memory) (r : Outcome) : Type 0 where

@@ -2,14 +2,13 @@
 ghost use mathlib.Core.Path.{_≡_};
 ghost use Rattle.definitions.specs.Machine as M;
 ghost use Rattle.store.specs.Memory.{memory, Leaves};
-ghost use Rattle.walk.specs.Memory.{Sound};
+ghost use Rattle.rebuild.specs.Memory.{Sound};
 ghost use Rattle.walk.specs.Answers.{meaning};
 
-pub mod rebuild;
 pub mod refusals;
-pub mod run;
+mod run;
 pub mod state;
-pub mod turn;
+mod turn;
 
 use arena::DagArena;
 use state::MOST_DEPTH;

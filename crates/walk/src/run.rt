@@ -1,14 +1,24 @@
 // The walk with its budget.
-ghost use Rattle.walk.specs.Memory.{memory};
-ghost use Rattle.walk.specs.Turns.{Startable, Runs, memoryOf};
+ghost use Rattle.rebuild.specs.Memory.{memory};
+ghost use Rattle.walk.specs.Turns.{Startable, Ends, Runs, memoryOf};
 use crate::Answer;
 use crate::Outcome;
 use crate::state::Status;
 use crate::state::Walk;
 use crate::turn;
 
-// Turns until no frame is left, a budget of them at most. 01: "Exactly if the budget is used up with frames left, the
-// answer is the root, 'spent'".
+// The answer once no turn is left to do. 01: "Exactly if the budget is used up with frames left, the answer is the root,
+// 'spent'".
+fn ending(frames: usize, result: u64, root: u64, steps: u64) -> Answer
+    ensures { λ r. ⌜ Ends frames result root steps r ⌝ }
+{
+    if frames == 0 {
+        return Answer::Simplified { id: result, steps };
+    }
+    Answer::Spent { id: root, steps }
+}
+
+// Turns until no frame is left, a budget of them at most.
 pub fn run(nodes: &mut [u64], slots: &mut [u32], walk: Walk, root: u64, budget: u64) -> Outcome
     requires { ⌜ Startable (memoryOf (now nodes) (now slots) walk) root walk ⌝ }
     ensures { λ r. ⌜ Runs (memoryOf (now (nodes .entry)) (now (slots .entry)) walk) root (walk .limit) budget (memory (now (nodes .exit)) (now (slots .exit)) (r .arena)) r ⌝ }
@@ -43,15 +53,6 @@ pub fn run(nodes: &mut [u64], slots: &mut [u32], walk: Walk, root: u64, budget: 
         steps += 1;
     }
     let arena = progress.arena;
-    if progress.frames == 0 {
-        let id = values[0];
-        return Outcome {
-            answer: Answer::Simplified { id, steps },
-            arena,
-        };
-    }
-    Outcome {
-        answer: Answer::Spent { id: root, steps },
-        arena,
-    }
+    let answer = ending(progress.frames, values[0], root, steps);
+    Outcome { answer, arena }
 }

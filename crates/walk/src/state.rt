@@ -3,14 +3,14 @@ ghost use Rattle.walk.specs.Turns.{Ready, Starts, Steps, memoryOf, stack
 use crate::turn;
 use arena::DagArena;
 
-// 01: "filled arrays of 256 frames and 1,024 values".
+// 01: "the walk's stacks are filled arrays of 256 frames ..
 pub const MOST_FRAMES: usize = 256;
 
+// .. and 1,024 values".
 pub const MOST_VALUES: usize = 1_024;
+
 // 01: "Depth limit 0 to 255".
 pub const MOST_DEPTH: u32 = 255;
-// 01: "four child places".
-pub const MOST_CHILDREN: usize = 4;
 
 // Whether a walk goes on, or the refusal that stopped it.
 pub enum Status {

@@ -1,20 +1,18 @@
 // A turn of the walk's loop.
 ghost use mathlib.Core.Path.{_≡_};
-ghost use Prim.Native.Nat.{_+_, _≤_};
 ghost use Rattle.definitions.specs.Node.{at};
 ghost use Rattle.definitions.specs.Walk.{standard, takenUnwalked};
 ghost use Rattle.store.specs.View.{nodesIn};
 ghost use Rattle.store.specs.Lookup.{Lookup};
-ghost use Rattle.walk.specs.Memory.{memory};
-ghost use Rattle.walk.specs.Stack.{stack, Gathered};
+ghost use Rattle.rebuild.specs.Memory.{memory};
+ghost use Rattle.walk.specs.Stack.{stack, Gatherable, Gathered};
 ghost use Rattle.walk.specs.Turns.{Descendable, Descends, Ready, Turns};
-use crate::rebuild;
-use crate::state::MOST_CHILDREN;
 use crate::state::MOST_FRAMES;
 use crate::state::MOST_VALUES;
 use crate::state::Progress;
 use crate::state::Status;
 use arena::DagArena;
+use arena::MOST_CHILDREN;
 use store::Answer;
 
 // 01: "A child that is a leaf or marked is taken unwalked"; a leaf has no children.
@@ -30,7 +28,7 @@ fn is_taken_unwalked(nodes: &[u64], count: u64, id: u64) -> bool
 
 // The values from a place on, as the places of so many children.
 fn gather(values: &[u64; MOST_VALUES], from: usize, arity: usize) -> [u64; MOST_CHILDREN]
-    requires { ⌜ (arity ≤ 4) × (from + arity ≤ 1024) ⌝ }
+    requires { ⌜ Gatherable from arity ⌝ }
     ensures { λ r. ⌜ Gathered (now (values .entry)) from arity r ⌝ }
 {
     let mut children = [0u64; MOST_CHILDREN];

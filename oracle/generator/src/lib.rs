@@ -16,4 +16,5 @@ mod sheet;
 
 pub use examples::examples;
 pub use exhaustive::COUNT as EXHAUSTIVE_COUNT;
+pub use random::Random;
 pub use mode::{Mode, sheet};

@@ -32,6 +32,9 @@ insert-requires c κs = let f = was-free _ _ _ _ _ _ _ (c .before .before .befor
 enum-told : tie.Need-enum-told
 enum-told c = search needs
 
+refused-requires : tie.Need-refused-requires
+refused-requires c κs = search needs
+
 same-length : tie.Need-same-length
 same-length c = search needs
 
@@ -57,7 +60,7 @@ same-length-6 : tie.Need-same-length-6
 same-length-6 c = search needs
 
 returns-3 : tie.Need-returns-3
-returns-3 c = absurd (not-passed _ _ _ _ _ (room _ _ _ _ (c .before .before .before .before .before .before .before .pre .1)) (was-nowhere _ _ _ _ _ _ (c .enum-told .given .1) (c .before .before .probe .ensures)))
+returns-3 c = absurd (not-passed _ _ _ _ _ (room _ _ _ _ (c .before .before .before .before .before .before .before .before .pre .1)) (was-nowhere _ _ _ _ _ _ (c .before .enum-told .given .1) (c .before .before .before .probe .ensures)))
 
 pub get-or-insert-spec : {M : Type 1} → statement M
 get-or-insert-spec =
@@ -71,6 +74,7 @@ get-or-insert-spec =
     enum-known-found-2
     insert-requires
     enum-told
+    refused-requires
     same-length
     same-length-2
     returns

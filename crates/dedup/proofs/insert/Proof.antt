@@ -13,8 +13,11 @@ use Rattle.dedup.proofs.insert.Tie as tie
 children : (s : tie.Start) → length (s .args .key .children) ≡ mostChildren
 children s = search needs
 
+refused-requires : tie.Need-refused-requires
+refused-requires c κs = search needs
+
 returns : tie.Need-returns
-returns c = refuse-count _ _ _ _ _ (c .before .before .before .pre) (c .if1 .taken)
+returns c = rw (c .refused .ensures) (refuse-count _ _ _ _ _ (c .before .before .before .before .pre) (c .before .if1 .taken))
 
 mul-if2 : tie.Need-mul-if2
 mul-if2 c = search needs
@@ -22,8 +25,11 @@ mul-if2 c = search needs
 add-if2 : tie.Need-add-if2
 add-if2 c = search needs
 
+refused-requires-2 : tie.Need-refused-requires-2
+refused-requires-2 c κs = search needs
+
 returns-2 : tie.Need-returns-2
-returns-2 c = refuse-words _ _ _ _ _ (c .before .before .before .before .pre) (c .before .if1 .left) (c .if2 .taken)
+returns-2 c = rw (c .refused2 .ensures) (refuse-words _ _ _ _ _ (c .before .before .before .before .before .pre) (c .before .before .if1 .left) (c .before .if2 .taken))
 
 load-limit-requires : tie.Need-load-limit-requires
 load-limit-requires c κs = search needs
@@ -43,8 +49,8 @@ slice-write-slots c = let h = reached-in _ _ _ _ _ _ (c .before .before .before 
 store-node-requires : tie.Need-store-node-requires
 store-node-requires c κs = c .before .before .before .if2 .left
 
-add-t16 : tie.Need-add-t16
-add-t16 c = search needs
+add-t14 : tie.Need-add-t14
+add-t14 c = search needs
 
 same-length : tie.Need-same-length
 same-length c = search needs
@@ -55,8 +61,11 @@ same-length-2 c = search needs
 returns-3 : tie.Need-returns-3
 returns-3 c = rw (c .before .before .store-node .ensures) (added _ _ _ _ _ (c .before .before .before .before .before .before .before .before .before .before .pre) (c .before .before .before .before .before .before .before .if1 .left) (c .before .before .before .before .before .before .if2 .left) (children (c .before .before .before .before .before .before .before .before .before .before)) (let e = c .before .before .before .before .before .load-limit .ensures in let l = c .before .before .before .before .if3 .taken in omega arith))
 
+refused-requires-3 : tie.Need-refused-requires-3
+refused-requires-3 c κs = search needs
+
 returns-4 : tie.Need-returns-4
-returns-4 c = refuse-slots _ _ _ _ _ (c .before .before .before .before .before .before .before .pre) (c .before .before .before .before .if1 .left) (c .before .before .before .if2 .left) (let e = c .before .before .load-limit .ensures in let l = c .before .if3 .left in omega arith) (omega arith)
+returns-4 c = rw (c .refused3 .ensures) (refuse-slots _ _ _ _ _ (c .before .before .before .before .before .before .before .before .pre) (c .before .before .before .before .before .if1 .left) (c .before .before .before .before .if2 .left) (let e = c .before .before .before .load-limit .ensures in let l = c .before .before .if3 .left in omega arith) (let l = c .before .if4 .taken in omega arith))
 
 mul-doubled : tie.Need-mul-doubled
 mul-doubled c = search needs
@@ -70,8 +79,8 @@ place-requires c κs = (c .before .before .before .before .before .before .befor
 store-node-requires-2 : tie.Need-store-node-requires-2
 store-node-requires-2 c κs = c .before .before .before .before .before .before .before .before .before .before .before .before .before .before .if2 .left
 
-add-t38 : tie.Need-add-t38
-add-t38 c = search needs
+add-t35 : tie.Need-add-t35
+add-t35 c = search needs
 
 same-length-3 : tie.Need-same-length-3
 same-length-3 c = search needs
@@ -86,9 +95,11 @@ pub insert-spec : {M : Type 1} → statement M
 insert-spec =
     tie.close
     (tie.spec
+    refused-requires
     returns
     mul-if2
     add-if2
+    refused-requires-2
     returns-2
     load-limit-requires
     add-slots
@@ -96,16 +107,17 @@ insert-spec =
     mul-slots
     slice-write-slots
     store-node-requires
-    add-t16
+    add-t14
     same-length
     same-length-2
     returns-3
+    refused-requires-3
     returns-4
     mul-doubled
     rehash-requires
     place-requires
     store-node-requires-2
-    add-t38
+    add-t35
     same-length-3
     same-length-4
     returns-5)

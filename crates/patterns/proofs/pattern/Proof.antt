@@ -1,74 +1,42 @@
--- imports
-use mathlib.Core.Path.{_≡_, refl, sym, ap, _∙_}
-use mathlib.Core.Option.{Option}
+use mathlib.Core.Path.{_≡_}
 use mathlib.Core.Logic.{inl, inr}
 use native.Mathlib.Omega.{arith}
 use borrow.Author.Needs.{needs}
-use borrow.Author.Tests.{not-true, not-false}
 use lib.ListN.{length}
-use lib.Ieee.{Float}
-use Rattle.definitions.specs.Node as N
-use Rattle.definitions.specs.Intern as I
-use Rattle.definitions.specs.Patterns as P
-use Rattle.patterns.specs.Reading.{valueOf}
-use Rattle.patterns.specs.Deciding as Deciding
-use Rattle.patterns.specs.declared.constants.Constant.{Constant}
-use Rattle.patterns.proofs.Values as Values
-use Rattle.patterns.proofs.Children as Children
-use Rattle.patterns.proofs.IdentityLaws as Identities
-use Rattle.patterns.proofs.FoldLaws as Folds
-use Rattle.patterns.proofs.MergeLaws as Merges
 use Rattle.patterns.proofs.KindLaws as Kinds
-use Rattle.patterns.proofs.CarryLaws as Carries
--- end imports
 use Rattle.patterns.proofs.pattern.Statement.{statement}
 use Rattle.patterns.proofs.pattern.Tie as tie
-use Rattle.patterns.proofs.pattern.Reads as reads
-use Rattle.patterns.proofs.pattern.Lts as lts
-use Rattle.patterns.proofs.binary_pattern.Reads as binary-pattern-reads
-use Rattle.patterns.proofs.identities.neg_double.Reads as neg-double-reads
 
--- src/lib.rt:83:54
 array-read-neg-double : tie.Need-array-read-neg-double
 array-read-neg-double c = search needs
 
--- src/lib.rt:83:17
 neg-double-requires : tie.Need-neg-double-requires
 neg-double-requires c κs = c .before .before .before .pre .lookup 0 (omega (arith, c .if1 .taken))
 
--- src/lib.rt:90:52
 array-read-binary-pattern : tie.Need-array-read-binary-pattern
 array-read-binary-pattern c = search needs
 
--- src/lib.rt:90:65
 array-read-binary-pattern-2 : tie.Need-array-read-binary-pattern-2
 array-read-binary-pattern-2 c = search needs
 
--- src/lib.rt:90:17
 binary-pattern-requires : tie.Need-binary-pattern-requires
 binary-pattern-requires c κs = record { left = c .before .before .before .before .before .pre .lookup 0 (omega (arith, c .if4 .taken)); right = c .before .before .before .before .before .pre .lookup 1 (omega (arith, c .if4 .taken)) }
 
--- src/lib.rt:76:1
 returns : tie.Need-returns
 returns c = let len : length (c .before .before .before .before .args .t4) ≡ 4 = search needs in Kinds.decides-as (Kinds.one-child _ _ _ len (c .before .if1 .taken) (c .before .before .match .keys1)) (c .neg-double .ensures)
 
--- src/lib.rt:76:1
 returns-2 : tie.Need-returns-2
 returns-2 c = let len : length (c .before .before .before .args .t4) ≡ 4 = search needs in Kinds.nothing (Kinds.nothing-fits _ _ _ len (c .before .before .before .pre .few) (λ e f. c .if1 .left e) (λ e. inr (omega (arith, c .before .match .keys1))))
 
--- src/lib.rt:76:1
 returns-3 : tie.Need-returns-3
 returns-3 c = let len : length (c .before .before .before .before .before .before .args .t4) ≡ 4 = search needs in Kinds.decides-as (Kinds.two-children _ _ _ len (c .before .if4 .taken)) (c .binary-pattern .ensures)
 
--- src/lib.rt:76:1
 returns-4 : tie.Need-returns-4
 returns-4 c = let len : length (c .before .before .before .before .before .args .t4) ≡ 4 = search needs in Kinds.nothing (Kinds.nothing-fits _ _ _ len (c .before .before .before .before .before .pre .few) (λ e f. c .before .before .before .match .rest .1 f) (λ e. absurd (c .if4 .left e)))
 
--- src/lib.rt:76:1
 returns-5 : tie.Need-returns-5
 returns-5 c = let len : length (c .before .before .before .args .t4) ≡ 4 = search needs in Kinds.nothing (Kinds.nothing-fits _ _ _ len (c .before .before .before .pre .few) (λ e f. c .before .match .rest .1 f) (λ e. inl (c .if2 .taken)))
 
--- src/lib.rt:76:1
 returns-6 : tie.Need-returns-6
 returns-6 c = let len : length (c .before .before .before .before .args .t4) ≡ 4 = search needs in Kinds.nothing (Kinds.nothing-fits _ _ _ len (c .before .before .before .before .pre .few) (λ e f. c .before .before .match .rest .1 f) (λ e. inr (omega (arith, c .if3 .left))))
 

@@ -1,20 +1,14 @@
 -- `pruner::prune_sound` meets its contract. Assumes nothing.
 use borrow.Author.Needs.{needs}
-use Rattle.pruner.proofs.Pruning as Q
+use Rattle.pruner.proofs.Calling as Q
 use Rattle.pruner.proofs.prune_sound.Statement.{statement}
 use Rattle.pruner.proofs.prune_sound.Tie as tie
 
-returns : tie.Need-returns
-returns c = Q.no-root _ _ _ (c .before .before .before .before .pre) _ _ (c .if1 .taken)
+given-requires : tie.Need-given-requires
+given-requires c κs = search needs
 
-enum-known-threshold : tie.Need-enum-known-threshold
-enum-known-threshold c = search needs
-
-prune-additive-chain-requires : tie.Need-prune-additive-chain-requires
-prune-additive-chain-requires c κs = search needs
-
-enum-known-threshold-2 : tie.Need-enum-known-threshold-2
-enum-known-threshold-2 c = search needs
+prune-call-requires : tie.Need-prune-call-requires
+prune-call-requires c κs = c .before .before .before .before .before .pre
 
 same-length : tie.Need-same-length
 same-length c = search needs
@@ -22,21 +16,9 @@ same-length c = search needs
 same-length-2 : tie.Need-same-length-2
 same-length-2 c = search needs
 
-returns-2 : tie.Need-returns-2
-returns-2 c = Q.at-root _ _ _ (c .before .before .before .before .before .before .before .before .before .before .before .before .before .before .pre) _ (c .before .before .before .before .before .before .before .before .before .before .if1 .left) _ _ (c .before .before .before .before .before .before .before .before .threshold .given .1) _ _ (c .before .before .before .before .prune-additive-chain .ensures)
-
-returns-3 : tie.Need-returns-3
-returns-3 c = Q.no-threshold _ _ _ (c .before .before .before .before .before .before .before .pre) _ (c .before .before .before .if1 .left) _ _ (c .before .threshold2 .given .1)
+returns : tie.Need-returns
+returns c = Q.by-bits _ _ _ (c .before .before .before .before .before .before .before .before .before .before .pre) _ _ _ _ (c .before .before .before .before .before .given .result) (c .before .before .before .before .before .given .ensures) (c .before .before .before .before .prune-call .ensures)
 
 pub prune-sound-spec : {M : Type 1} → statement M
 prune-sound-spec =
-    tie.close
-    (tie.spec
-    returns
-    enum-known-threshold
-    prune-additive-chain-requires
-    enum-known-threshold-2
-    same-length
-    same-length-2
-    returns-2
-    returns-3)
+    tie.close (tie.spec given-requires prune-call-requires same-length same-length-2 returns)

@@ -1,49 +1,34 @@
--- imports
+-- Refusal 20, or the call on a sound store.
 use borrow.Author.Needs.{needs}
 use borrow.Author.Tests.{not-true, not-false}
 use Rattle.walk.proofs.Calling as C
--- end imports
 use Rattle.walk.proofs.simplify.Statement.{statement}
 use Rattle.walk.proofs.simplify.Tie as tie
-use Rattle.walk.proofs.simplify.Reads as reads
-use Rattle.walk.proofs.simplify.Lts as lts
-use Rattle.store.proofs.audit.Reads as audit-reads
-use Rattle.walk.proofs.refuse.Reads as refuse-reads
-use Rattle.walk.proofs.simplify_sound.Reads as simplify-sound-reads
 
--- src/lib.rt:73:9
 audit-requires : tie.Need-audit-requires
 audit-requires c κs = search needs
 
--- src/lib.rt:74:9
 refuse-requires : tie.Need-refuse-requires
 refuse-requires c κs = search needs
 
--- src/lib.rt:74:9
 same-length : tie.Need-same-length
 same-length c = search needs
 
--- src/lib.rt:74:9
 same-length-2 : tie.Need-same-length-2
 same-length-2 c = search needs
 
--- src/lib.rt:74:9
 returns : tie.Need-returns
 returns c = C.refusing _ _ _ _ (c .refuse .ensures) (C.unsound _ _ _ _ (c .before .before .audit .ensures .no (not-true _ (c .before .if1 .taken))))
 
--- src/lib.rt:76:5
 simplify-sound-requires : tie.Need-simplify-sound-requires
 simplify-sound-requires c κs = c .before .before .before .audit .ensures .yes (not-false _ (c .before .before .if1 .left))
 
--- src/lib.rt:63:1
 same-length-3 : tie.Need-same-length-3
 same-length-3 c = search needs
 
--- src/lib.rt:63:1
 same-length-4 : tie.Need-same-length-4
 same-length-4 c = search needs
 
--- src/lib.rt:63:1
 returns-2 : tie.Need-returns-2
 returns-2 c = search needs
 

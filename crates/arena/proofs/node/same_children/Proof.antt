@@ -33,7 +33,7 @@ array-read-if1-2 : tie.Need-array-read-if1-2 Inv-loop μ-loop
 array-read-if1-2 c = search needs
 
 returns : tie.Need-returns Inv-loop μ-loop
-returns c = children-differ _ _ _ (c .if1 .taken)
+returns c = children-differ (c .before .before .before .args .t1) (c .before .before .before .args .t2) (c .before .before .loop .j) (c .if1 .taken)
 
 add-j : tie.Need-add-j Inv-loop μ-loop
 add-j c = search needs
@@ -45,7 +45,7 @@ loop-again : tie.Need-loop-again Inv-loop μ-loop
 loop-again c = (search needs, below-more _ _ (c .before .before .loop .inv .1) (c .if1 .left))
 
 returns-2 : tie.Need-returns-2 Inv-loop μ-loop
-returns-2 c = let la : length (c .before .before .args .t1) ≡ mostChildren = search needs in let lb : length (c .before .before .args .t2) ≡ mostChildren = search needs in children-agree _ _ (la ∙ sym lb) (λ j l. c .before .loop .inv .1 j (omega arith))
+returns-2 c = let la : length (c .before .before .args .t1) ≡ mostChildren = search needs in let lb : length (c .before .before .args .t2) ≡ mostChildren = search needs in children-agree (c .before .before .args .t1) (c .before .before .args .t2) (la ∙ sym lb) (λ j l. c .before .loop .inv .1 j (omega arith))
 
 pub same-children-spec : {M : Type 1} → statement M
 same-children-spec =

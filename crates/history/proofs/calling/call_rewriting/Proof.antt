@@ -2,7 +2,7 @@ use mathlib.Core.Path.{refl, sym, ap}
 use mathlib.Core.Option.{some}
 use Rattle.definitions.specs.Machine as M
 use Rattle.history.specs.Encoding.{callOf}
-use Rattle.history.proofs.Codes.{runs, runs-unknown, past-last}
+use Rattle.history.proofs.Codes.{runs, last-rewriting}
 use borrow.Author.Needs.{needs}
 use Rattle.history.proofs.calling.call_rewriting.Statement.{statement}
 use Rattle.history.proofs.calling.call_rewriting.Tie as tie
@@ -24,7 +24,7 @@ same-length-2 c = search needs
 
 returns : tie.Need-returns
 unfolding callOf
-returns c = runs _ 15 _ _ _ _ _ _ _ _ _ _ _ _ _ (c .before .before .before .before .before .before .before .before .before .if1 .taken) (c .before .before .before .before .before .simplify .ensures) (c .simplified .ensures) (ap (λ n. some (M.simplify (c .before .before .before .before .before .before .before .before .before .before .before .before .before .args .a) (c .before .before .before .before .before .before .before .before .before .before .before .before .before .args .b) n)) (sym (c .before .before .before .before .before .before .wide .ensures)))
+returns c = runs _ 15 _ _ _ _ _ _ _ _ _ _ _ _ (c .before .before .before .before .before .before .before .before .before .if1 .taken) (c .before .before .before .before .before .simplify .ensures) (c .simplified .ensures) (ap (λ n. some (M.simplify (c .before .before .before .before .before .before .before .before .before .before .before .before .before .args .a) (c .before .before .before .before .before .before .before .before .before .before .before .before .before .args .b) n)) (sym (c .before .before .before .before .before .before .wide .ensures)))
 
 wide-requires-2 : tie.Need-wide-requires-2
 wide-requires-2 c κs = search needs
@@ -43,7 +43,7 @@ same-length-4 c = search needs
 
 returns-2 : tie.Need-returns-2
 unfolding callOf
-returns-2 c = runs _ 16 _ _ _ _ _ _ _ _ _ _ _ _ _ (c .before .before .before .before .before .before .before .before .before .if2 .taken) (c .before .before .before .before .before .prune .ensures) (c .pruned .ensures) (ap (λ n. some (M.prune (c .before .before .before .before .before .before .before .before .before .before .before .before .before .before .args .a) n)) (sym (c .before .before .before .before .before .before .wide2 .ensures)))
+returns-2 c = runs _ 16 _ _ _ _ _ _ _ _ _ _ _ _ (c .before .before .before .before .before .before .before .before .before .if2 .taken) (c .before .before .before .before .before .prune .ensures) (c .pruned .ensures) (ap (λ n. some (M.prune (c .before .before .before .before .before .before .before .before .before .before .before .before .before .before .args .a) n)) (sym (c .before .before .before .before .before .before .wide2 .ensures)))
 
 prune-by-setting-requires : tie.Need-prune-by-setting-requires
 prune-by-setting-requires c κs = search needs
@@ -59,12 +59,9 @@ same-length-6 c = search needs
 
 returns-3 : tie.Need-returns-3
 unfolding callOf
-returns-3 c = runs _ 17 _ _ _ _ _ _ _ _ _ _ _ _ _ (c .before .before .before .before .before .before .before .before .if3 .taken) (c .before .before .before .before .before .prune-by-setting .ensures) (c .pruned2 .ensures) refl
-
-returns-4 : tie.Need-returns-4
-returns-4 c = runs-unknown _ _ _ _ _ _ (past-last _ (c .before .before .before .before .before .before .pre) (c .before .before .if1 .left) (c .before .if2 .left) (c .if3 .left)) _ _ _
+returns-3 c = runs _ 17 _ _ _ _ _ _ _ _ _ _ _ _ (last-rewriting _ (c .before .before .before .before .before .before .before .before .before .before .before .before .before .pre .0) (c .before .before .before .before .before .before .before .before .before .before .before .before .before .pre .1) (c .before .before .before .before .before .before .before .before .before .if1 .left) (c .before .before .before .before .before .before .before .before .if2 .left)) (c .before .before .before .before .before .prune-by-setting .ensures) (c .pruned2 .ensures) refl
 
 pub call-rewriting-spec : {M : Type 1} → statement M
 call-rewriting-spec =
     tie.close
-    (tie.spec wide-requires simplify-requires simplified-requires same-length same-length-2 returns wide-requires-2 prune-requires pruned-requires same-length-3 same-length-4 returns-2 prune-by-setting-requires pruned-requires-2 same-length-5 same-length-6 returns-3 returns-4)
+    (tie.spec wide-requires simplify-requires simplified-requires same-length same-length-2 returns wide-requires-2 prune-requires pruned-requires same-length-3 same-length-4 returns-2 prune-by-setting-requires pruned-requires-2 same-length-5 same-length-6 returns-3)

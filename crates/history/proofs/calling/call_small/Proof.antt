@@ -26,7 +26,7 @@ same-length-2 c = search needs
 -- src/calling.rt:32:9
 returns : tie.Need-returns
 unfolding callOf
-returns c = runs _ 0 _ _ _ _ _ _ _ _ _ _ _ _ _ (c .before .before .before .before .before .before .before .before .if1 .taken) (c .before .before .before .before .before .variable .ensures) (c .stored .ensures) (refl)
+returns c = runs _ 0 _ _ _ _ _ _ _ _ _ _ _ _ (c .before .before .before .before .before .before .before .before .if1 .taken) (c .before .before .before .before .before .variable .ensures) (c .stored .ensures) (refl)
 
 -- src/calling.rt:35:62
 wide-requires : tie.Need-wide-requires
@@ -51,7 +51,7 @@ same-length-4 c = search needs
 -- src/calling.rt:35:9
 returns-2 : tie.Need-returns-2
 unfolding callOf
-returns-2 c = runs _ 1 _ _ _ _ _ _ _ _ _ _ _ _ _ (c .before .before .before .before .before .before .before .before .before .if2 .taken) (c .before .before .before .before .before .constant .ensures) (c .stored2 .ensures) (ap (λ n. some (M.store (M.constant n))) (sym (c .before .before .before .before .before .before .wide .ensures)))
+returns-2 c = runs _ 1 _ _ _ _ _ _ _ _ _ _ _ _ (c .before .before .before .before .before .before .before .before .before .if2 .taken) (c .before .before .before .before .before .constant .ensures) (c .stored2 .ensures) (ap (λ n. some (M.store (M.constant n))) (sym (c .before .before .before .before .before .before .wide .ensures)))
 
 -- src/calling.rt:38:23
 add-requires : tie.Need-add-requires
@@ -72,7 +72,7 @@ same-length-6 c = search needs
 -- src/calling.rt:38:9
 returns-3 : tie.Need-returns-3
 unfolding callOf
-returns-3 c = runs _ 2 _ _ _ _ _ _ _ _ _ _ _ _ _ (c .before .before .before .before .before .before .before .before .if3 .taken) (c .before .before .before .before .before .add .ensures) (c .stored3 .ensures) (refl)
+returns-3 c = runs _ 2 _ _ _ _ _ _ _ _ _ _ _ _ (c .before .before .before .before .before .before .before .before .if3 .taken) (c .before .before .before .before .before .add .ensures) (c .stored3 .ensures) (refl)
 
 -- src/calling.rt:41:23
 sub-requires : tie.Need-sub-requires
@@ -93,7 +93,7 @@ same-length-8 c = search needs
 -- src/calling.rt:41:9
 returns-4 : tie.Need-returns-4
 unfolding callOf
-returns-4 c = runs _ 3 _ _ _ _ _ _ _ _ _ _ _ _ _ (c .before .before .before .before .before .before .before .before .if4 .taken) (c .before .before .before .before .before .sub .ensures) (c .stored4 .ensures) (refl)
+returns-4 c = runs _ 3 _ _ _ _ _ _ _ _ _ _ _ _ (c .before .before .before .before .before .before .before .before .if4 .taken) (c .before .before .before .before .before .sub .ensures) (c .stored4 .ensures) (refl)
 
 -- src/calling.rt:44:23
 mul-requires : tie.Need-mul-requires
@@ -114,7 +114,7 @@ same-length-10 c = search needs
 -- src/calling.rt:44:9
 returns-5 : tie.Need-returns-5
 unfolding callOf
-returns-5 c = runs _ 4 _ _ _ _ _ _ _ _ _ _ _ _ _ (c .before .before .before .before .before .before .before .before .if5 .taken) (c .before .before .before .before .before .mul .ensures) (c .stored5 .ensures) (refl)
+returns-5 c = runs _ 4 _ _ _ _ _ _ _ _ _ _ _ _ (c .before .before .before .before .before .before .before .before .if5 .taken) (c .before .before .before .before .before .mul .ensures) (c .stored5 .ensures) (refl)
 
 -- src/calling.rt:47:23
 div-requires : tie.Need-div-requires
@@ -135,7 +135,7 @@ same-length-12 c = search needs
 -- src/calling.rt:47:9
 returns-6 : tie.Need-returns-6
 unfolding callOf
-returns-6 c = runs _ 5 _ _ _ _ _ _ _ _ _ _ _ _ _ (c .before .before .before .before .before .before .before .before .if6 .taken) (c .before .before .before .before .before .div .ensures) (c .stored6 .ensures) (refl)
+returns-6 c = runs _ 5 _ _ _ _ _ _ _ _ _ _ _ _ (c .before .before .before .before .before .before .before .before .if6 .taken) (c .before .before .before .before .before .div .ensures) (c .stored6 .ensures) (refl)
 
 -- src/calling.rt:50:23
 pow-requires : tie.Need-pow-requires
@@ -156,7 +156,7 @@ same-length-14 c = search needs
 -- src/calling.rt:50:9
 returns-7 : tie.Need-returns-7
 unfolding callOf
-returns-7 c = runs _ 6 _ _ _ _ _ _ _ _ _ _ _ _ _ (c .before .before .before .before .before .before .before .before .if7 .taken) (c .before .before .before .before .before .pow .ensures) (c .stored7 .ensures) (refl)
+returns-7 c = runs _ 6 _ _ _ _ _ _ _ _ _ _ _ _ (c .before .before .before .before .before .before .before .before .if7 .taken) (c .before .before .before .before .before .pow .ensures) (c .stored7 .ensures) (refl)
 
 -- src/calling.rt:53:23
 modulo-requires : tie.Need-modulo-requires
@@ -177,7 +177,7 @@ same-length-16 c = search needs
 -- src/calling.rt:53:9
 returns-8 : tie.Need-returns-8
 unfolding callOf
-returns-8 c = runs _ 7 _ _ _ _ _ _ _ _ _ _ _ _ _ (c .before .before .before .before .before .before .before .before .if8 .taken) (c .before .before .before .before .before .modulo .ensures) (c .stored8 .ensures) (refl)
+returns-8 c = runs _ 7 _ _ _ _ _ _ _ _ _ _ _ _ (c .before .before .before .before .before .before .before .before .if8 .taken) (c .before .before .before .before .before .modulo .ensures) (c .stored8 .ensures) (refl)
 
 -- src/calling.rt:55:12
 neg-requires : tie.Need-neg-requires
@@ -198,7 +198,7 @@ same-length-18 c = search needs
 -- src/calling.rt:27:1
 returns-9 : tie.Need-returns-9
 unfolding callOf
-returns-9 c = runs _ 8 _ _ _ _ _ _ _ _ _ _ _ _ _ (last-small _ (c .before .before .before .before .before .before .before .before .before .before .before .before .before .before .before .before .before .before .before .pre) (c .before .before .before .before .before .before .before .before .before .before .before .before .before .before .before .if1 .left) (c .before .before .before .before .before .before .before .before .before .before .before .before .before .before .if2 .left) (c .before .before .before .before .before .before .before .before .before .before .before .before .before .if3 .left) (c .before .before .before .before .before .before .before .before .before .before .before .before .if4 .left) (c .before .before .before .before .before .before .before .before .before .before .before .if5 .left) (c .before .before .before .before .before .before .before .before .before .before .if6 .left) (c .before .before .before .before .before .before .before .before .before .if7 .left) (c .before .before .before .before .before .before .before .before .if8 .left)) (c .before .before .before .before .before .neg .ensures) (c .stored9 .ensures) refl
+returns-9 c = runs _ 8 _ _ _ _ _ _ _ _ _ _ _ _ (last-small _ (c .before .before .before .before .before .before .before .before .before .before .before .before .before .before .before .before .before .before .before .pre) (c .before .before .before .before .before .before .before .before .before .before .before .before .before .before .before .if1 .left) (c .before .before .before .before .before .before .before .before .before .before .before .before .before .before .if2 .left) (c .before .before .before .before .before .before .before .before .before .before .before .before .before .if3 .left) (c .before .before .before .before .before .before .before .before .before .before .before .before .if4 .left) (c .before .before .before .before .before .before .before .before .before .before .before .if5 .left) (c .before .before .before .before .before .before .before .before .before .before .if6 .left) (c .before .before .before .before .before .before .before .before .before .if7 .left) (c .before .before .before .before .before .before .before .before .if8 .left)) (c .before .before .before .before .before .neg .ensures) (c .stored9 .ensures) refl
 
 pub call-small-spec : {M : Type 1} → statement M
 call-small-spec =

@@ -25,7 +25,7 @@ same-length-2 c = search needs
 -- src/calling.rt:64:9
 returns : tie.Need-returns
 unfolding callOf
-returns c = runs _ 9 _ _ _ _ _ _ _ _ _ _ _ _ _ (c .before .before .before .before .before .before .before .before .if1 .taken) (c .before .before .before .before .before .operator .ensures) (c .stored .ensures) refl
+returns c = runs _ 9 _ _ _ _ _ _ _ _ _ _ _ _ (c .before .before .before .before .before .before .before .before .if1 .taken) (c .before .before .before .before .before .operator .ensures) (c .stored .ensures) refl
 
 -- src/calling.rt:67:23
 function-requires : tie.Need-function-requires
@@ -46,7 +46,7 @@ same-length-4 c = search needs
 -- src/calling.rt:67:9
 returns-2 : tie.Need-returns-2
 unfolding callOf
-returns-2 c = runs _ 10 _ _ _ _ _ _ _ _ _ _ _ _ _ (c .before .before .before .before .before .before .before .before .if2 .taken) (c .before .before .before .before .before .function .ensures) (c .stored2 .ensures) refl
+returns-2 c = runs _ 10 _ _ _ _ _ _ _ _ _ _ _ _ (c .before .before .before .before .before .before .before .before .if2 .taken) (c .before .before .before .before .before .function .ensures) (c .stored2 .ensures) refl
 
 -- src/calling.rt:70:23
 select-requires : tie.Need-select-requires
@@ -67,7 +67,7 @@ same-length-6 c = search needs
 -- src/calling.rt:70:9
 returns-3 : tie.Need-returns-3
 unfolding callOf
-returns-3 c = runs _ 11 _ _ _ _ _ _ _ _ _ _ _ _ _ (c .before .before .before .before .before .before .before .before .if3 .taken) (c .before .before .before .before .before .select .ensures) (c .stored3 .ensures) refl
+returns-3 c = runs _ 11 _ _ _ _ _ _ _ _ _ _ _ _ (c .before .before .before .before .before .before .before .before .if3 .taken) (c .before .before .before .before .before .select .ensures) (c .stored3 .ensures) refl
 
 -- src/calling.rt:73:23
 if-else-requires : tie.Need-if-else-requires
@@ -88,7 +88,7 @@ same-length-8 c = search needs
 -- src/calling.rt:73:9
 returns-4 : tie.Need-returns-4
 unfolding callOf
-returns-4 c = runs _ 12 _ _ _ _ _ _ _ _ _ _ _ _ _ (c .before .before .before .before .before .before .before .before .if4 .taken) (c .before .before .before .before .before .if-else .ensures) (c .stored4 .ensures) refl
+returns-4 c = runs _ 12 _ _ _ _ _ _ _ _ _ _ _ _ (c .before .before .before .before .before .before .before .before .if4 .taken) (c .before .before .before .before .before .if-else .ensures) (c .stored4 .ensures) refl
 
 -- src/calling.rt:76:23
 for-loop-requires : tie.Need-for-loop-requires
@@ -109,7 +109,7 @@ same-length-10 c = search needs
 -- src/calling.rt:76:9
 returns-5 : tie.Need-returns-5
 unfolding callOf
-returns-5 c = runs _ 13 _ _ _ _ _ _ _ _ _ _ _ _ _ (c .before .before .before .before .before .before .before .before .if5 .taken) (c .before .before .before .before .before .for-loop .ensures) (c .stored5 .ensures) refl
+returns-5 c = runs _ 13 _ _ _ _ _ _ _ _ _ _ _ _ (c .before .before .before .before .before .before .before .before .if5 .taken) (c .before .before .before .before .before .for-loop .ensures) (c .stored5 .ensures) refl
 
 -- src/calling.rt:78:12
 control-requires : tie.Need-control-requires
@@ -130,7 +130,7 @@ same-length-12 c = search needs
 -- src/calling.rt:59:1
 returns-6 : tie.Need-returns-6
 unfolding callOf
-returns-6 c = runs (c .before .before .before .before .before .before .before .before .before .before .before .before .before .before .before .before .args .code) 14 _ _ _ _ _ _ _ _ _ _ _ _ _ (let h = c .before .before .before .before .before .before .before .before .before .before .before .before .before .before .before .before .pre in omega arith) (c .before .before .before .before .before .control .ensures) (c .stored6 .ensures) refl
+returns-6 c = runs (c .before .before .before .before .before .before .before .before .before .before .before .before .before .before .before .before .args .code) 14 _ _ _ _ _ _ _ _ _ _ _ _ (let h = c .before .before .before .before .before .before .before .before .before .before .before .before .before .before .before .before .pre in omega arith) (c .before .before .before .before .before .control .ensures) (c .stored6 .ensures) refl
 
 pub call-with-operands-spec : {M : Type 1} → statement M
 call-with-operands-spec =

@@ -1,4 +1,5 @@
 use mathlib.Core.Path.{refl, sym, ap}
+use mathlib.Core.Option.{some}
 use Rattle.walk.specs.Answers.{meaning}
 use borrow.Author.Needs.{needs}
 use Rattle.history.proofs.reply.simplified.Statement.{statement}
@@ -14,13 +15,13 @@ enum-known-answer-3 : tie.Need-enum-known-answer-3
 enum-known-answer-3 c = search needs
 
 returns : tie.Need-returns
-returns c = (sym (ap meaning (c .before .answer .given .1)), refl)
+returns c = (ap some (sym (ap meaning (c .before .answer .given .1))), refl)
 
 returns-2 : tie.Need-returns-2
-returns-2 c = (sym (ap meaning (c .before .answer2 .given .1)), refl)
+returns-2 c = (ap some (sym (ap meaning (c .before .answer2 .given .1))), refl)
 
 returns-3 : tie.Need-returns-3
-returns-3 c = (sym (ap meaning (c .before .answer3 .given .1)), refl)
+returns-3 c = (ap some (sym (ap meaning (c .before .answer3 .given .1))), refl)
 
 pub simplified-spec : {M : Type 1} → statement M
 simplified-spec =

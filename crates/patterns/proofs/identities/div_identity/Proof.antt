@@ -1,75 +1,40 @@
--- imports
-use mathlib.Core.Path.{_≡_, refl, sym, ap, _∙_}
-use mathlib.Core.Option.{Option}
-use mathlib.Core.Logic.{inl, inr}
-use native.Mathlib.Omega.{arith}
 use borrow.Author.Needs.{needs}
-use borrow.Author.Tests.{not-true, not-false}
-use lib.ListN.{length}
-use lib.Ieee.{Float}
-use Rattle.definitions.specs.Node as N
-use Rattle.definitions.specs.Intern as I
 use Rattle.definitions.specs.Patterns as P
-use Rattle.patterns.specs.Reading.{valueOf}
-use Rattle.patterns.specs.Deciding as Deciding
-use Rattle.patterns.specs.declared.constants.Constant.{Constant}
 use Rattle.patterns.proofs.Values as Values
-use Rattle.patterns.proofs.Children as Children
 use Rattle.patterns.proofs.IdentityLaws as Identities
-use Rattle.patterns.proofs.FoldLaws as Folds
-use Rattle.patterns.proofs.MergeLaws as Merges
-use Rattle.patterns.proofs.KindLaws as Kinds
-use Rattle.patterns.proofs.CarryLaws as Carries
--- end imports
 use Rattle.patterns.proofs.identities.div_identity.Statement.{statement}
 use Rattle.patterns.proofs.identities.div_identity.Tie as tie
-use Rattle.patterns.proofs.identities.div_identity.Reads as reads
-use Rattle.patterns.proofs.identities.div_identity.Lts as lts
-use Rattle.patterns.proofs.constants.constant_value.Reads as constant-value-reads
-use Rattle.patterns.proofs.constants.is_one.Reads as is-one-reads
-use Rattle.patterns.proofs.constants.is_zero.Reads as is-zero-reads
 
--- src/identities.rt:78:15
 constant-value-requires : tie.Need-constant-value-requires
 constant-value-requires c κs = search needs
 
--- src/identities.rt:78:8
 is-one-requires : tie.Need-is-one-requires
 is-one-requires c κs = search needs
 
--- src/identities.rt:79:9
 returns : tie.Need-returns
 returns c = Identities.over-one (c .before .before .before .before .pre) (Values.tested P.isOne (c .before .before .constant-value .ensures) (c .before .is-one .ensures) (c .if1 .taken))
 
--- src/identities.rt:81:9
 constant-value-requires-2 : tie.Need-constant-value-requires-2
 constant-value-requires-2 c κs = search needs
 
--- src/identities.rt:82:8
 is-zero-requires : tie.Need-is-zero-requires
 is-zero-requires c κs = search needs
 
--- src/identities.rt:83:9
 returns-2 : tie.Need-returns-2
 returns-2 c = Identities.zero-over (c .before .before .before .before .before .before .before .pre) (Values.tested P.isOne (c .before .before .before .before .before .constant-value .ensures) (c .before .before .before .before .is-one .ensures) (c .before .before .before .if1 .left)) (Values.tested P.isZero (c .before .before .constant-value2 .ensures) (c .before .is-zero .ensures) (c .if2 .taken))
 
--- src/identities.rt:86:9
 returns-3 : tie.Need-returns-3
 returns-3 c = Identities.over-another (c .before .before .before .before .before .before .before .before .pre) (Values.tested P.isOne (c .before .before .before .before .before .before .constant-value .ensures) (c .before .before .before .before .before .is-one .ensures) (c .before .before .before .before .if1 .left)) (Values.tested P.isZero (c .before .before .before .constant-value2 .ensures) (c .before .before .is-zero .ensures) (c .before .if2 .left)) (c .if3 .taken)
 
--- src/identities.rt:89:50
 enum-told : tie.Need-enum-told
 enum-told c = search needs
 
--- src/identities.rt:90:30
 enum-told-2 : tie.Need-enum-told-2
 enum-told-2 c = search needs
 
--- src/identities.rt:74:1
 returns-4 : tie.Need-returns-4
 returns-4 c = Identities.over-itself (c .before .before .before .before .before .before .before .before .before .before .pre) (Values.tested P.isOne (c .before .before .before .before .before .before .before .before .constant-value .ensures) (c .before .before .before .before .before .before .before .is-one .ensures) (c .before .before .before .before .before .before .if1 .left)) (Values.tested P.isZero (c .before .before .before .before .before .constant-value2 .ensures) (c .before .before .before .before .is-zero .ensures) (c .before .before .before .if2 .left)) _ (c .before .before .if3 .left) (Values.known (c .enum-told .given .1) (c .before .before .before .before .before .constant-value2 .ensures))
 
--- src/identities.rt:74:1
 returns-5 : tie.Need-returns-5
 returns-5 c = Identities.over-declines (c .before .before .before .before .before .before .before .before .before .before .pre) (Values.tested P.isOne (c .before .before .before .before .before .before .before .before .constant-value .ensures) (c .before .before .before .before .before .before .before .is-one .ensures) (c .before .before .before .before .before .before .if1 .left)) (Values.tested P.isZero (c .before .before .before .before .before .constant-value2 .ensures) (c .before .before .before .before .is-zero .ensures) (c .before .before .before .if2 .left)) (c .before .before .if3 .left) (Values.known (c .enum-told2 .given .1) (c .before .before .before .before .before .constant-value2 .ensures))
 

@@ -1,84 +1,47 @@
--- imports
-use mathlib.Core.Path.{_≡_, refl, sym, ap, _∙_}
-use mathlib.Core.Option.{Option}
-use mathlib.Core.Logic.{inl, inr}
-use native.Mathlib.Omega.{arith}
 use borrow.Author.Needs.{needs}
 use borrow.Author.Tests.{not-true, not-false}
-use lib.ListN.{length}
-use lib.Ieee.{Float}
-use Rattle.definitions.specs.Node as N
-use Rattle.definitions.specs.Intern as I
 use Rattle.definitions.specs.Patterns as P
-use Rattle.patterns.specs.Reading.{valueOf}
-use Rattle.patterns.specs.Deciding as Deciding
-use Rattle.patterns.specs.declared.constants.Constant.{Constant}
 use Rattle.patterns.proofs.Values as Values
-use Rattle.patterns.proofs.Children as Children
 use Rattle.patterns.proofs.IdentityLaws as Identities
-use Rattle.patterns.proofs.FoldLaws as Folds
-use Rattle.patterns.proofs.MergeLaws as Merges
-use Rattle.patterns.proofs.KindLaws as Kinds
-use Rattle.patterns.proofs.CarryLaws as Carries
--- end imports
 use Rattle.patterns.proofs.identities.pow_identity.Statement.{statement}
 use Rattle.patterns.proofs.identities.pow_identity.Tie as tie
-use Rattle.patterns.proofs.identities.pow_identity.Reads as reads
-use Rattle.patterns.proofs.identities.pow_identity.Lts as lts
-use Rattle.patterns.proofs.constants.constant_value.Reads as constant-value-reads
-use Rattle.patterns.proofs.constants.is_one.Reads as is-one-reads
-use Rattle.patterns.proofs.constants.is_positive.Reads as is-positive-reads
-use Rattle.patterns.proofs.constants.is_zero.Reads as is-zero-reads
 
--- src/identities.rt:99:9
 constant-value-requires : tie.Need-constant-value-requires
 constant-value-requires c κs = search needs
 
--- src/identities.rt:100:9
 constant-value-requires-2 : tie.Need-constant-value-requires-2
 constant-value-requires-2 c κs = search needs
 
--- src/identities.rt:101:8
 is-zero-requires : tie.Need-is-zero-requires
 is-zero-requires c κs = search needs
 
--- src/identities.rt:102:9
 returns : tie.Need-returns
 returns c = Identities.to-zero (c .before .before .before .before .before .pre) (Values.tested P.isZero (c .before .before .constant-value2 .ensures) (c .before .is-zero .ensures) (c .if1 .taken))
 
--- src/identities.rt:104:8
 is-one-requires : tie.Need-is-one-requires
 is-one-requires c κs = search needs
 
--- src/identities.rt:105:9
 returns-2 : tie.Need-returns-2
 returns-2 c = Identities.to-one (c .before .before .before .before .before .before .before .pre) (Values.tested P.isZero (c .before .before .before .before .constant-value2 .ensures) (c .before .before .before .is-zero .ensures) (c .before .before .if1 .left)) (Values.tested P.isOne (c .before .before .before .before .constant-value2 .ensures) (c .before .is-one .ensures) (c .if2 .taken))
 
--- src/identities.rt:107:8
 is-one-requires-2 : tie.Need-is-one-requires-2
 is-one-requires-2 c κs = search needs
 
--- src/identities.rt:108:9
 returns-3 : tie.Need-returns-3
 returns-3 c = Identities.of-one (c .before .before .before .before .before .before .before .before .before .pre) (Values.tested P.isZero (c .before .before .before .before .before .before .constant-value2 .ensures) (c .before .before .before .before .before .is-zero .ensures) (c .before .before .before .before .if1 .left)) (Values.tested P.isOne (c .before .before .before .before .before .before .constant-value2 .ensures) (c .before .before .before .is-one .ensures) (c .before .before .if2 .left)) (Values.tested P.isOne (c .before .before .before .before .before .before .before .constant-value .ensures) (c .before .is-one2 .ensures) (c .if3 .taken))
 
--- src/identities.rt:110:9
 is-zero-requires-2 : tie.Need-is-zero-requires-2
 is-zero-requires-2 c κs = search needs
 
--- src/identities.rt:111:9
 returns-4 : tie.Need-returns-4
 returns-4 c = Identities.power-declines (c .before .before .before .before .before .before .before .before .before .before .before .pre) (Values.tested P.isZero (c .before .before .before .before .before .before .before .before .constant-value2 .ensures) (c .before .before .before .before .before .before .before .is-zero .ensures) (c .before .before .before .before .before .before .if1 .left)) (Values.tested P.isOne (c .before .before .before .before .before .before .before .before .constant-value2 .ensures) (c .before .before .before .before .before .is-one .ensures) (c .before .before .before .before .if2 .left)) (Values.tested P.isOne (c .before .before .before .before .before .before .before .before .before .constant-value .ensures) (c .before .before .before .is-one2 .ensures) (c .before .before .if3 .left)) (Values.tested P.isZero (c .before .before .before .before .before .before .before .before .before .constant-value .ensures) (c .before .is-zero2 .ensures) (not-true _ (c .if4 .taken)))
 
--- src/identities.rt:113:8
 is-positive-requires : tie.Need-is-positive-requires
 is-positive-requires c κs = search needs
 
--- src/identities.rt:114:9
 returns-5 : tie.Need-returns-5
 returns-5 c = Identities.of-zero (c .before .before .before .before .before .before .before .before .before .before .before .before .before .pre) (Values.tested P.isZero (c .before .before .before .before .before .before .before .before .before .before .constant-value2 .ensures) (c .before .before .before .before .before .before .before .before .before .is-zero .ensures) (c .before .before .before .before .before .before .before .before .if1 .left)) (Values.tested P.isOne (c .before .before .before .before .before .before .before .before .before .before .constant-value2 .ensures) (c .before .before .before .before .before .before .before .is-one .ensures) (c .before .before .before .before .before .before .if2 .left)) (Values.tested P.isOne (c .before .before .before .before .before .before .before .before .before .before .before .constant-value .ensures) (c .before .before .before .before .before .is-one2 .ensures) (c .before .before .before .before .if3 .left)) (Values.tested P.isZero (c .before .before .before .before .before .before .before .before .before .before .before .constant-value .ensures) (c .before .before .before .is-zero2 .ensures) (not-false _ (c .before .before .if4 .left))) (Values.tested P.isPositive (c .before .before .before .before .before .before .before .before .before .before .constant-value2 .ensures) (c .before .is-positive .ensures) (c .if5 .taken))
 
--- src/identities.rt:95:1
 returns-6 : tie.Need-returns-6
 returns-6 c = Identities.of-zero-declines (c .before .before .before .before .before .before .before .before .before .before .before .before .before .pre) (Values.tested P.isZero (c .before .before .before .before .before .before .before .before .before .before .constant-value2 .ensures) (c .before .before .before .before .before .before .before .before .before .is-zero .ensures) (c .before .before .before .before .before .before .before .before .if1 .left)) (Values.tested P.isOne (c .before .before .before .before .before .before .before .before .before .before .constant-value2 .ensures) (c .before .before .before .before .before .before .before .is-one .ensures) (c .before .before .before .before .before .before .if2 .left)) (Values.tested P.isOne (c .before .before .before .before .before .before .before .before .before .before .before .constant-value .ensures) (c .before .before .before .before .before .is-one2 .ensures) (c .before .before .before .before .if3 .left)) (Values.tested P.isZero (c .before .before .before .before .before .before .before .before .before .before .before .constant-value .ensures) (c .before .before .before .is-zero2 .ensures) (not-false _ (c .before .before .if4 .left))) (Values.tested P.isPositive (c .before .before .before .before .before .before .before .before .before .before .constant-value2 .ensures) (c .before .is-positive .ensures) (c .if5 .left))
 

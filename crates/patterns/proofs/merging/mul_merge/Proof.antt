@@ -1,95 +1,54 @@
--- imports
-use mathlib.Core.Path.{_≡_, refl, sym, ap, _∙_}
-use mathlib.Core.Option.{Option}
-use mathlib.Core.Logic.{inl, inr}
-use native.Mathlib.Omega.{arith}
 use borrow.Author.Needs.{needs}
-use borrow.Author.Tests.{not-true, not-false}
-use lib.ListN.{length}
-use lib.Ieee.{Float}
-use Rattle.definitions.specs.Node as N
-use Rattle.definitions.specs.Intern as I
-use Rattle.definitions.specs.Patterns as P
-use Rattle.patterns.specs.Reading.{valueOf}
-use Rattle.patterns.specs.Deciding as Deciding
-use Rattle.patterns.specs.declared.constants.Constant.{Constant}
 use Rattle.patterns.proofs.Values as Values
 use Rattle.patterns.proofs.Children as Children
-use Rattle.patterns.proofs.IdentityLaws as Identities
-use Rattle.patterns.proofs.FoldLaws as Folds
 use Rattle.patterns.proofs.MergeLaws as Merges
-use Rattle.patterns.proofs.KindLaws as Kinds
-use Rattle.patterns.proofs.CarryLaws as Carries
--- end imports
 use Rattle.patterns.proofs.merging.mul_merge.Statement.{statement}
 use Rattle.patterns.proofs.merging.mul_merge.Tie as tie
-use Rattle.patterns.proofs.merging.mul_merge.Reads as reads
-use Rattle.patterns.proofs.merging.mul_merge.Lts as lts
-use Rattle.fold.proofs.fold.Reads as fold-reads
-use Rattle.patterns.proofs.constants.constant_value.Reads as constant-value-reads
-use Rattle.patterns.proofs.merging.coefficient_of.Reads as coefficient-of-reads
-use Rattle.patterns.proofs.merging.constant_left.Reads as constant-left-reads
-use Rattle.patterns.proofs.merging.constant_right.Reads as constant-right-reads
 
--- src/merging.rt:76:9
 constant-value-requires : tie.Need-constant-value-requires
 constant-value-requires c κs = search needs
 
--- src/merging.rt:77:24
 enum-known-x : tie.Need-enum-known-x
 enum-known-x c = search needs
 
--- src/merging.rt:78:9
 enum-told : tie.Need-enum-told
 enum-told c = search needs
 
--- src/merging.rt:78:9
 returns : tie.Need-returns
 returns c = Merges.no-factor (c .before .before .before .before .pre) (Values.known (c .enum-told .given .1) (c .before .before .constant-value .ensures))
 
--- src/merging.rt:80:9
-coefficient-of-requires : tie.Need-coefficient-of-requires
-coefficient-of-requires c κs = search needs
+constant-child-requires : tie.Need-constant-child-requires
+constant-child-requires c κs = search needs
 
--- src/merging.rt:82:29
 enum-known-y : tie.Need-enum-known-y
 enum-known-y c = search needs
 
--- src/merging.rt:82:65
 fold-requires : tie.Need-fold-requires
 fold-requires c κs = search needs
 
--- src/merging.rt:82:46
 constant-left-requires : tie.Need-constant-left-requires
 constant-left-requires c κs = search needs
 
--- src/merging.rt:83:30
 enum-known-y-2 : tie.Need-enum-known-y-2
 enum-known-y-2 c = search needs
 
--- src/merging.rt:83:67
 fold-requires-2 : tie.Need-fold-requires-2
 fold-requires-2 c κs = search needs
 
--- src/merging.rt:83:47
 constant-right-requires : tie.Need-constant-right-requires
 constant-right-requires c κs = search needs
 
--- src/merging.rt:84:33
 enum-told-2 : tie.Need-enum-told-2
 enum-told-2 c = search needs
 
--- src/merging.rt:72:1
 returns-2 : tie.Need-returns-2
-returns-2 c = Merges.left-factor (c .before .before .before .before .before .before .before .before .before .before .before .pre) (Values.known (c .before .before .before .before .before .before .before .x .given .1) (c .before .before .before .before .before .before .before .before .before .constant-value .ensures)) (Children.known-split (c .before .before .before .y .given .1) (c .before .before .before .before .before .coefficient-of .ensures .is)) (Children.known-other _ (c .before .before .before .y .given .1) (c .before .before .before .before .before .coefficient-of .ensures .low)) (c .before .fold .ensures) (c .constant-left .ensures)
+returns-2 c = Merges.left-factor (c .before .before .before .before .before .before .before .before .before .before .before .pre) (Values.known (c .before .before .before .before .before .before .before .x .given .1) (c .before .before .before .before .before .before .before .before .before .constant-value .ensures)) (Children.known-split (c .before .before .before .y .given .1) (c .before .before .before .before .before .constant-child .ensures .is)) (Children.known-other _ (c .before .before .before .y .given .1) (c .before .before .before .before .before .constant-child .ensures .low)) (c .before .fold .ensures .is) (c .constant-left .ensures)
 
--- src/merging.rt:72:1
 returns-3 : tie.Need-returns-3
-returns-3 c = Merges.right-factor (c .before .before .before .before .before .before .before .before .before .before .before .pre) (Values.known (c .before .before .before .before .before .before .before .x .given .1) (c .before .before .before .before .before .before .before .before .before .constant-value .ensures)) (Children.known-split (c .before .before .before .y2 .given .1) (c .before .before .before .before .before .coefficient-of .ensures .is)) (Children.known-other _ (c .before .before .before .y2 .given .1) (c .before .before .before .before .before .coefficient-of .ensures .low)) (c .before .fold2 .ensures) (c .constant-right .ensures)
+returns-3 c = Merges.right-factor (c .before .before .before .before .before .before .before .before .before .before .before .pre) (Values.known (c .before .before .before .before .before .before .before .x .given .1) (c .before .before .before .before .before .before .before .before .before .constant-value .ensures)) (Children.known-split (c .before .before .before .y2 .given .1) (c .before .before .before .before .before .constant-child .ensures .is)) (Children.known-other _ (c .before .before .before .y2 .given .1) (c .before .before .before .before .before .constant-child .ensures .low)) (c .before .fold2 .ensures .is) (c .constant-right .ensures)
 
--- src/merging.rt:72:1
 returns-4 : tie.Need-returns-4
-returns-4 c = Merges.no-product (c .before .before .before .before .before .before .before .before .pre) (Values.known (c .before .before .before .before .x .given .1) (c .before .before .before .before .before .before .constant-value .ensures)) (Children.known-split (c .enum-told2 .given .1) (c .before .before .coefficient-of .ensures .is))
+returns-4 c = Merges.no-product (c .before .before .before .before .before .before .before .before .pre) (Values.known (c .before .before .before .before .x .given .1) (c .before .before .before .before .before .before .constant-value .ensures)) (Children.known-split (c .enum-told2 .given .1) (c .before .before .constant-child .ensures .is))
 
 pub mul-merge-spec : {M : Type 1} → statement M
 mul-merge-spec =
@@ -99,7 +58,7 @@ mul-merge-spec =
     enum-known-x
     enum-told
     returns
-    coefficient-of-requires
+    constant-child-requires
     enum-known-y
     fold-requires
     constant-left-requires

@@ -1,114 +1,74 @@
--- `pruner::chain::flatten` meets its contract. The measure is the weight of the ids that wait. Assumes nothing.
+-- `pruner::chain::flatten` meets its contract. The measure is the weight of the id at hand and of the ids that wait. Assumes nothing.
+use mathlib.Core.Path.{sym, _∙_}
 use native.Mathlib.Omega.{arith}
 use borrow.Author.Needs.{needs}
-use mathlib.Core.Path.{sym, _∙_}
-use lib.ListN.{drop}
-use Rattle.pruner.proofs.Weights.{weights}
-use Rattle.pruner.proofs.Reading.{few-children}
 use Rattle.pruner.proofs.Flattening as Q
-use Rattle.pruner.proofs.Flattening.{Flattening}
+use Rattle.pruner.proofs.Flattening.{Flattening, work}
 use Rattle.pruner.proofs.chain.flatten.Statement.{statement}
 use Rattle.pruner.proofs.chain.flatten.Tie as tie
 
 abbrev Inv-loop : tie.InvT-loop
-Inv-loop nodes count root terms₀ found₀ top₀ terms found top = Flattening nodes count root terms found top
+Inv-loop nodes count root terms₀ found₀ top₀ id₀ terms found top id = Flattening nodes count root terms found top id
 
 abbrev μ-loop : tie.MeasureT-loop
-μ-loop nodes count root terms₀ found₀ top₀ terms found top = weights (drop top terms)
-
-sub-top : tie.Need-sub-top Inv-loop μ-loop
-sub-top c = search needs
-
-mul-terms : tie.Need-mul-terms Inv-loop μ-loop
-mul-terms c = search needs
-
-element-write-terms : tie.Need-element-write-terms Inv-loop μ-loop
-element-write-terms c = search needs
+μ-loop nodes count root terms₀ found₀ top₀ id₀ terms found top id = work terms top id
 
 loop-holds : tie.Need-loop-holds Inv-loop μ-loop
-loop-holds c = Q.begins _ _ _ (c .before .pre .0) (c .before .args .terms .now) (c .before .pre .2)
-
-mul-id : tie.Need-mul-id Inv-loop μ-loop
-mul-id c = omega arith
-
-element-copy-out-id : tie.Need-element-copy-out-id Inv-loop μ-loop
-element-copy-out-id c = omega arith
+loop-holds c = Q.begins _ _ _ (c .before .pre .0) _ (c .before .pre .2)
 
 kind-requires : tie.Need-kind-requires Inv-loop μ-loop
-kind-requires c κs =
-    let p = c .before .before .before .before .pre in
-    p .1 .lookup _ (Q.id-below _ _ _ (p .1) _ _ _ (c .before .before .loop .inv) (c .before .loop-test .taken))
+kind-requires c κs = c .before .before .pre .1 .lookup _ (Q.id-below _ _ _ (c .before .before .pre .1) _ _ _ _ (c .loop .inv))
 
-arity-requires : tie.Need-arity-requires Inv-loop μ-loop
-arity-requires c κs =
-    let p = c .before .before .before .before .before .before .pre in
-    p .1 .lookup _ (Q.id-below _ _ _ (p .1) _ _ _ (c .before .before .before .before .loop .inv) (c .before .before .before .loop-test .taken))
+add-push-siblings : tie.Need-add-push-siblings Inv-loop μ-loop
+add-push-siblings c = omega (arith, c .before .before .before .loop .inv .room, c .before .before .before .loop .inv .ends)
 
-add-past : tie.Need-add-past Inv-loop μ-loop
-add-past c = omega arith
+push-siblings-requires : tie.Need-push-siblings-requires Inv-loop μ-loop
+push-siblings-requires c κs = (c .before .before .before .before .before .pre .1 .lookup _ (Q.id-below _ _ _ (c .before .before .before .before .before .pre .1) _ _ _ _ (c .before .before .before .loop .inv)), Q.has-child _ _ _ (c .before .before .before .before .before .pre .1) _ _ _ _ (c .before .before .before .loop .inv) (sym (c .before .before .kind .ensures) ∙ c .before .if1 .taken), omega (arith, c .before .before .before .loop .inv .room), c .before .before .before .loop .inv .ends, c .before .before .before .loop .inv .long)
 
-add-if2 : tie.Need-add-if2 Inv-loop μ-loop
-add-if2 c =
-    let p = c .before .before .before .before .before .before .before .pre .1 in
-    let inv = c .before .before .before .before .before .loop .inv in
-    let test = c .before .before .before .before .loop-test .taken in
-    omega (arith, inv .room, c .arity .ensures, few-children _ _ p _ (Q.id-below _ _ _ p _ _ _ inv test))
+enum-told : tie.Need-enum-told Inv-loop μ-loop
+enum-told c = search needs
 
 returns : tie.Need-returns Inv-loop μ-loop
-returns c =
-    let p = c .before .before .before .before .before .before .before .before .pre .1 in
-    let inv = c .before .before .before .before .before .before .loop .inv in
-    let test = c .before .before .before .before .before .loop-test .taken in
-    record { holds = Q.exceeds _ _ _ p _ _ _ inv test (sym (c .before .before .before .kind .ensures) ∙ c .before .before .if1 .taken) _ (c .before .arity .ensures) (c .if2 .taken); long = inv .long }
+returns c = Q.exceeds _ _ _ (c .before .before .before .before .before .before .before .before .pre .1) _ _ _ _ (c .before .before .before .before .before .before .loop .inv) (sym (c .before .before .before .before .before .kind .ensures) ∙ c .before .before .before .before .if1 .taken) _ _ (c .before .before .push-siblings .ensures) (c .enum-told .given .1)
 
-sub-top-2 : tie.Need-sub-top-2 Inv-loop μ-loop
-sub-top-2 c = omega arith
+enum-known-from : tie.Need-enum-known-from Inv-loop μ-loop
+enum-known-from c = search needs
 
-write-children-requires : tie.Need-write-children-requires Inv-loop μ-loop
-write-children-requires c κs =
-    let p = c .before .before .before .before .before .before .before .before .before .pre .1 in
-    let inv = c .before .before .before .before .before .before .before .loop .inv in
-    let test = c .before .before .before .before .before .before .loop-test .taken in
-    (p .lookup _ (Q.id-below _ _ _ p _ _ _ inv test), Q.fits _ _ _ p _ _ _ inv test (sym (c .before .before .before .before .kind .ensures) ∙ c .before .before .before .if1 .taken) _ (c .before .before .arity .ensures) (c .before .if2 .left), inv .long)
+child-requires : tie.Need-child-requires Inv-loop μ-loop
+child-requires c κs = (Q.has-child _ _ _ (c .before .before .before .before .before .before .before .before .before .pre .1) _ _ _ _ (c .before .before .before .before .before .before .before .loop .inv) (sym (c .before .before .before .before .before .before .kind .ensures) ∙ c .before .before .before .before .before .if1 .taken), c .before .before .before .before .before .before .before .before .before .pre .1 .lookup _ (Q.id-below _ _ _ (c .before .before .before .before .before .before .before .before .before .pre .1) _ _ _ _ (c .before .before .before .before .before .before .before .loop .inv)))
 
 loop-less : tie.Need-loop-less Inv-loop μ-loop
-loop-less c =
-    let p = c .before .before .before .before .before .before .before .before .before .before .pre .1 in
-    let inv = c .before .before .before .before .before .before .before .before .loop .inv in
-    let test = c .before .before .before .before .before .before .before .loop-test .taken in
-    Q.opens-less _ _ _ p _ _ _ inv test (sym (c .before .before .before .before .before .kind .ensures) ∙ c .before .before .before .before .if1 .taken) _ (c .before .before .before .arity .ensures) (c .before .before .if2 .left) _ (c .write-children .ensures)
+loop-less c = Q.opens-less _ _ _ (c .before .before .before .before .before .before .before .before .before .before .pre .1) _ _ _ _ (c .before .before .before .before .before .before .before .before .loop .inv) (sym (c .before .before .before .before .before .before .before .kind .ensures) ∙ c .before .before .before .before .before .before .if1 .taken) _ _ (c .before .before .before .before .push-siblings .ensures) _ (c .before .before .from .given .1) _ (c .child .ensures)
 
 loop-again : tie.Need-loop-again Inv-loop μ-loop
-loop-again c =
-    let p = c .before .before .before .before .before .before .before .before .before .before .pre .1 in
-    let inv = c .before .before .before .before .before .before .before .before .loop .inv in
-    let test = c .before .before .before .before .before .before .before .loop-test .taken in
-    Q.opens _ _ _ p _ _ _ inv test (sym (c .before .before .before .before .before .kind .ensures) ∙ c .before .before .before .before .if1 .taken) _ (c .before .before .before .arity .ensures) (c .before .before .if2 .left) _ (c .write-children .ensures)
+loop-again c = Q.opens _ _ _ (c .before .before .before .before .before .before .before .before .before .before .pre .1) _ _ _ _ (c .before .before .before .before .before .before .before .before .loop .inv) (sym (c .before .before .before .before .before .before .before .kind .ensures) ∙ c .before .before .before .before .before .before .if1 .taken) _ _ (c .before .before .before .before .push-siblings .ensures) _ (c .before .before .from .given .1) _ (c .child .ensures)
 
-mul-terms-2 : tie.Need-mul-terms-2 Inv-loop μ-loop
-mul-terms-2 c = omega (arith, c .before .before .before .before .loop .inv .room)
+mul-terms : tie.Need-mul-terms Inv-loop μ-loop
+mul-terms c = omega (arith, c .before .before .loop .inv .room, c .before .before .loop .inv .ends)
 
-element-write-terms-2 : tie.Need-element-write-terms-2 Inv-loop μ-loop
-element-write-terms-2 c = omega (arith, c .before .before .before .before .loop .inv .room)
+element-write-terms : tie.Need-element-write-terms Inv-loop μ-loop
+element-write-terms c = omega (arith, c .before .before .loop .inv .room, c .before .before .loop .inv .ends)
 
 add-found : tie.Need-add-found Inv-loop μ-loop
-add-found c = omega (arith, c .before .before .before .before .loop .inv .room)
-
-add-top : tie.Need-add-top Inv-loop μ-loop
-add-top c = omega arith
-
-loop-less-2 : tie.Need-loop-less-2 Inv-loop μ-loop
-loop-less-2 c =
-    Q.finds-less _ _ _ (c .before .before .before .before .before .before .pre .1) _ _ _ (c .before .before .before .before .loop .inv) (c .before .before .before .loop-test .taken)
-    (λ e. c .if1 .left (c .before .kind .ensures ∙ e))
-
-loop-again-2 : tie.Need-loop-again-2 Inv-loop μ-loop
-loop-again-2 c =
-    Q.finds _ _ _ (c .before .before .before .before .before .before .pre .1) _ _ _ (c .before .before .before .before .loop .inv) (c .before .before .before .loop-test .taken)
-    (λ e. c .if1 .left (c .before .kind .ensures ∙ e))
+add-found c = omega (arith, c .before .before .loop .inv .room, c .before .before .loop .inv .ends)
 
 returns-2 : tie.Need-returns-2 Inv-loop μ-loop
-returns-2 c = Q.ends-flat _ _ _ _ _ _ (c .before .loop .inv) (c .loop-test .left)
+returns-2 c = Q.ends-flat _ _ _ (c .before .before .before .before .before .pre .1) _ _ _ _ (c .before .before .before .loop .inv) (λ e. c .before .if1 .left (c .before .before .kind .ensures ∙ e)) (c .if2 .taken)
+
+mul-id : tie.Need-mul-id Inv-loop μ-loop
+mul-id c = omega (arith, c .before .before .before .loop .inv .ends)
+
+element-copy-out-id : tie.Need-element-copy-out-id Inv-loop μ-loop
+element-copy-out-id c = Q.next-inside _ _ _ (c .before .before .before .before .before .pre .1) _ _ _ _ (c .before .before .before .loop .inv) (λ e. c .before .if1 .left (c .before .before .kind .ensures ∙ e)) (c .if2 .left)
+
+add-top : tie.Need-add-top Inv-loop μ-loop
+add-top c = omega (arith, c .before .before .before .before .loop .inv .ends)
+
+loop-less-2 : tie.Need-loop-less-2 Inv-loop μ-loop
+loop-less-2 c = Q.finds-less _ _ _ (c .before .before .before .before .before .before .pre .1) _ _ _ _ (c .before .before .before .before .loop .inv) (λ e. c .before .before .if1 .left (c .before .before .before .kind .ensures ∙ e)) (c .before .if2 .left)
+
+loop-again-2 : tie.Need-loop-again-2 Inv-loop μ-loop
+loop-again-2 c = Q.finds _ _ _ (c .before .before .before .before .before .before .pre .1) _ _ _ _ (c .before .before .before .before .loop .inv) (λ e. c .before .before .if1 .left (c .before .before .before .kind .ensures ∙ e)) (c .before .if2 .left)
 
 pub flatten-spec : {M : Type 1} → statement M
 flatten-spec =
@@ -116,25 +76,22 @@ flatten-spec =
     (tie.spec
     Inv-loop
     μ-loop
-    sub-top
-    mul-terms
-    element-write-terms
     loop-holds
-    mul-id
-    element-copy-out-id
     kind-requires
-    arity-requires
-    add-past
-    add-if2
+    add-push-siblings
+    push-siblings-requires
+    enum-told
     returns
-    sub-top-2
-    write-children-requires
+    enum-known-from
+    child-requires
     loop-less
     loop-again
-    mul-terms-2
-    element-write-terms-2
+    mul-terms
+    element-write-terms
     add-found
+    returns-2
+    mul-id
+    element-copy-out-id
     add-top
     loop-less-2
-    loop-again-2
-    returns-2)
+    loop-again-2)

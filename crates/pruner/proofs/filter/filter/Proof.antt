@@ -6,9 +6,6 @@ use Rattle.pruner.proofs.Filtering as Q
 use Rattle.pruner.proofs.Filtering.{Filtering}
 use Rattle.pruner.proofs.filter.filter.Statement.{statement}
 use Rattle.pruner.proofs.filter.filter.Tie as tie
-use Rattle.pruner.proofs.filter.filter.Reads as reads
-use Rattle.pruner.proofs.filter.filter.Lts as lts
-use Rattle.pruner.proofs.filter.keeps.Reads as keeps-reads
 
 abbrev Inv-loop : tie.InvT-loop
 Inv-loop nodes count threshold terms₀ found kept₀ i₀ terms kept i = Filtering nodes count threshold terms₀ found terms kept i
@@ -16,45 +13,35 @@ Inv-loop nodes count threshold terms₀ found kept₀ i₀ terms kept i = Filter
 abbrev μ-loop : tie.MeasureT-loop
 μ-loop nodes count threshold terms₀ found kept₀ i₀ terms kept i = found - i
 
--- src/filter.rt:53:5
 loop-holds : tie.Need-loop-holds Inv-loop μ-loop
 loop-holds c = Q.begins _ _ _ _ _ (c .before .pre .0) (c .before .pre .3)
 
--- src/filter.rt:54:18
 mul-id : tie.Need-mul-id Inv-loop μ-loop
 mul-id c = omega arith
 
--- src/filter.rt:54:18
 element-copy-out-id : tie.Need-element-copy-out-id Inv-loop μ-loop
 element-copy-out-id c = omega arith
 
--- src/filter.rt:55:12
 keeps-requires : tie.Need-keeps-requires Inv-loop μ-loop
 keeps-requires c κs =
     let p = c .before .before .before .before .pre in
     p .2 .lookup _ (Q.id-below _ _ _ _ _ (p .0) (p .3) _ _ _ (c .before .before .loop .inv) (c .before .loop-test .taken) (p .1))
 
--- src/filter.rt:56:13
 mul-terms : tie.Need-mul-terms Inv-loop μ-loop
 mul-terms c = omega arith
 
--- src/filter.rt:56:13
 element-write-terms : tie.Need-element-write-terms Inv-loop μ-loop
 element-write-terms c = omega arith
 
--- src/filter.rt:57:13
 add-kept : tie.Need-add-kept Inv-loop μ-loop
 add-kept c = omega arith
 
--- src/filter.rt:59:9
 add-i : tie.Need-add-i Inv-loop μ-loop
 add-i c = omega arith
 
--- src/filter.rt:53:5
 loop-less : tie.Need-loop-less Inv-loop μ-loop
 loop-less c = omega arith
 
--- src/filter.rt:53:5
 loop-again : tie.Need-loop-again Inv-loop μ-loop
 loop-again c =
     let p = c .before .before .before .before .before .before .pre in
@@ -66,7 +53,6 @@ loop-again c =
     (λ w. Q.drops-it _ _ _ _ _ (p .0) (p .3) _ _ _ inv test _ is _ _ (w .0 .left) (w .1) (w .2))
     (c .if1 .came)
 
--- src/filter.rt:41:1
 returns : tie.Need-returns Inv-loop μ-loop
 returns c = Q.ends _ _ _ _ _ (c .before .before .before .pre .0) (c .before .before .before .pre .3) _ _ _ (c .before .loop .inv) (c .loop-test .left)
 

@@ -1,7 +1,5 @@
 -- `pruner::filter::magnitude_of_term` meets its contract. Assumes nothing.
-use mathlib.Core.Path.{_≡_, refl, sym, ap, _∙_}
-use mathlib.Core.Bool.{Bool, cond}
-use mathlib.Core.Option.{none, some}
+use mathlib.Core.Path.{sym, _∙_}
 use borrow.Author.Needs.{needs}
 use Rattle.pruner.proofs.Filtering.{constant-magnitude, other-magnitude}
 use Rattle.pruner.proofs.filter.magnitude_of_term.Statement.{statement}

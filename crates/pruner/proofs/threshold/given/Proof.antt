@@ -2,9 +2,8 @@
 use mathlib.Core.Path.{sym, ap}
 use mathlib.Core.Bool.{Bool, cond}
 use borrow.Author.Tests.{le-leb, lt-leb}
-use Rattle.definitions.specs.Limits.{infinityBits}
 use Rattle.definitions.specs.Refusals.{badThreshold}
-use Rattle.definitions.specs.Threshold.{Threshold, bits, refusing}
+use Rattle.definitions.specs.Threshold.{bits, refusing}
 use Rattle.pruner.proofs.threshold.given.Statement.{statement}
 use Rattle.pruner.proofs.threshold.given.Tie as tie
 

@@ -1,104 +1,74 @@
--- imports
-use Prim.Native.Nat.{ℕ, _-_}
-use mathlib.Core.Path.{_≡_, sym, _∙_}
-use lib.ListN.{length}
+-- The bounds come from the walk's invariant; each way out cites its case of Descending.
+use mathlib.Core.Path.{sym, _∙_}
 use native.Mathlib.Omega.{arith}
 use borrow.Author.Needs.{needs}
 use Rattle.walk.proofs.Descending as D
--- end imports
 use Rattle.walk.proofs.turn.descend.Statement.{statement}
 use Rattle.walk.proofs.turn.descend.Tie as tie
-use Rattle.walk.proofs.turn.descend.Reads as reads
-use Rattle.walk.proofs.turn.descend.Lts as lts
-use Rattle.store.proofs.child.Reads as child-reads
-use Rattle.walk.proofs.turn.going.Reads as going-reads
-use Rattle.walk.proofs.turn.is_taken_unwalked.Reads as is-taken-unwalked-reads
 
--- src/turn.rt:72:15
 sub-top : tie.Need-sub-top
 sub-top c = search needs
 
--- src/turn.rt:73:18
 mul-cursor : tie.Need-mul-cursor
 mul-cursor c = search needs
 
--- src/turn.rt:73:18
 element-copy-out-cursor : tie.Need-element-copy-out-cursor
 element-copy-out-cursor c = search needs
 
--- src/turn.rt:74:44
 mul-child : tie.Need-mul-child
 mul-child c = search needs
 
--- src/turn.rt:74:44
 element-copy-out-child : tie.Need-element-copy-out-child
 element-copy-out-child c = search needs
 
--- src/turn.rt:74:9
 child-requires : tie.Need-child-requires
 child-requires c κs = (c .before .before .before .before .pre .more, D.may-read _ _ _ (c .before .before .before .before .pre))
 
--- src/turn.rt:75:20
 add-cursors : tie.Need-add-cursors
 add-cursors c = let l = D.little _ _ _ (c .before .before .before .before .before .pre) in omega arith
 
--- src/turn.rt:75:5
 mul-cursors : tie.Need-mul-cursors
 mul-cursors c = search needs
 
--- src/turn.rt:75:5
 element-write-cursors : tie.Need-element-write-cursors
 element-write-cursors c = search needs
 
--- src/turn.rt:76:8
 is-taken-unwalked-requires : tie.Need-is-taken-unwalked-requires
 is-taken-unwalked-requires c κs = D.may-read-child _ _ _ (c .before .before .before .before .before .pre) _ (c .child .ensures)
 
--- src/turn.rt:77:9
 mul-values : tie.Need-mul-values
 mul-values c = search needs
 
--- src/turn.rt:77:9
 element-write-values : tie.Need-element-write-values
 element-write-values c = search needs
 
--- src/turn.rt:78:30
 add-going : tie.Need-add-going
 add-going c = search needs
 
--- src/turn.rt:78:9
 going-requires : tie.Need-going-requires
 going-requires c κs = search needs
 
--- src/turn.rt:78:9
 returns : tie.Need-returns
 returns c = D.taken _ _ _ (c .before .before .before .before .before .before .before .before .pre) _ (c .before .before .before .child .ensures) (c .before .before .before .before .before .before .before .before .args .progress) (sym (c .before .before .is-taken-unwalked .ensures) ∙ c .before .if1 .taken) _ (c .going .ensures)
 
--- src/turn.rt:80:5
 mul-ids : tie.Need-mul-ids
 mul-ids c = search needs
 
--- src/turn.rt:80:5
 element-write-ids : tie.Need-element-write-ids
 element-write-ids c = search needs
 
--- src/turn.rt:81:5
 mul-cursors-2 : tie.Need-mul-cursors-2
 mul-cursors-2 c = search needs
 
--- src/turn.rt:81:5
 element-write-cursors-2 : tie.Need-element-write-cursors-2
 element-write-cursors-2 c = search needs
 
--- src/turn.rt:82:11
 add-going-2 : tie.Need-add-going-2
 add-going-2 c = search needs
 
--- src/turn.rt:82:5
 going-requires-2 : tie.Need-going-requires-2
 going-requires-2 c κs = search needs
 
--- src/turn.rt:58:1
 returns-2 : tie.Need-returns-2
 returns-2 c = D.walked _ _ _ (c .before .before .before .before .before .before .before .before .pre) _ (c .before .before .before .child .ensures) (c .before .before .before .before .before .before .before .before .args .progress) (sym (c .before .before .is-taken-unwalked .ensures) ∙ c .before .if1 .left) _ (c .going2 .ensures)
 

@@ -1,34 +1,22 @@
--- imports
-use Prim.Native.Nat.{ℕ, _-_}
-use mathlib.Core.Path.{_≡_, sym, _∙_}
-use lib.ListN.{length}
-use native.Mathlib.Omega.{arith}
+-- A leaf, or what the mark says.
+use mathlib.Core.Path.{sym, _∙_}
 use borrow.Author.Needs.{needs}
 use Rattle.walk.proofs.Descending as D
 use denote.Ref.{now}
 use Rattle.definitions.specs.Node.{at}
 use Rattle.store.specs.View.{nodesIn}
--- end imports
 use Rattle.walk.proofs.turn.is_taken_unwalked.Statement.{statement}
 use Rattle.walk.proofs.turn.is_taken_unwalked.Tie as tie
-use Rattle.walk.proofs.turn.is_taken_unwalked.Reads as reads
-use Rattle.walk.proofs.turn.is_taken_unwalked.Lts as lts
-use Rattle.store.proofs.arity.Reads as arity-reads
-use Rattle.store.proofs.is_canonical.Reads as is-canonical-reads
 
--- src/turn.rt:25:8
 arity-requires : tie.Need-arity-requires
 arity-requires c κs = search needs
 
--- src/turn.rt:26:9
 returns : tie.Need-returns
 returns c = D.leaf (at (nodesIn (now (c .before .before .before .args .nodes)) (c .before .before .before .args .count)) (c .before .before .before .args .id)) (sym (c .before .arity .ensures) ∙ c .if1 .taken)
 
--- src/turn.rt:28:5
 is-canonical-requires : tie.Need-is-canonical-requires
 is-canonical-requires c κs = search needs
 
--- src/turn.rt:21:1
 returns-2 : tie.Need-returns-2
 returns-2 c = D.no-leaf (at (nodesIn (now (c .before .before .before .before .args .nodes)) (c .before .before .before .before .args .count)) (c .before .before .before .before .args .id)) _ (c .is-canonical .ensures) (λ e. c .before .if1 .left (c .before .before .arity .ensures ∙ e))
 

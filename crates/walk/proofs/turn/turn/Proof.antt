@@ -1,133 +1,95 @@
--- imports
-use Prim.Native.Nat.{ℕ, _-_}
-use mathlib.Core.Path.{_≡_, refl, sym, _∙_}
+-- The bounds come from the walk's invariant; each way out cites its case of Turning.
+use mathlib.Core.Path.{refl}
 use native.Mathlib.Omega.{arith}
 use borrow.Author.Needs.{needs}
 use Rattle.walk.proofs.Turning as T
--- end imports
 use Rattle.walk.proofs.turn.turn.Statement.{statement}
 use Rattle.walk.proofs.turn.turn.Tie as tie
-use Rattle.walk.proofs.turn.turn.Reads as reads
-use Rattle.walk.proofs.turn.turn.Lts as lts
-use Rattle.store.proofs.arity.Reads as arity-reads
-use Rattle.walk.proofs.rebuild.finish.Reads as finish-reads
-use Rattle.walk.proofs.turn.descend.Reads as descend-reads
-use Rattle.walk.proofs.turn.gather.Reads as gather-reads
-use Rattle.walk.proofs.turn.going.Reads as going-reads
 
--- src/turn.rt:100:15
 sub-top : tie.Need-sub-top
 sub-top c = search needs
 
--- src/turn.rt:101:14
 mul-id : tie.Need-mul-id
 mul-id c = search needs
 
--- src/turn.rt:101:14
 element-copy-out-id : tie.Need-element-copy-out-id
 element-copy-out-id c = search needs
 
--- src/turn.rt:102:18
 mul-cursor : tie.Need-mul-cursor
 mul-cursor c = search needs
 
--- src/turn.rt:102:18
 element-copy-out-cursor : tie.Need-element-copy-out-cursor
 element-copy-out-cursor c = search needs
 
--- src/turn.rt:103:16
 sub-base : tie.Need-sub-base
 sub-base c = let b = T.bounds _ _ _ (c .before .before .before .before .before .before .pre) in omega arith
 
--- src/turn.rt:106:9
 mul-values : tie.Need-mul-values
 mul-values c = let b = T.bounds _ _ _ (c .before .before .before .before .before .before .before .pre) in search needs
 
--- src/turn.rt:106:9
 element-write-values : tie.Need-element-write-values
 element-write-values c = let b = T.bounds _ _ _ (c .before .before .before .before .before .before .before .pre) in search needs
 
--- src/turn.rt:107:27
 add-going : tie.Need-add-going
 add-going c = let b = T.bounds _ _ _ (c .before .before .before .before .before .before .before .pre) in omega arith
 
--- src/turn.rt:107:9
 going-requires : tie.Need-going-requires
 going-requires c κs = search needs
 
--- src/turn.rt:107:9
 returns : tie.Need-returns
 returns c = T.at-limit _ _ _ (c .before .before .before .before .before .before .before .before .pre) (c .before .if1 .taken) _ (c .going .ensures)
 
--- src/turn.rt:109:17
 arity-requires : tie.Need-arity-requires
 arity-requires c κs = T.may-read _ _ _ (c .before .before .before .before .before .before .before .before .pre)
 
--- src/turn.rt:110:9
 descend-requires : tie.Need-descend-requires
 descend-requires c κs = T.descendable _ _ _ (c .before .before .before .before .before .before .before .before .before .before .before .before .before .before .pre) (c .before .before .before .before .before .before .before .if1 .left) _ (c .before .before .before .before .before .arity .ensures) (c .before .before .before .before .if2 .taken)
 
--- src/turn.rt:110:9
 same-length : tie.Need-same-length
 same-length c = search needs
 
--- src/turn.rt:110:9
 returns-2 : tie.Need-returns-2
 returns-2 c = T.descended _ _ _ (c .before .before .before .before .before .before .before .before .before .before .before .before .before .before .before .pre) (c .before .before .before .before .before .before .before .before .if1 .left) _ (c .before .before .before .before .before .before .arity .ensures) (c .before .before .before .before .before .if2 .taken) (c .before .before .before .before .before .before .before .before .before .before .before .before .before .before .before .args .progress) refl _ _ (c .descend .ensures)
 
--- src/turn.rt:112:9
 gather-requires : tie.Need-gather-requires
 gather-requires c κs = T.may-gather _ _ _ (c .before .before .before .before .before .before .before .before .before .before .before .pre) (c .before .before .before .before .if1 .left) _ (c .before .before .arity .ensures) (c .before .if2 .left)
 
--- src/turn.rt:113:9
 finish-requires : tie.Need-finish-requires
 finish-requires c κs = T.rebuildable _ _ _ (c .before .before .before .before .before .before .before .before .before .before .before .before .before .before .pre) (c .before .before .before .before .before .before .before .if1 .left) _ (c .before .before .before .before .before .arity .ensures) (c .before .before .before .before .if2 .left) _ (c .before .before .gather .ensures)
 
--- src/turn.rt:117:20
 enum-known-answer : tie.Need-enum-known-answer
 enum-known-answer c = search needs
 
--- src/turn.rt:118:13
 mul-values-2 : tie.Need-mul-values-2
 mul-values-2 c = let b = T.bounds _ _ _ (c .before .before .before .before .before .before .before .before .before .before .before .before .before .before .before .before .before .before .before .before .before .before .before .pre) in search needs
 
--- src/turn.rt:118:13
 element-write-values-2 : tie.Need-element-write-values-2
 element-write-values-2 c = let b = T.bounds _ _ _ (c .before .before .before .before .before .before .before .before .before .before .before .before .before .before .before .before .before .before .before .before .before .before .before .pre) in search needs
 
--- src/turn.rt:119:24
 add-going-2 : tie.Need-add-going-2
 add-going-2 c = let b = T.bounds _ _ _ (c .before .before .before .before .before .before .before .before .before .before .before .before .before .before .before .before .before .before .before .before .before .before .before .pre) in omega arith
 
--- src/turn.rt:119:13
 going-requires-2 : tie.Need-going-requires-2
 going-requires-2 c κs = search needs
 
--- src/turn.rt:121:25
 enum-known-answer-2 : tie.Need-enum-known-answer-2
 enum-known-answer-2 c = search needs
 
--- src/turn.rt:86:1
 same-length-2 : tie.Need-same-length-2
 same-length-2 c = search needs
 
--- src/turn.rt:86:1
 same-length-3 : tie.Need-same-length-3
 same-length-3 c = search needs
 
--- src/turn.rt:86:1
 returns-3 : tie.Need-returns-3
 returns-3 c = T.ends _ _ _ (c .before .before .before .before .before .before .before .before .before .before .before .before .before .before .before .before .before .before .before .before .before .before .before .before .pre) (c .before .before .before .before .before .before .before .before .before .before .before .before .before .before .before .before .before .if1 .left) _ (c .before .before .before .before .before .before .before .before .before .before .before .before .before .before .before .arity .ensures) (c .before .before .before .before .before .before .before .before .before .before .before .before .before .before .if2 .left) _ (c .before .before .before .before .before .before .before .before .before .before .before .before .gather .ensures) _ _ (c .before .before .before .before .before .before .before .before .before .finish .ensures) _ (c .before .before .answer .given .1) _ (c .going2 .ensures)
 
--- src/turn.rt:86:1
 same-length-4 : tie.Need-same-length-4
 same-length-4 c = search needs
 
--- src/turn.rt:86:1
 same-length-5 : tie.Need-same-length-5
 same-length-5 c = search needs
 
--- src/turn.rt:86:1
 returns-4 : tie.Need-returns-4
 returns-4 c = T.stops _ _ _ (c .before .before .before .before .before .before .before .before .before .before .before .before .before .before .before .before .before .before .before .before .before .before .before .pre) (c .before .before .before .before .before .before .before .before .before .before .before .before .before .before .before .before .if1 .left) _ (c .before .before .before .before .before .before .before .before .before .before .before .before .before .before .arity .ensures) (c .before .before .before .before .before .before .before .before .before .before .before .before .before .if2 .left) _ (c .before .before .before .before .before .before .before .before .before .before .before .gather .ensures) _ _ (c .before .before .before .before .before .before .before .before .finish .ensures) _ (c .before .answer2 .given .1)
 

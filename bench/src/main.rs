@@ -1,0 +1,200 @@
+//! Times the port beside the Rust original on the same inputs, in one process, and checks that both give the same answers.
+//! Arguments, if any, choose measurements by their first words.
+
+mod inputs;
+mod ours;
+mod store;
+mod theirs;
+mod timing;
+
+use inputs::{Chain, Changing, Formula, Settled, THRESHOLD, requests, variables};
+use ours::Ours;
+use store::Store;
+use theirs::{unchanged, with_counters, without_clock};
+use timing::{ROUNDS, interleaved, median, timed};
+
+/// Requests for new nodes, so that the store grows from 1,000 to nearly 65,536 nodes.
+const SIZES: [u32; 5] = [1_000, 4_096, 16_384, 30_000, 65_000];
+const TERMS: u32 = 4_096;
+
+fn row(what: &str, unit: &str, ours: f64, theirs: f64, clockless: Option<f64>) {
+    let last = clockless.map_or(String::new(), |time| format!("{time:.1} ({:.2})", time / ours));
+    println!("| {what} | {unit} | {ours:.1} | {theirs:.1} ({:.2}) | {last} |", theirs / ours);
+}
+
+/// Interning, half of the requests for nodes that are there already.
+fn interning(store: &mut Ours, distinct: u32) {
+    let requests = requests(distinct, u64::from(distinct));
+    let prepared: Vec<_> = requests.iter().map(unchanged::prepare).collect();
+    let many = requests.len() as f64;
+    let mut ids = (Vec::with_capacity(requests.len()), Vec::with_capacity(requests.len()));
+    let mut nodes = (0, 0);
+    let times = interleaved(&mut [
+        &mut || {
+            store.clear();
+            variables(store);
+            ids.0.clear();
+            let time = timed(|| ids.0.extend(requests.iter().map(|request| store.request(request)))).0;
+            nodes.0 = store.nodes().len();
+            time / many
+        },
+        &mut || {
+            let mut theirs = unchanged::Theirs::new();
+            variables(&mut theirs);
+            ids.1.clear();
+            let time = timed(|| ids.1.extend(prepared.iter().map(|request| theirs.request(request)))).0;
+            nodes.1 = theirs.nodes().len();
+            time / many
+        },
+    ]);
+    assert!(ids.0 == ids.1 && nodes.0 == nodes.1);
+    row(&format!("interning: {} requests, {} nodes", requests.len(), nodes.0), "ns a request", times[0], times[1], None);
+}
+
+/// A walk of a formula. Answer, turns and nodes are compared with the counted copy before any time is taken.
+fn walking(store: &mut Ours, what: &str, formula: &impl Formula) {
+    let root = fresh(store, formula);
+    let before = store.nodes().len();
+    let (answer, steps) = store.simplify(root);
+    let nodes = store.nodes();
+    let mut counted = with_counters::Theirs::new();
+    formula.build(&mut counted);
+    counted::counts::take();
+    assert_eq!(answer, counted.simplify(&mut with_counters::Theirs::engine(), root));
+    assert_eq!(steps, counted::counts::take().turns);
+    assert_eq!(nodes, counted.nodes());
+
+    let turns = steps as f64;
+    let times = interleaved(&mut [
+        &mut || {
+            assert_eq!(root, fresh(store, formula));
+            let (time, (id, _)) = timed(|| store.simplify(root));
+            assert_eq!(id, answer);
+            time / turns
+        },
+        &mut || {
+            let (mut theirs, mut engine) = (unchanged::Theirs::new(), unchanged::Theirs::engine());
+            assert_eq!(root, formula.build(&mut theirs));
+            let (time, id) = timed(|| theirs.simplify(&mut engine, root));
+            assert_eq!(id, answer);
+            time / turns
+        },
+        &mut || {
+            let (mut theirs, mut engine) = (without_clock::Theirs::new(), without_clock::Theirs::engine());
+            assert_eq!(root, formula.build(&mut theirs));
+            let (time, id) = timed(|| theirs.simplify(&mut engine, root));
+            assert_eq!(id, answer);
+            time / turns
+        },
+    ]);
+    let what = format!("{what}: {before} nodes, {} new, {steps} turns", nodes.len() - before);
+    row(&what, "ns a turn", times[0], times[1], Some(times[2]));
+}
+
+/// A formula in a fresh store.
+fn fresh(store: &mut Ours, formula: &impl Formula) -> u32 {
+    store.clear();
+    formula.build(store)
+}
+
+/// A prune of a chain; or, after as many untimed ones as `earlier` says, a prune whose nodes are there.
+fn pruning(store: &mut Ours, chain: &Chain, threshold: f64, earlier: usize) {
+    let root = fresh(store, chain);
+    let before = store.nodes().len();
+    let (answer, kept, dropped) = store.prune(root, threshold);
+    let nodes = store.nodes();
+    let mut theirs = unchanged::Theirs::new();
+    chain.build(&mut theirs);
+    assert_eq!(answer, theirs.prune(root, threshold));
+    assert_eq!(nodes, theirs.nodes());
+
+    let many = f64::from(chain.terms);
+    let times = interleaved(&mut [
+        &mut || {
+            assert_eq!(root, fresh(store, chain));
+            (0..earlier).for_each(|_| assert_eq!(store.prune(root, threshold).0, answer));
+            let (time, (id, _, _)) = timed(|| store.prune(root, threshold));
+            assert_eq!(id, answer);
+            time / many
+        },
+        &mut || {
+            let mut theirs = unchanged::Theirs::new();
+            assert_eq!(root, chain.build(&mut theirs));
+            (0..earlier).for_each(|_| assert_eq!(theirs.prune(root, threshold), answer));
+            let (time, id) = timed(|| theirs.prune(root, threshold));
+            assert_eq!(id, answer);
+            time / many
+        },
+    ]);
+    let again = if earlier == 0 { "" } else { " again" };
+    let what = format!("pruning{again}: {} terms, {kept} kept, {dropped} dropped, among {before} nodes", chain.terms);
+    row(&what, "ns a term", times[0], times[1], None);
+}
+
+/// The hash alone, which 01 prescribes by bytes: each waiting for the one before, as in a build, and side by side.
+fn hashing(what: &str, kind: u64, payload: u64, children: &[u64]) {
+    const MANY: usize = 20_000;
+    let none = std::hint::black_box(0);
+    let times = interleaved(&mut [
+        &mut || timed(|| (0..MANY).fold(0, |last, _| ours::node_hash(kind, payload ^ (last & none), children))).0 / MANY as f64,
+        &mut || timed(|| (0..MANY).fold(0, |sum, _| sum ^ ours::node_hash(kind, payload, children))).0 / MANY as f64,
+    ]);
+    println!("| {what} | {:.1} | {:.1} |", times[0], times[1]);
+}
+
+/// The audit, and a public call with its audit.
+fn auditing(store: &mut Ours, distinct: u32) {
+    store.clear();
+    let ids = variables(store);
+    for request in requests(distinct, u64::from(distinct)) {
+        store.request(&request);
+    }
+    let nodes = store.nodes().len();
+    let mut audits: Vec<f64> = (0..ROUNDS).map(|_| timed(|| assert!(store.audit())).0).collect();
+    let mut calls: Vec<f64> = (0..ROUNDS).map(|_| timed(|| store.audited_operator(0, 3, &ids[..2])).0).collect();
+    println!("| {nodes} | {:.1} | {:.1} |", median(&mut audits) / nodes as f64, median(&mut calls) / 1_000.0);
+}
+
+fn main() {
+    let words: Vec<String> = std::env::args().skip(1).collect();
+    let chosen = |what: &str| words.is_empty() || words.iter().any(|word| what.starts_with(word.as_str()));
+    let mut store = Ours::new();
+    println!("| what | unit | ours | the Rust (ratio) | without its clock read (ratio) |\n|---|---|---|---|---|");
+    if chosen("interning") {
+        for distinct in SIZES {
+            interning(&mut store, distinct);
+        }
+    }
+    if chosen("folding") {
+        for items in [64, 256, 1_024, 4_096] {
+            walking(&mut store, "walk that folds and merges", &Changing { items });
+        }
+    }
+    if chosen("settled") {
+        for items in [256, 1_024, 4_096] {
+            walking(&mut store, "walk that changes nothing", &Settled { items });
+        }
+    }
+    if chosen("pruning") {
+        for others in [0, 16_000, 50_000] {
+            for earlier in [0, 1] {
+                pruning(&mut store, &Chain { terms: TERMS, others }, THRESHOLD, earlier);
+            }
+        }
+        for earlier in [0, 1] {
+            pruning(&mut store, &Chain { terms: TERMS, others: 0 }, 0.0, earlier);
+        }
+    }
+    if chosen("hashing") {
+        println!("\n| hash of | each after the last, ns | side by side, ns |\n|---|---|---|");
+        hashing("a constant (9 bytes)", 1, 0x3FF8_0000_0000_0000, &[]);
+        hashing("an Add of two (17 bytes)", 2, 0, &[30_000, 40_000]);
+        hashing("a control of four (25 bytes)", 32, 2, &[30_000, 40_000, 50_000, 60_000]);
+    }
+    if chosen("auditing") {
+        println!("\n| nodes | audit, ns a node | a public call with its audit, µs |\n|---|---|---|");
+        for distinct in SIZES {
+            auditing(&mut store, distinct);
+        }
+    }
+}

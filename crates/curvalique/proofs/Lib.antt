@@ -1,0 +1,5 @@
+pub mod Refusals
+pub mod Answering
+pub mod Opened
+pub mod NameAnswering
+pub mod ReadWords

@@ -1,0 +1,124 @@
+-- From a name call's record to what it says in numbers.
+use Prim.Native.Nat.{ℕ, zero, suc, min}
+use mathlib.Core.Path.{_≡_, refl, sym, ap, _∙_, subst}
+use mathlib.Core.Bool.{Bool, true, false, cond, false≢true}
+use mathlib.Core.List.{List, []}
+use mathlib.Core.Option.{Option, none, some}
+use native.Mathlib.Omega.{arith}
+use lib.ListN.{length, getD}
+use lib.Dec.{ltb}
+use Rattle.definitions.specs.Names.{NameCall, internName, lookupName, nameOf, NameAnswer, numbered, unknown, named, refused, NameResult, answers, nameCall, numberFrom, lengthAllowed, internAt, lookupAt, mostNames}
+use Rattle.definitions.specs.Refusals.{badNameLength, noNamePlace}
+use Rattle.names.specs.declared.Answer.{Answer}
+use Rattle.names.specs.declared.Answer.the-variants.{Numbered, Unknown, Named, Refused}
+use Rattle.names.specs.declared.NameBytes.{NameBytes}
+use Rattle.names.specs.Calls.{answerOf, Called, NameCalled, plainly, bytesBeside}
+use Rattle.names.specs.Sound.{Sound, lentEntries, namesOf}
+use Rattle.curvalique.specs.Calls.{Stays}
+use Rattle.curvalique.specs.NameCalls.{nameUnlessRefused, nameIfKnown, Padded}
+
+-- what each call may answer; no refusal has the number 0
+abbrev pub internAnswer : NameAnswer → Bool
+internAnswer (numbered n) = true
+internAnswer unknown = false
+internAnswer (named name) = false
+internAnswer (refused zero) = false
+internAnswer (refused (suc number)) = true
+
+abbrev pub lookupAnswer : NameAnswer → Bool
+lookupAnswer (numbered n) = true
+lookupAnswer unknown = true
+lookupAnswer (named name) = false
+lookupAnswer (refused zero) = false
+lookupAnswer (refused (suc number)) = true
+
+abbrev pub nameAnswer : NameAnswer → Bool
+nameAnswer (numbered n) = false
+nameAnswer unknown = true
+nameAnswer (named name) = true
+nameAnswer (refused zero) = false
+nameAnswer (refused (suc number)) = true
+
+-- ---- the plain registry's answers
+
+plain-intern : (lent : ℕ) (names : List (List ℕ)) (name : List ℕ) → internAnswer (nameCall lent names (internName name) .answer) ≡ true
+unfolding nameCall
+plain-intern lent names name = by (lengthAllowed name) (numberFrom names 0 name)
+  where
+    new : (b : Bool) (r : NameResult) → internAnswer (r .answer) ≡ true → internAnswer (cond b r (answers (refused noNamePlace) names) .answer) ≡ true
+    new true r h = h
+    new false r h = refl
+
+    by : (b : Bool) (o : Option ℕ) → internAnswer (cond b (internAt lent names name o) (answers (refused badNameLength) names) .answer) ≡ true
+    by true (some n) = refl
+    by true none = new (ltb (length names) (min lent mostNames)) _ refl
+    by false o = refl
+
+plain-lookup : (lent : ℕ) (names : List (List ℕ)) (name : List ℕ) → lookupAnswer (nameCall lent names (lookupName name) .answer) ≡ true
+unfolding nameCall
+plain-lookup lent names name = by (lengthAllowed name) (numberFrom names 0 name)
+  where
+    by : (b : Bool) (o : Option ℕ) → lookupAnswer (cond b (answers (lookupAt o) names) (answers (refused badNameLength) names) .answer) ≡ true
+    by true (some n) = refl
+    by true none = refl
+    by false o = refl
+
+plain-name : (lent : ℕ) (names : List (List ℕ)) (n : ℕ) → nameAnswer (nameCall lent names (nameOf n) .answer) ≡ true
+unfolding nameCall
+plain-name lent names n = by (ltb n (length names))
+  where
+    by : (b : Bool) → nameAnswer (cond b (answers (named (getD names n [])) names) (answers unknown names) .answer) ≡ true
+    by true = refl
+    by false = refl
+
+-- ---- a call's answer on any list: where it is not sound, the answer is the refusal 20
+
+module _ (bytes : List ℕ) (count : ℕ) where
+  fits : (may : NameAnswer → Bool) (call : NameCall) (answer : NameAnswer) (bytes′ : List ℕ) (count′ : ℕ)
+      → may (refused 20) ≡ true → may (plainly bytes count call .answer) ≡ true → Called bytes count call answer bytes′ count′ → may answer ≡ false → ⊥
+  fits may call answer bytes′ count′ u p h f =
+      let not-sound : Sound bytes count → ⊥ = λ s. false≢true (sym f ∙ ap may (h .answered s) ∙ p) in
+      false≢true (sym f ∙ ap may (h .unsound not-sound) ∙ u)
+
+  pub intern-fits : (name : List ℕ) (answer : NameAnswer) (bytes′ : List ℕ) (count′ : ℕ) → Called bytes count (internName name) answer bytes′ count′ → internAnswer answer ≡ false → ⊥
+  intern-fits name answer bytes′ count′ = fits internAnswer (internName name) answer bytes′ count′ refl (plain-intern (lentEntries bytes) (namesOf bytes count) name)
+
+  pub lookup-fits : (name : List ℕ) (answer : NameAnswer) (bytes′ : List ℕ) (count′ : ℕ) → Called bytes count (lookupName name) answer bytes′ count′ → lookupAnswer answer ≡ false → ⊥
+  lookup-fits name answer bytes′ count′ = fits lookupAnswer (lookupName name) answer bytes′ count′ refl (plain-lookup (lentEntries bytes) (namesOf bytes count) name)
+
+  pub name-fits : (n : ℕ) (answer : NameAnswer) (bytes′ : List ℕ) (count′ : ℕ) → Called bytes count (nameOf n) answer bytes′ count′ → nameAnswer answer ≡ false → ⊥
+  name-fits n answer bytes′ count′ = fits nameAnswer (nameOf n) answer bytes′ count′ refl (plain-name (lentEntries bytes) (namesOf bytes count) n)
+
+  -- ---- a call in numbers
+
+  pub name-answered : (call : NameCall) (answer left : NameAnswer) (bytes′ : List ℕ) (count′ : ℕ) (before after : List ℕ)
+      → Called bytes count call answer bytes′ count′ → answer ≡ left → Called bytes count call (nameUnlessRefused 0 left) bytes′ count′ × Stays 0 before after
+  name-answered call answer left bytes′ count′ before after h e = (subst (λ (a : NameAnswer). Called bytes count call a bytes′ count′) e h, λ p. absurd (omega arith))
+
+  pub name-refused : (call : NameCall) (answer left : NameAnswer) (bytes′ : List ℕ) (count′ number : ℕ) (out : List ℕ)
+      → Called bytes count call answer bytes′ count′ → answer ≡ refused number → (number ≡ 0 → ⊥) → Called bytes count call (nameUnlessRefused number left) bytes′ count′ × Stays number out out
+  name-refused call answer left bytes′ count′ zero out h e n = absurd (n refl)
+  name-refused call answer left bytes′ count′ (suc number) out h e n = (subst (λ (a : NameAnswer). Called bytes count call a bytes′ count′) e h, λ _. refl)
+
+  -- ---- a name, with its bytes
+
+  module _ (n : ℕ) (found : NameBytes) (h : NameCalled bytes count n found) where
+    given : (answer : Answer) → found .answer ≡ answer → Called bytes count (nameOf n) (answerOf answer (found .bytes)) bytes count
+    given answer e = subst (λ (a : Answer). Called bytes count (nameOf n) (answerOf a (found .bytes)) bytes count) e (h .called)
+
+    pub never-numbered : (number : ℕ) → found .answer ≡ Numbered number → ⊥
+    never-numbered number e = name-fits n (numbered number) bytes count (given (Numbered number) e) refl
+
+    pub name-unknown : (size : ℕ) (out : List ℕ) (before after : List ℕ) → found .answer ≡ Unknown
+        → Called bytes count (nameOf n) (nameUnlessRefused 0 (nameIfKnown 0 size out)) bytes count × (Padded 0 0 size out × Stays 0 before after)
+    name-unknown size out before after e = (given Unknown e, (λ _ p. absurd (omega arith), λ p. absurd (omega arith)))
+
+    pub name-known : (size : ℕ) (before after : List ℕ) → found .answer ≡ Named size
+        → Called bytes count (nameOf n) (nameUnlessRefused 0 (nameIfKnown 1 size (found .bytes))) bytes count × (Padded 0 1 size (found .bytes) × Stays 0 before after)
+    name-known size before after e =
+        (given (Named size) e, (λ _ _. h .beside ∙ ap (λ (a : Answer). bytesBeside (answerOf a (found .bytes))) e, λ p. absurd (omega arith)))
+
+    pub name-not-given : (number known size : ℕ) (out kept : List ℕ) → found .answer ≡ Refused number
+        → Called bytes count (nameOf n) (nameUnlessRefused number (nameIfKnown known size out)) bytes count × (Padded number known size out × Stays number kept kept)
+    name-not-given zero known size out kept e = absurd (name-fits n (refused 0) bytes count (given (Refused 0) e) refl)
+    name-not-given (suc number) known size out kept e = (given (Refused (suc number)) e, (λ z _. absurd (omega arith), λ _. refl))

@@ -1,0 +1,49 @@
+-- A node's words.
+use Prim.Native.Nat.{ℕ, suc, _≤_, _<_}
+use mathlib.Core.Path.{_≡_, refl, sym, ap, _∙_}
+use mathlib.Core.List.{List, [], _∷_}
+use native.Mathlib.Omega.{arith}
+use lib.ListN.{length, getD}
+use Rattle.arena.specs.declared.DagArena.{DagArena}
+use Rattle.arena.specs.declared.node.DagNode.{DagNode}
+use Rattle.builder.specs.declared.reading.NodeRead.{NodeRead}
+use Rattle.builder.specs.declared.reading.Found.{Found}
+use Rattle.builder.specs.declared.reading.Found.the-variants.{Node, Refused}
+use Rattle.builder.specs.Reads.{Reads}
+use Rattle.store.specs.Sound.{Sound}
+use Rattle.curvalique.specs.Reading.{wordsOf, ReadsWords}
+
+-- four places, each by itself
+pub four-places : (places : List ℕ) → length places ≡ 4 → getD places 0 0 ∷ getD places 1 0 ∷ getD places 2 0 ∷ getD places 3 0 ∷ [] ≡ places
+four-places [] e = absurd (omega arith)
+four-places (a ∷ []) e = absurd (omega arith)
+four-places (a ∷ b ∷ []) e = absurd (omega arith)
+four-places (a ∷ b ∷ c ∷ []) e = absurd (omega arith)
+four-places (a ∷ b ∷ c ∷ d ∷ []) e = refl
+four-places (a ∷ b ∷ c ∷ d ∷ f ∷ r) e = absurd (omega arith)
+
+not-node : (number : ℕ) → Refused number ≡ Node → ⊥
+not-node number e = let z : _≡_ {A = ℕ} 0 1 = cc in omega arith
+
+same-number : (a b : ℕ) → Refused a ≡ Refused b → a ≡ b
+same-number a b e = cc
+
+module _ (words slots : List ℕ) (arena : DagArena) (id : ℕ) (read : NodeRead) (h : Reads words slots arena id read) where
+  abbrev answerOf : NodeRead → Found
+  answerOf r = r .answer
+
+  pub words-answered : (before after : List ℕ) → read .answer ≡ Node → after ≡ wordsOf (read .node) → ReadsWords words slots arena id 0 before after
+  words-answered before after e w = record {
+    unsound = λ n. absurd (not-node _ (sym (ap answerOf (h .unsound n)) ∙ e));
+    unknown = λ s g. absurd (not-node _ (sym (ap answerOf (h .unknown s g)) ∙ e));
+    found = λ s g. (refl, w ∙ ap (λ (r : NodeRead). wordsOf (r .node)) (h .found s g));
+    plain = h .plain;
+  }
+
+  pub words-refused : (number : ℕ) (out : List ℕ) → read .answer ≡ Refused number → ReadsWords words slots arena id number out out
+  words-refused number out e = record {
+    unsound = λ n. (same-number _ _ (sym e ∙ ap answerOf (h .unsound n)), refl);
+    unknown = λ s g. (same-number _ _ (sym e ∙ ap answerOf (h .unknown s g)), refl);
+    found = λ s g. absurd (not-node _ (sym e ∙ ap answerOf (h .found s g)));
+    plain = h .plain;
+  }

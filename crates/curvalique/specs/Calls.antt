@@ -1,0 +1,47 @@
+-- A call in numbers: 0 is returned where it is answered, and the answer stands behind pointers; else the refusal's number is returned.
+use Prim.Native.Nat.{ℕ, zero, suc, _<_}
+use mathlib.Core.Path.{_≡_}
+use mathlib.Core.Bool.{Bool, true, false}
+use mathlib.Core.List.{List}
+use Rattle.arena.specs.declared.DagArena.{DagArena}
+use Rattle.definitions.specs.Machine as M
+use Rattle.store.specs.Memory.{Memory, memory}
+
+-- lent words and slots, with the count of nodes and the size of the table that stand behind pointers
+abbrev pub arenaOf : ℕ → ℕ → DagArena
+arenaOf count size = record { count = count; size = size }
+
+abbrev pub lentMemory : List ℕ → List ℕ → ℕ → ℕ → Memory
+lentMemory words slots count size = memory words slots (arenaOf count size)
+
+-- the answer that stands behind the pointers where 0 is returned
+abbrev pub unlessRefused : ℕ → M.Answer → M.Answer
+unlessRefused zero answer = answer
+unlessRefused (suc number) answer = M.refused (suc number)
+
+-- whether a walk was spent: 1, or 0
+abbrev pub isSpent : ℕ → Bool
+isSpent zero = false
+isSpent (suc n) = true
+
+-- a refusal leaves the numbers behind the answer's pointers as they were
+abbrev pub Stays : ℕ → List ℕ → List ℕ → Type 0
+Stays r before after = 0 < r → after ≡ before
+
+-- ---- what is left behind pointers of a call's answer
+abbrev pub numberOf : M.Answer → ℕ
+numberOf (M.stored id) = 0
+numberOf (M.simplified id spent steps) = 0
+numberOf (M.pruned id kept dropped) = 0
+numberOf (M.refused number) = number
+
+abbrev pub isRefused : M.Answer → Bool
+isRefused (M.stored id) = false
+isRefused (M.simplified id spent steps) = false
+isRefused (M.pruned id kept dropped) = false
+isRefused (M.refused number) = true
+
+pub record Left (answer : M.Answer) (r : ℕ) (left : M.Answer) (before after : List ℕ) : Type 0 where
+  pub number : r ≡ numberOf answer
+  pub answered : isRefused answer ≡ false → left ≡ answer
+  pub refused : isRefused answer ≡ true → after ≡ before

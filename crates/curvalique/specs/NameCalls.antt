@@ -1,0 +1,25 @@
+-- A name call in numbers, as a store call is.
+use Prim.Native.Nat.{ℕ, zero, suc, _<_}
+use mathlib.Core.Path.{_≡_}
+use mathlib.Core.List.{List}
+use lib.ListN.{take}
+use Rattle.definitions.specs.Names.{NameAnswer, numbered, unknown, named, refused}
+use Rattle.names.specs.Calls.{bytesBeside}
+
+abbrev pub nameUnlessRefused : ℕ → NameAnswer → NameAnswer
+nameUnlessRefused zero answer = answer
+nameUnlessRefused (suc number) answer = refused (suc number)
+
+-- the number of a name that is known: `known` is 1, else 0
+abbrev pub numberIfKnown : ℕ → ℕ → NameAnswer
+numberIfKnown zero number = unknown
+numberIfKnown (suc known) number = numbered number
+
+-- the name of a number that is known
+abbrev pub nameIfKnown : ℕ → ℕ → List ℕ → NameAnswer
+nameIfKnown zero size bytes = unknown
+nameIfKnown (suc known) size bytes = named (take size bytes)
+
+-- the bytes after a name are 0
+abbrev pub Padded : ℕ → ℕ → ℕ → List ℕ → Type 0
+Padded r known size bytes = r ≡ 0 → 0 < known → bytes ≡ bytesBeside (named (take size bytes))

@@ -1,0 +1,121 @@
+// Functions and controls.
+ghost use mathlib.Core.List.{[], _∷_};
+ghost use Rattle.definitions.specs.Machine as M;
+ghost use Rattle.store.specs.Memory.{Leaves};
+ghost use Rattle.curvalique.specs.Calls.{lentMemory, unlessRefused, Stays};
+use crate::leaving::leave_built;
+use arena::DagArena;
+
+// A function, by its number, over its operands.
+#[no_mangle]
+pub extern "C" fn curvalique_function(
+    nodes: &mut [u64],
+    slots: &mut [u32],
+    count: &mut u64,
+    size: &mut usize,
+    number: u32,
+    operands: &[u32],
+    id: &mut u64,
+) -> u64
+    ensures { λ r. ⌜ Leaves (M.store (M.function number (now (operands .entry)))) (lentMemory (now (nodes .entry)) (now (slots .entry)) (now (count .entry)) (now (size .entry))) (unlessRefused r (M.stored (now (id .exit)))) (lentMemory (now (nodes .exit)) (now (slots .exit)) (now (count .exit)) (now (size .exit))) ⌝ }
+    ensures { λ r. ⌜ Stays r (now (id .entry) ∷ []) (now (id .exit) ∷ []) ⌝ }
+{
+    let arena = DagArena {
+        count: *count,
+        size: *size,
+    };
+    let built = builder::function(nodes, slots, arena, number, operands);
+    leave_built(built, count, size, id)
+}
+
+// Select, over three operands.
+#[no_mangle]
+pub extern "C" fn curvalique_select(
+    nodes: &mut [u64],
+    slots: &mut [u32],
+    count: &mut u64,
+    size: &mut usize,
+    a: u32,
+    b: u32,
+    c: u32,
+    id: &mut u64,
+) -> u64
+    ensures { λ r. ⌜ Leaves (M.store (M.select a b c)) (lentMemory (now (nodes .entry)) (now (slots .entry)) (now (count .entry)) (now (size .entry))) (unlessRefused r (M.stored (now (id .exit)))) (lentMemory (now (nodes .exit)) (now (slots .exit)) (now (count .exit)) (now (size .exit))) ⌝ }
+    ensures { λ r. ⌜ Stays r (now (id .entry) ∷ []) (now (id .exit) ∷ []) ⌝ }
+{
+    let arena = DagArena {
+        count: *count,
+        size: *size,
+    };
+    let built = builder::select(nodes, slots, arena, a, b, c);
+    leave_built(built, count, size, id)
+}
+
+// IfElse, over three operands.
+#[no_mangle]
+pub extern "C" fn curvalique_if_else(
+    nodes: &mut [u64],
+    slots: &mut [u32],
+    count: &mut u64,
+    size: &mut usize,
+    a: u32,
+    b: u32,
+    c: u32,
+    id: &mut u64,
+) -> u64
+    ensures { λ r. ⌜ Leaves (M.store (M.ifElse a b c)) (lentMemory (now (nodes .entry)) (now (slots .entry)) (now (count .entry)) (now (size .entry))) (unlessRefused r (M.stored (now (id .exit)))) (lentMemory (now (nodes .exit)) (now (slots .exit)) (now (count .exit)) (now (size .exit))) ⌝ }
+    ensures { λ r. ⌜ Stays r (now (id .entry) ∷ []) (now (id .exit) ∷ []) ⌝ }
+{
+    let arena = DagArena {
+        count: *count,
+        size: *size,
+    };
+    let built = builder::if_else(nodes, slots, arena, a, b, c);
+    leave_built(built, count, size, id)
+}
+
+// ForLoop, over four operands.
+#[no_mangle]
+pub extern "C" fn curvalique_for_loop(
+    nodes: &mut [u64],
+    slots: &mut [u32],
+    count: &mut u64,
+    size: &mut usize,
+    a: u32,
+    b: u32,
+    c: u32,
+    d: u32,
+    id: &mut u64,
+) -> u64
+    ensures { λ r. ⌜ Leaves (M.store (M.forLoop a b c d)) (lentMemory (now (nodes .entry)) (now (slots .entry)) (now (count .entry)) (now (size .entry))) (unlessRefused r (M.stored (now (id .exit)))) (lentMemory (now (nodes .exit)) (now (slots .exit)) (now (count .exit)) (now (size .exit))) ⌝ }
+    ensures { λ r. ⌜ Stays r (now (id .entry) ∷ []) (now (id .exit) ∷ []) ⌝ }
+{
+    let arena = DagArena {
+        count: *count,
+        size: *size,
+    };
+    let built = builder::for_loop(nodes, slots, arena, a, b, c, d);
+    leave_built(built, count, size, id)
+}
+
+// Any control, by its code, over any operands.
+#[no_mangle]
+pub extern "C" fn curvalique_control(
+    nodes: &mut [u64],
+    slots: &mut [u32],
+    count: &mut u64,
+    size: &mut usize,
+    code: u32,
+    operands: &[u32],
+    id: &mut u64,
+) -> u64
+    ensures { λ r. ⌜ Leaves (M.store (M.control code (now (operands .entry)))) (lentMemory (now (nodes .entry)) (now (slots .entry)) (now (count .entry)) (now (size .entry))) (unlessRefused r (M.stored (now (id .exit)))) (lentMemory (now (nodes .exit)) (now (slots .exit)) (now (count .exit)) (now (size .exit))) ⌝ }
+    ensures { λ r. ⌜ Stays r (now (id .entry) ∷ []) (now (id .exit) ∷ []) ⌝ }
+{
+    let arena = DagArena {
+        count: *count,
+        size: *size,
+    };
+    let built = builder::control(nodes, slots, arena, code, operands);
+    leave_built(built, count, size, id)
+}

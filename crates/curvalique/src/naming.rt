@@ -1,0 +1,97 @@
+// The name calls.
+ghost use mathlib.Core.List.{[], _∷_};
+ghost use Rattle.definitions.specs.Names.{internName, lookupName, nameOf, numbered};
+ghost use Rattle.names.specs.Calls.{Called};
+ghost use Rattle.curvalique.specs.Calls.{Stays};
+ghost use Rattle.curvalique.specs.NameCalls.{nameUnlessRefused, numberIfKnown, nameIfKnown, Padded};
+use crate::leaving::ANSWERED;
+use names::Answer;
+
+// 01: "Names of 1 to 32 bytes".
+const LONGEST_NAME: usize = 32;
+
+// The number of a name, which becomes known if it is not.
+#[no_mangle]
+pub extern "C" fn curvalique_intern_name(
+    entries: &mut [u8],
+    count: &mut usize,
+    name: &[u8],
+    number: &mut u64,
+) -> u64
+    ensures { λ r. ⌜ Called (now (entries .entry)) (now (count .entry)) (internName (now (name .entry))) (nameUnlessRefused r (numbered (now (number .exit)))) (now (entries .exit)) (now (count .exit)) ⌝ }
+    ensures { λ r. ⌜ Stays r (now (number .entry) ∷ []) (now (number .exit) ∷ []) ⌝ }
+{
+    let interned = names::intern(entries, *count, name);
+    *count = interned.count;
+    let answer = interned.answer;
+    match answer {
+        Answer::Numbered(found) => {
+            *number = found as u64;
+            ANSWERED
+        }
+        Answer::Unknown => ANSWERED,
+        Answer::Named(_) => ANSWERED,
+        Answer::Refused(refusal) => refusal,
+    }
+}
+
+// The number of a name, if it is known.
+#[no_mangle]
+pub extern "C" fn curvalique_lookup_name(
+    entries: &[u8],
+    count: usize,
+    name: &[u8],
+    known: &mut u64,
+    number: &mut u64,
+) -> u64
+    ensures { λ r. ⌜ Called (now (entries .entry)) count (lookupName (now (name .entry))) (nameUnlessRefused r (numberIfKnown (now (known .exit)) (now (number .exit)))) (now (entries .entry)) count ⌝ }
+    ensures { λ r. ⌜ Stays r (now (known .entry) ∷ now (number .entry) ∷ []) (now (known .exit) ∷ now (number .exit) ∷ []) ⌝ }
+{
+    let answer = names::lookup(entries, count, name);
+    match answer {
+        Answer::Numbered(found) => {
+            *known = 1;
+            *number = found as u64;
+            ANSWERED
+        }
+        Answer::Unknown => {
+            *known = 0;
+            ANSWERED
+        }
+        Answer::Named(_) => ANSWERED,
+        Answer::Refused(refusal) => refusal,
+    }
+}
+
+// The name of a number, if there is one.
+#[no_mangle]
+pub extern "C" fn curvalique_name(
+    entries: &[u8],
+    count: usize,
+    number: u32,
+    known: &mut u64,
+    length: &mut usize,
+    bytes: &mut [u8; LONGEST_NAME],
+) -> u64
+    ensures { λ r. ⌜ Called (now (entries .entry)) count (nameOf number) (nameUnlessRefused r (nameIfKnown (now (known .exit)) (now (length .exit)) (now (bytes .exit)))) (now (entries .entry)) count ⌝ }
+    ensures { λ r. ⌜ Padded r (now (known .exit)) (now (length .exit)) (now (bytes .exit)) ⌝ }
+    ensures { λ r. ⌜ Stays r (now (known .entry) ∷ now (length .entry) ∷ now (bytes .entry)) (now (known .exit) ∷ now (length .exit) ∷ now (bytes .exit)) ⌝ }
+{
+    let found = names::name(entries, count, number);
+    let answer = found.answer;
+    match answer {
+        Answer::Numbered(_) => ANSWERED,
+        Answer::Unknown => {
+            *known = 0;
+            ANSWERED
+        }
+        Answer::Named(size) => {
+            *known = 1;
+            *length = size;
+            let held = found.bytes;
+            *bytes = held;
+            ANSWERED
+        }
+        Answer::Refused(refusal) => refusal,
+    }
+}

@@ -1,0 +1,29 @@
+// A fresh store.
+ghost use mathlib.Core.List.{[], _∷_};
+ghost use Rattle.builder.specs.Opens.{Opens};
+ghost use Rattle.curvalique.specs.Calls.{Stays};
+ghost use Rattle.curvalique.specs.Opening.{freshUnlessRefused};
+use crate::leaving::ANSWERED;
+use crate::leaving::leave_arena;
+use builder::FreshStore;
+
+// A store without nodes, with the first slots empty.
+#[no_mangle]
+pub extern "C" fn curvalique_fresh(
+    nodes: &[u64],
+    slots: &mut [u32],
+    count: &mut u64,
+    size: &mut usize,
+) -> u64
+    ensures { λ r. ⌜ Opens (now (nodes .entry)) (now (slots .entry)) (freshUnlessRefused r (now (count .exit)) (now (size .exit))) (now (slots .exit)) ⌝ }
+    ensures { λ r. ⌜ Stays r (now (count .entry) ∷ now (size .entry) ∷ []) (now (count .exit) ∷ now (size .exit) ∷ []) ⌝ }
+{
+    let opened = builder::fresh(nodes, slots);
+    match opened {
+        FreshStore::Store(arena) => {
+            leave_arena(arena, count, size);
+            ANSWERED
+        }
+        FreshStore::Refused(number) => number,
+    }
+}

@@ -1,0 +1,52 @@
+// A node read back.
+ghost use mathlib.Core.Path.{_≡_};
+ghost use Rattle.curvalique.specs.Calls.{arenaOf};
+ghost use Rattle.curvalique.specs.Reading.{wordsOf, ReadsWords};
+use crate::leaving::ANSWERED;
+use arena::DagArena;
+use arena::DagNode;
+use arena::NODE_WORDS;
+use builder::Found;
+
+// A node as its ten words.
+fn words_of(node: DagNode) -> [u64; NODE_WORDS]
+    ensures { λ r. ⌜ r ≡ wordsOf node ⌝ }
+{
+    let children = node.children;
+    [
+        node.kind,
+        node.payload,
+        node.hash,
+        node.coefficient,
+        node.flags,
+        node.arity,
+        children[0],
+        children[1],
+        children[2],
+        children[3],
+    ]
+}
+
+// The node of an id, as its ten words.
+#[no_mangle]
+pub extern "C" fn curvalique_node(
+    nodes: &[u64],
+    slots: &[u32],
+    count: u64,
+    size: usize,
+    id: u32,
+    words: &mut [u64; NODE_WORDS],
+) -> u64
+    ensures { λ r. ⌜ ReadsWords (now (nodes .entry)) (now (slots .entry)) (arenaOf count size) id r (now (words .entry)) (now (words .exit)) ⌝ }
+{
+    let read = builder::node(nodes, slots, DagArena { count, size }, id);
+    let answer = read.answer;
+    match answer {
+        Found::Node => {
+            let node = read.node;
+            *words = words_of(node);
+            ANSWERED
+        }
+        Found::Refused(number) => number,
+    }
+}

@@ -1,0 +1,81 @@
+// Simplify and the two prunes.
+ghost use mathlib.Core.List.{[], _∷_};
+ghost use Rattle.definitions.specs.Machine as M;
+ghost use Rattle.store.specs.Memory.{Leaves};
+ghost use Rattle.curvalique.specs.Calls.{lentMemory, unlessRefused, isSpent, Stays};
+use crate::leaving::leave_pruned;
+use crate::leaving::leave_simplified;
+use arena::DagArena;
+
+// A walk of a root, with a depth limit and a budget of steps.
+#[no_mangle]
+pub extern "C" fn curvalique_simplify(
+    nodes: &mut [u64],
+    slots: &mut [u32],
+    count: &mut u64,
+    size: &mut usize,
+    root: u32,
+    depth: u32,
+    budget: u64,
+    id: &mut u64,
+    spent: &mut u64,
+    steps: &mut u64,
+) -> u64
+    ensures { λ r. ⌜ Leaves (M.simplify root depth budget) (lentMemory (now (nodes .entry)) (now (slots .entry)) (now (count .entry)) (now (size .entry))) (unlessRefused r (M.simplified (now (id .exit)) (isSpent (now (spent .exit))) (now (steps .exit)))) (lentMemory (now (nodes .exit)) (now (slots .exit)) (now (count .exit)) (now (size .exit))) ⌝ }
+    ensures { λ r. ⌜ Stays r (now (id .entry) ∷ now (spent .entry) ∷ now (steps .entry) ∷ []) (now (id .exit) ∷ now (spent .exit) ∷ now (steps .exit) ∷ []) ⌝ }
+{
+    let arena = DagArena {
+        count: *count,
+        size: *size,
+    };
+    let outcome = walk::simplify(nodes, slots, arena, root, depth, budget);
+    leave_simplified(outcome, count, size, id, spent, steps)
+}
+
+// A prune of a root at a threshold, by its binary64 bits.
+#[no_mangle]
+pub extern "C" fn curvalique_prune(
+    nodes: &mut [u64],
+    slots: &mut [u32],
+    count: &mut u64,
+    size: &mut usize,
+    root: u32,
+    threshold: u64,
+    id: &mut u64,
+    kept: &mut u64,
+    dropped: &mut u64,
+) -> u64
+    ensures { λ r. ⌜ Leaves (M.prune root threshold) (lentMemory (now (nodes .entry)) (now (slots .entry)) (now (count .entry)) (now (size .entry))) (unlessRefused r (M.pruned (now (id .exit)) (now (kept .exit)) (now (dropped .exit)))) (lentMemory (now (nodes .exit)) (now (slots .exit)) (now (count .exit)) (now (size .exit))) ⌝ }
+    ensures { λ r. ⌜ Stays r (now (id .entry) ∷ now (kept .entry) ∷ now (dropped .entry) ∷ []) (now (id .exit) ∷ now (kept .exit) ∷ now (dropped .exit) ∷ []) ⌝ }
+{
+    let arena = DagArena {
+        count: *count,
+        size: *size,
+    };
+    let outcome = pruner::prune(nodes, slots, arena, root, threshold);
+    leave_pruned(outcome, count, size, id, kept, dropped)
+}
+
+// A prune of a root by a setting.
+#[no_mangle]
+pub extern "C" fn curvalique_prune_by_setting(
+    nodes: &mut [u64],
+    slots: &mut [u32],
+    count: &mut u64,
+    size: &mut usize,
+    root: u32,
+    setting: u32,
+    id: &mut u64,
+    kept: &mut u64,
+    dropped: &mut u64,
+) -> u64
+    ensures { λ r. ⌜ Leaves (M.pruneBySetting root setting) (lentMemory (now (nodes .entry)) (now (slots .entry)) (now (count .entry)) (now (size .entry))) (unlessRefused r (M.pruned (now (id .exit)) (now (kept .exit)) (now (dropped .exit)))) (lentMemory (now (nodes .exit)) (now (slots .exit)) (now (count .exit)) (now (size .exit))) ⌝ }
+    ensures { λ r. ⌜ Stays r (now (id .entry) ∷ now (kept .entry) ∷ now (dropped .entry) ∷ []) (now (id .exit) ∷ now (kept .exit) ∷ now (dropped .exit) ∷ []) ⌝ }
+{
+    let arena = DagArena {
+        count: *count,
+        size: *size,
+    };
+    let outcome = pruner::prune_by_setting(nodes, slots, arena, root, setting);
+    leave_pruned(outcome, count, size, id, kept, dropped)
+}

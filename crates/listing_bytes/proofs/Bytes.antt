@@ -1,0 +1,34 @@
+-- The listing program's store and room are enough for every sheet.
+use Prim.Native.Nat.{ℕ, _+_, _*_, _/_, _≤_}
+use mathlib.Core.Path.{_≡_, refl, ap, ap₂, _∙_}
+use mathlib.Core.Bool.{false}
+use mathlib.Core.List.{List}
+use lib.ListN.{length}
+use lib.Dec.{ltb}
+use native.Mathlib.Omega.{arith}
+use Rattle.arena.specs.Layout.{nodeWords}
+use Rattle.arena.specs.Nodes.{Nodes}
+use Rattle.definitions.specs.Intern.{Lent}
+use Rattle.definitions.specs.Machine.{empty, freshRefused}
+use Rattle.definitions.specs.Sheet.{sheet}
+use Rattle.definitions.specs.Listing.{listing}
+use Rattle.store.specs.View.{lent}
+use Rattle.listing_lines.specs.Line.{lineBytes}
+use Rattle.listing_lines.specs.Outcome.{allLines}
+use Rattle.listing_lines.specs.Filling.{Fills}
+use Rattle.sheet.specs.declared.Ran.{Ran}
+use Rattle.sheet.specs.Sheets.{RunsFresh}
+use Rattle.listing_bytes.specs.Listed.{listingLent, Listed}
+
+-- the longest line for each node that the words hold, and one more
+pub room : (words : List ℕ) (count long : ℕ) → Nodes words count → length words ≡ 5120 → long ≡ 98496 → (count + 1) * lineBytes ≤ long
+room words count long n w b = let f = n .formed .fits in omega arith
+
+pub listed : (s words slots : List ℕ) (r : Ran) (words′ slots′ bytes : List ℕ) (n : ℕ) → length words ≡ 5120 → length slots ≡ 1024 → RunsFresh s words slots r words′ slots′ → Fills (allLines (r .outcome) words′ (r .arena .count)) n bytes → Listed s (record { bytes = bytes; length = n })
+listed s words slots r words′ slots′ bytes n w l p f =
+    let opened : freshRefused (lent words slots) ≡ false = ap (λ (k : ℕ). ltb k 64) l in
+    let same : lent words slots ≡ listingLent = ap₂ (λ (a b : ℕ). record { nodes = a / nodeWords; slots = b }) w l in
+    record {
+      is = f .is ∙ p .listing opened ∙ ap (λ (x : Lent). listing (sheet x empty s)) same;
+      within = f .within;
+    }

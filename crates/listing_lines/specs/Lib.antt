@@ -1,0 +1,4 @@
+pub mod Line
+pub mod Outcome
+pub mod NodeLine
+pub mod Filling

@@ -1,0 +1,46 @@
+-- A line's text, and how it grows.
+use Prim.Native.Nat.{ℕ, _+_, _≤_}
+use mathlib.Core.Path.{_≡_}
+use mathlib.Core.List.{List, [], _++_}
+use lib.ListN.{length, take, drop}
+use Rattle.listing_lines.specs.declared.line.Line.{Line}
+use Rattle.listing_lines.specs.declared.digits.Digits.{Digits}
+
+-- the bytes of a line; no line of the listing fills them
+abbrev pub lineBytes : ℕ
+lineBytes = 192
+
+-- the most digits that a number takes, and with the space before it
+abbrev pub mostDigits : ℕ
+mostDigits = 20
+
+abbrev pub numberBytes : ℕ
+numberBytes = 21
+
+-- a space and a number for each child
+abbrev pub childrenBytes : ℕ
+childrenBytes = 84
+
+-- the bytes of a line that are its text
+abbrev pub text : Line → List ℕ
+text l = take (l .length) (l .bytes)
+
+-- a line without text
+pub record Empty (l : Line) : Type 0 where
+  pub is : text l ≡ []
+  pub long : l .length ≡ 0
+
+-- a line with more text, at most so many bytes longer
+pub record Extends (l : Line) (more : List ℕ) (most : ℕ) (r : Line) : Type 0 where
+  pub is : text r ≡ text l ++ more
+  pub long : r .length ≤ l .length + most
+
+-- a line with this text, which its bytes have room for
+pub record Holds (t : List ℕ) (r : Line) : Type 0 where
+  pub is : text r ≡ t
+  pub within : r .length ≤ lineBytes
+
+-- the digits of a number stand at the end of an array
+pub record Spells (digits : List ℕ) (r : Digits) : Type 0 where
+  pub is : drop (r .first) (r .bytes) ≡ digits
+  pub within : r .first ≤ mostDigits

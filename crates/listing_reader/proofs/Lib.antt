@@ -1,0 +1,13 @@
+pub mod Bytes
+pub mod Found
+pub mod Decimal
+pub mod Hex
+pub mod Digits
+pub mod Words
+pub mod FirstLines
+pub mod Headings
+pub mod ChildLines
+pub mod NodeTexts
+pub mod Memory
+pub mod Listings
+pub mod RoundTrip

@@ -1,0 +1,5 @@
+pub mod Numbers
+pub mod Words
+pub mod First
+pub mod Line
+pub mod Listing

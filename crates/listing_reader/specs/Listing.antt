@@ -1,0 +1,64 @@
+-- What reading a listing answers, and leaves in the lent words.
+use Prim.Native.Nat.{ℕ, _+_, _*_, _-_, _/_, _≤_, _<_}
+use mathlib.Core.Path.{_≡_}
+use mathlib.Core.List.{List, [], _∷_, _++_}
+use lib.ListN.{length, take, drop}
+use Rattle.definitions.specs.Listing.{lineFeed, nodeLines}
+use Rattle.arena.specs.declared.node.DagNode.{DagNode}
+use Rattle.arena.specs.Layout.{nodeWords, mostNodes}
+use Rattle.arena.specs.Node.{nodeAt}
+use Rattle.arena.specs.Nodes.{AllWellFormed}
+use Rattle.store.specs.View.{nodesIn}
+use Rattle.listing_lines.specs.declared.Outcome.{Outcome}
+use Rattle.listing_lines.specs.Outcome.{firstLineOf}
+use Rattle.listing_reader.specs.declared.Answer.{Answer}
+use Rattle.listing_reader.specs.declared.Answer.the-variants.{Read, Refused, Full}
+use Rattle.listing_reader.specs.Numbers.{wordEnd}
+use Rattle.listing_reader.specs.First.{Small, NoFirst}
+use Rattle.listing_reader.specs.Line.{LineOf, NoLine}
+
+-- Bytes that begin with the first line of an outcome and the lines of so many nodes in memory, each of them as 01 lists it.
+pub record Begins (bytes : List ℕ) (o : Outcome) (words : List ℕ) (count : ℕ) (rest : List ℕ) : Type 0 where
+  pub text : bytes ≡ firstLineOf o ++ lineFeed ∷ (nodeLines 0 (nodesIn words count) ++ rest)
+  pub small : Small o
+  pub formed : AllWellFormed words count
+  pub wide : (i : ℕ) → i < count → nodeAt words i .payload < wordEnd
+
+-- bytes that are the listing of an outcome and of the nodes in memory
+abbrev pub IsListing : List ℕ → Outcome → List ℕ → ℕ → Type 0
+IsListing bytes o words count = Begins bytes o words count []
+
+-- The number of the first line that is wrong: 1, where no first line stands; else that of a line that is there, after the lines of so many
+-- nodes, and is not the line of the next node as 01 lists it, or comes after the 65,536 nodes that a store may have.
+pub data Wrong (bytes words : List ℕ) : ℕ → Type 0 where
+  first : NoFirst bytes → Wrong bytes words 1
+  later : (o : Outcome) (count : ℕ) (rest : List ℕ) → Begins bytes o words count rest → (rest ≡ [] → ⊥) → (count < mostNodes → NoLine rest count) → Wrong bytes words (count + 2)
+
+-- the lines of so many nodes, and of one more that a store may have, are right
+pub record OneMore (bytes words : List ℕ) (count : ℕ) : Type 0 where
+  pub many : count < mostNodes
+  pub outcome : Outcome
+  pub rest : List ℕ
+  pub node : DagNode
+  pub after : List ℕ
+  pub begins : Begins bytes outcome words count rest
+  pub line : LineOf rest count node after
+
+-- how many nodes are written
+abbrev pub written : ℕ → Answer → ℕ
+written lent (Read o count) = count
+written lent (Refused line) = line - 2
+written lent Full = lent
+
+-- What is read are the nodes whose listing the bytes are (`right`). Every listing of a store's nodes is read, back to the words of the nodes,
+-- if there is place for them (`whole`), and else answered with `Full` (`short`). Any other bytes are refused with the number of the first
+-- line that is wrong (`refused`), unless more nodes stand before it than there is place for (`full`): never, if 65,536 nodes have place.
+-- Words past the nodes stay (`past`).
+pub record Reading (bytes before : List ℕ) (r : Answer) (after : List ℕ) : Type 0 where
+  pub right : (o : Outcome) (count : ℕ) → r ≡ Read o count → IsListing bytes o after count
+  pub whole : (o : Outcome) (words : List ℕ) (count : ℕ) → IsListing bytes o words count → count * nodeWords ≤ length before → (r ≡ Read o count) × (take (count * nodeWords) after ≡ take (count * nodeWords) words)
+  pub short : (o : Outcome) (words : List ℕ) (count : ℕ) → IsListing bytes o words count → length before < count * nodeWords → r ≡ Full
+  pub refused : (line : ℕ) → r ≡ Refused line → Wrong bytes after line
+  pub full : r ≡ Full → OneMore bytes after (length before / nodeWords)
+  pub past : drop (written (length before / nodeWords) r * nodeWords) after ≡ drop (written (length before / nodeWords) r * nodeWords) before
+  pub long : length after ≡ length before

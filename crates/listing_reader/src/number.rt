@@ -1,0 +1,143 @@
+// Numbers in ASCII digits, read at a place of the bytes.
+ghost use mathlib.Core.Path.{_≡_};
+ghost use mathlib.Core.List.{_∷_, _++_};
+ghost use Prim.Native.Nat.{_≤_, _<_};
+ghost use lib.ListN.{getD};
+ghost use Rattle.definitions.specs.Listing.{decimal, hex, space};
+ghost use Rattle.listing_reader.specs.Numbers.{zeroDigit, nineDigit, isDigit, EndsDigits, Anything, HexValue, Reads};
+
+// The bytes of the space and of the digits 0, 9, A and F.
+const SPACE: u8 = 32;
+
+const ZERO: u8 = 48;
+
+const NINE: u8 = 57;
+
+const LETTER_A: u8 = 65;
+
+const LETTER_F: u8 = 70;
+// A letter's byte less its value.
+const BEFORE_LETTERS: u8 = 55;
+
+const DECIMAL_BASE: u64 = 10;
+
+const HEX_BASE: u64 = 16;
+
+const HEX_DIGITS: u64 = 16;
+// The value of a byte that is no hex digit.
+const NO_DIGIT: u64 = 16;
+
+// What reading a number finds: the number and the place after it, or nothing.
+pub enum Number {
+    Found { value: u64, next: usize },
+    Nothing,
+}
+
+// The byte at a place, 0 past the end.
+pub fn byte_at(bytes: &[u8], at: usize) -> u8
+    ensures { λ r. ⌜ r ≡ getD (now (bytes .entry)) at 0 ⌝ }
+{
+    if at < bytes.len() { bytes[at] } else { 0 }
+}
+
+fn is_digit(byte: u8) -> bool
+    ensures { λ r. ⌜ r ≡ isDigit byte ⌝ }
+{
+    if byte < ZERO {
+        return false;
+    }
+    byte <= NINE
+}
+
+// A decimal number whose first digit is not 0.
+fn digits_at(bytes: &[u8], at: usize) -> Number
+    requires { ⌜ (zeroDigit < getD (now bytes) at 0) × (getD (now bytes) at 0 ≤ nineDigit) ⌝ }
+    ensures { λ r. ⌜ Reads (λ n rest. decimal n ++ rest) EndsDigits (now (bytes .entry)) at r ⌝ }
+{
+    let mut value = (byte_at(bytes, at) - ZERO) as u64;
+    let mut next = at + 1;
+    while is_digit(byte_at(bytes, next)) {
+        let digit = (byte_at(bytes, next) - ZERO) as u64;
+        if (u64::MAX - digit) / DECIMAL_BASE < value {
+            return Number::Nothing;
+        }
+        value = value * DECIMAL_BASE + digit;
+        next += 1;
+    }
+    Number::Found { value, next }
+}
+
+// A decimal number in fewest digits.
+pub fn decimal_at(bytes: &[u8], at: usize) -> Number
+    ensures { λ r. ⌜ Reads (λ n rest. decimal n ++ rest) EndsDigits (now (bytes .entry)) at r ⌝ }
+{
+    let first = byte_at(bytes, at);
+    if !is_digit(first) {
+        return Number::Nothing;
+    }
+    if first != ZERO {
+        return digits_at(bytes, at);
+    }
+    if is_digit(byte_at(bytes, at + 1)) {
+        return Number::Nothing;
+    }
+    Number::Found {
+        value: 0,
+        next: at + 1,
+    }
+}
+
+// The value of a capital hex digit.
+fn hex_value(byte: u8) -> u64
+    ensures { λ r. ⌜ HexValue byte r ⌝ }
+{
+    if is_digit(byte) {
+        return (byte - ZERO) as u64;
+    }
+    if byte < LETTER_A {
+        return NO_DIGIT;
+    }
+    if LETTER_F < byte {
+        return NO_DIGIT;
+    }
+    (byte - BEFORE_LETTERS) as u64
+}
+
+// A number in 16 capital hex digits.
+fn hex_at(bytes: &[u8], at: usize) -> Number
+    ensures { λ r. ⌜ Reads (λ n rest. hex n ++ rest) Anything (now (bytes .entry)) at r ⌝ }
+{
+    let mut value: u64 = 0;
+    let mut next = at;
+    let mut read: u64 = 0;
+    while read < HEX_DIGITS {
+        let digit = hex_value(byte_at(bytes, next));
+        if digit == NO_DIGIT {
+            return Number::Nothing;
+        }
+        value = value * HEX_BASE + digit;
+        next += 1;
+        read += 1;
+    }
+    Number::Found { value, next }
+}
+
+// A space and a decimal number.
+pub fn spaced_decimal_at(bytes: &[u8], at: usize) -> Number
+    ensures { λ r. ⌜ Reads (λ n rest. space ∷ (decimal n ++ rest)) EndsDigits (now (bytes .entry)) at r ⌝ }
+{
+    if byte_at(bytes, at) != SPACE {
+        return Number::Nothing;
+    }
+    decimal_at(bytes, at + 1)
+}
+
+// A space and a payload.
+pub fn spaced_hex_at(bytes: &[u8], at: usize) -> Number
+    ensures { λ r. ⌜ Reads (λ n rest. space ∷ (hex n ++ rest)) Anything (now (bytes .entry)) at r ⌝ }
+{
+    if byte_at(bytes, at) != SPACE {
+        return Number::Nothing;
+    }
+    hex_at(bytes, at + 1)
+}

@@ -1,0 +1,22 @@
+-- `pruner::sum::add` meets its contract. Assumes nothing.
+use borrow.Author.Needs.{needs}
+use Rattle.definitions.specs.Patterns.{internAdd}
+use Rattle.pruner.proofs.Summing as Q
+use Rattle.pruner.proofs.sum.add.Statement.{statement}
+use Rattle.pruner.proofs.sum.add.Tie as tie
+
+intern-requires : tie.Need-intern-requires
+intern-requires c κs = (Q.add-fits _ _ _ (c .before .before .before .before .pre .0) (c .before .before .before .before .pre .1), c .before .before .before .before .pre .2)
+
+same-length : tie.Need-same-length
+same-length c = search needs
+
+same-length-2 : tie.Need-same-length-2
+same-length-2 c = search needs
+
+returns : tie.Need-returns
+unfolding internAdd
+returns c = c .before .before .before .before .intern .ensures
+
+pub add-spec : {M : Type 1} → statement M
+add-spec = tie.close (tie.spec intern-requires same-length same-length-2 returns)

@@ -1,0 +1,11 @@
+// Text and numbers on standard output.
+use libc::STDOUT_FILENO;
+
+pub(crate) fn text(t: &[u8]) {
+    io::write_all(STDOUT_FILENO, t);
+}
+
+pub(crate) fn number(n: u64) {
+    text(b" ");
+    io::print_decimal(STDOUT_FILENO, n);
+}

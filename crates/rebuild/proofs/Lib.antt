@@ -1,0 +1,2 @@
+pub mod ChildPlaces
+pub mod Rebuilding

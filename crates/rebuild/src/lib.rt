@@ -1,0 +1,142 @@
+// What a finished frame of the walk gives (01, "engine: the walk"): rebuild_or_match, and the result's mark.
+ghost use mathlib.Core.Path.{_≡_};
+ghost use mathlib.Core.Option.{none};
+ghost use Rattle.definitions.specs.Node.{sameChildren};
+ghost use Rattle.definitions.specs.Walk.{rebuiltFlags, rebuilt, rebuildOrMatch};
+ghost use Rattle.store.specs.View.{nodesIn, lent, Builds};
+ghost use Rattle.rebuild.specs.Memory.{memory};
+ghost use Rattle.rebuild.specs.Rebuild.{Rebuildable, newChildren, Finishes};
+use arena::ASSOCIATIVE;
+use arena::COMMUTATIVE;
+use arena::DagArena;
+use arena::MOST_CHILDREN;
+use arena::kind::ADD;
+use arena::kind::MUL;
+use patterns::Matched;
+use store::Answer;
+use store::Built;
+
+// 01: "`add` and `mul` give flags 3, other constructors 0".
+const ADD_OR_MUL_FLAGS: u64 = COMMUTATIVE + ASSOCIATIVE;
+
+const OTHER_FLAGS: u64 = 0;
+
+// How many children the constructors `add` and `mul` take.
+const CONSTRUCTED_ARITY: u64 = 2;
+
+// The flags of a rebuilt node: an Add or Mul of one, three or four children gets those of other constructors.
+fn rebuilt_flags(kind: u64, arity: u64) -> u64
+    ensures { λ r. ⌜ r ≡ rebuiltFlags kind arity ⌝ }
+{
+    if arity != CONSTRUCTED_ARITY {
+        return OTHER_FLAGS;
+    }
+    if kind == ADD {
+        return ADD_OR_MUL_FLAGS;
+    }
+    if kind == MUL {
+        return ADD_OR_MUL_FLAGS;
+    }
+    OTHER_FLAGS
+}
+
+// Whether two times four child places agree.
+fn same_places(a: [u64; MOST_CHILDREN], b: [u64; MOST_CHILDREN]) -> bool
+    ensures { λ r. ⌜ r ≡ sameChildren a b ⌝ }
+{
+    if a[0] != b[0] {
+        return false;
+    }
+    if a[1] != b[1] {
+        return false;
+    }
+    if a[2] != b[2] {
+        return false;
+    }
+    a[3] == b[3]
+}
+
+// The node itself where the children are the old ones, or a node anew.
+fn rebuild(
+    nodes: &mut [u64],
+    slots: &mut [u32],
+    arena: DagArena,
+    id: u64,
+    children: [u64; MOST_CHILDREN],
+) -> Built
+    requires { ⌜ Rebuildable (memory (now nodes) (now slots) arena) id children ⌝ }
+    ensures { λ r. ⌜ Builds (now (nodes .entry)) (now (slots .entry)) arena (rebuilt (lent (now (nodes .entry)) (now (slots .entry))) (nodesIn (now (nodes .entry)) (arena .count)) id (newChildren (memory (now (nodes .entry)) (now (slots .entry)) arena) id children) none) (now (nodes .exit)) (now (slots .exit)) r ⌝ }
+{
+    let count = arena.count;
+    let old = store::children(nodes, count, id);
+    if same_places(old, children) {
+        return Built {
+            answer: Answer::Id(id),
+            arena,
+        };
+    }
+    let kind = store::kind(nodes, count, id);
+    let payload = store::payload(nodes, count, id);
+    let arity = store::arity(nodes, count, id);
+    let flags = rebuilt_flags(kind, arity);
+    store::intern(nodes, slots, arena, kind, payload, flags, arity, children)
+}
+
+// The first pattern that fits a node over new children, or the node rebuilt.
+fn rebuild_or_match(
+    nodes: &mut [u64],
+    slots: &mut [u32],
+    arena: DagArena,
+    id: u64,
+    children: [u64; MOST_CHILDREN],
+) -> Built
+    requires { ⌜ Rebuildable (memory (now nodes) (now slots) arena) id children ⌝ }
+    ensures { λ r. ⌜ Builds (now (nodes .entry)) (now (slots .entry)) arena (rebuildOrMatch (lent (now (nodes .entry)) (now (slots .entry))) (nodesIn (now (nodes .entry)) (arena .count)) id (newChildren (memory (now (nodes .entry)) (now (slots .entry)) arena) id children)) (now (nodes .exit)) (now (slots .exit)) r ⌝ }
+{
+    let count = arena.count;
+    let kind = store::kind(nodes, count, id);
+    let arity = store::arity(nodes, count, id);
+    let applied = patterns::try_apply(nodes, slots, arena, kind, children, arity);
+    let after = applied.arena;
+    let matched = applied.matched;
+    match matched {
+        Matched::Declined => rebuild(nodes, slots, after, id, children),
+        Matched::Id(result) => Built {
+            answer: Answer::Id(result),
+            arena: after,
+        },
+        Matched::Refused(number) => Built {
+            answer: Answer::Refused(number),
+            arena: after,
+        },
+    }
+}
+
+// 01: "A finished frame is rebuilt and its result marked."
+pub fn finish(
+    nodes: &mut [u64],
+    slots: &mut [u32],
+    arena: DagArena,
+    id: u64,
+    children: [u64; MOST_CHILDREN],
+) -> Built
+    requires { ⌜ Rebuildable (memory (now nodes) (now slots) arena) id children ⌝ }
+    ensures { λ r. ⌜ Finishes (memory (now (nodes .entry)) (now (slots .entry)) arena) id children (r .answer) (memory (now (nodes .exit)) (now (slots .exit)) (r .arena)) ⌝ }
+{
+    let built = rebuild_or_match(nodes, slots, arena, id, children);
+    let after = built.arena;
+    let answer = built.answer;
+    match answer {
+        Answer::Refused(number) => Built {
+            answer: Answer::Refused(number),
+            arena: after,
+        },
+        Answer::Id(result) => {
+            store::mark(nodes, after.count, result);
+            Built {
+                answer: Answer::Id(result),
+                arena: after,
+            }
+        }
+    }
+}

@@ -1,0 +1,64 @@
+-- What running a sheet says of the memory before it, its outcome and the memory after it.
+use Prim.Native.Nat.{ℕ, _*_}
+use mathlib.Core.Path.{_≡_}
+use mathlib.Core.Bool.{true, false}
+use mathlib.Core.List.{List}
+use lib.ListN.{drop}
+use Rattle.arena.specs.Layout.{nodeWords}
+use Rattle.arena.specs.Nodes.{Nodes}
+use Rattle.arena.specs.declared.DagArena.{DagArena}
+use Rattle.definitions.specs.Limits.{mostDoublings, firstTableSize}
+use Rattle.definitions.specs.Refusals.{notSound, noSlotPlace}
+use Rattle.definitions.specs.Intern.{tableSizeFrom}
+use Rattle.definitions.specs.Machine.{empty, freshRefused}
+use Rattle.definitions.specs.Sheet.{sheet}
+use Rattle.definitions.specs.Listing as Listing
+use Rattle.store.specs.View.{lent}
+use Rattle.store.specs.Memory.{Memory, memory, model}
+use Rattle.builder.specs.Opens.{freshSlots}
+use Rattle.records.specs.Reading.{isSheet}
+use Rattle.listing_lines.specs.declared.Outcome.{Outcome}
+use Rattle.listing_lines.specs.declared.Outcome.the-variants.{Refused}
+use Rattle.listing_lines.specs.Outcome.{outcomeOf, allLines}
+use Rattle.sheet.specs.declared.Ran.{Ran}
+
+-- ---- on any store
+
+abbrev pub refusedAtStart : ℕ → DagArena → Ran
+refusedAtStart number arena = record { outcome = Refused number 0; arena = arena }
+
+-- "20, 1, then per record ..": 20 at 0 and nothing changed where the store is not sound; where it is, the plain machine's outcome and nodes,
+-- and a sound store again.
+pub record Runs (s : List ℕ) (m : Memory) (o : Outcome) (m′ : Memory) : Type 0 where
+  pub unsound : (model .Sound m → ⊥) → (o ≡ Refused notSound 0) × (m′ ≡ m)
+  pub outcome : model .Sound m → o ≡ outcomeOf (sheet (model .lent m) (model .view m) s .refusal) (sheet (model .lent m) (model .view m) s .answers)
+  pub left : model .Sound m → model .view m′ ≡ sheet (model .lent m) (model .view m) s .left
+  -- the lines of the outcome and of the nodes, joined, are the listing of the plain machine's result
+  pub listing : model .Sound m → allLines o (m′ .words) (m′ .arena .count) ≡ Listing.listing (sheet (model .lent m) (model .view m) s)
+  pub sound : model .Sound m → model .Sound m′
+  pub same-lent : model .lent m′ ≡ model .lent m
+  pub size : model .Sound m → m′ .arena .size ≡ tableSizeFrom mostDoublings (m .arena .size) (m′ .arena .count)
+  pub words-past : drop (m′ .arena .count * nodeWords) (m′ .words) ≡ drop (m′ .arena .count * nodeWords) (m .words)
+  pub slots-past : drop (m′ .arena .size) (m′ .slots) ≡ drop (m′ .arena .size) (m .slots)
+  -- no slot changes where no node is added
+  pub slots-same : m′ .arena .count ≡ m .arena .count → m′ .slots ≡ m .slots
+  -- 1 changes nothing
+  pub unchanged : isSheet s ≡ false → m′ ≡ m
+
+-- ---- on a fresh store
+
+-- "A fresh store has no nodes and 64 empty slots."
+abbrev pub freshMemory : List ℕ → List ℕ → Memory
+freshMemory words slots = memory words (freshSlots false slots) (record { count = 0; size = firstTableSize })
+
+-- the counts beside a refusal to open a store
+abbrev pub noStore : DagArena
+noStore = record { count = 0; size = 0 }
+
+-- 22 "also a fresh store with under 64", and nothing changed; else the sheet on the fresh store, and the listing that 01 asks for
+pub record RunsFresh (s words slots : List ℕ) (r : Ran) (words′ slots′ : List ℕ) : Type 0 where
+  pub refused : freshRefused (lent words slots) ≡ true → (r ≡ refusedAtStart noSlotPlace noStore) × (words′ ≡ words) × (slots′ ≡ slots)
+  pub runs : freshRefused (lent words slots) ≡ false → Runs s (freshMemory words slots) (r .outcome) (memory words′ slots′ (r .arena))
+  pub listing : freshRefused (lent words slots) ≡ false → allLines (r .outcome) words′ (r .arena .count) ≡ Listing.listing (sheet (lent words slots) empty s)
+  -- the nodes are such that their lines can be asked for
+  pub nodes : Nodes words′ (r .arena .count)

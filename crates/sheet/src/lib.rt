@@ -1,0 +1,65 @@
+// Sheets (01, "sheets and the listing"): records done in order on one store.
+mod building;
+mod operands;
+mod performing;
+mod refusals;
+mod running;
+
+ghost use Rattle.store.specs.Memory.{memory};
+ghost use mathlib.Core.Path.{_≡_};
+ghost use Rattle.sheet.specs.Sheets.{Runs, RunsFresh, refusedAtStart};
+use arena::DagArena;
+use builder::FreshStore;
+use listing_lines::Outcome;
+use records::Opened;
+use refusals::BAD_SHEET;
+use refusals::NOT_SOUND;
+use running::run_records;
+
+// 01, refusal 3: "record 1,024 reached".
+pub const MOST_RECORDS: usize = 1_024;
+
+// What a sheet's first line says, and the counts of the store after it.
+pub struct Ran {
+    pub outcome: Outcome,
+    pub arena: DagArena,
+}
+
+fn refused(number: u64, arena: DagArena) -> Ran
+    ensures { λ r. ⌜ r ≡ refusedAtStart number arena ⌝ }
+{
+    Ran {
+        outcome: Outcome::Refused { number, at: 0 },
+        arena,
+    }
+}
+
+// A sheet on any store, which is audited once.
+pub fn run(sheet: &[u8], nodes: &mut [u64], slots: &mut [u32], arena: DagArena) -> Ran
+    ensures { λ r. ⌜ Runs (now (sheet .entry)) (memory (now (nodes .entry)) (now (slots .entry)) arena) (r .outcome) (memory (now (nodes .exit)) (now (slots .exit)) (r .arena)) ⌝ }
+{
+    if !store::audit(nodes, slots, arena) {
+        return refused(NOT_SOUND, arena);
+    }
+    match records::open(sheet) {
+        Opened::Refused => refused(BAD_SHEET, arena),
+        Opened::Records(cursor) => {
+            let at = cursor.at;
+            run_records(sheet, at, nodes, slots, arena)
+        }
+    }
+}
+
+// A sheet on a fresh store in the lent words and slots.
+pub fn run_fresh(sheet: &[u8], nodes: &mut [u64], slots: &mut [u32]) -> Ran
+    ensures { λ r. ⌜ RunsFresh (now (sheet .entry)) (now (nodes .entry)) (now (slots .entry)) r (now (nodes .exit)) (now (slots .exit)) ⌝ }
+{
+    let fresh = builder::fresh(nodes, slots);
+    match fresh {
+        FreshStore::Refused(number) => {
+            let none = DagArena { count: 0, size: 0 };
+            refused(number, none)
+        }
+        FreshStore::Store(arena) => run(sheet, nodes, slots, arena),
+    }
+}

@@ -1,0 +1,138 @@
+// The records of a sheet, one after another.
+ghost use mathlib.Core.Path.{_≡_};
+ghost use mathlib.Core.List.{[]};
+ghost use Prim.Native.Nat.{_≤_, _<_};
+ghost use lib.ListN.{length, drop};
+ghost use Rattle.definitions.specs.Limits.{mostRecords};
+ghost use Rattle.definitions.specs.Sheet as Sheet;
+ghost use Rattle.store.specs.Sound.{Sound};
+ghost use Rattle.store.specs.Memory.{memory, model};
+ghost use Rattle.sheet.specs.Running.{Steps, Finishes, finishedAs};
+use crate::MOST_RECORDS;
+use crate::Ran;
+use crate::performing::Answer;
+use crate::performing::perform;
+use crate::refusals::TOO_MANY_RECORDS;
+use arena::DagArena;
+use listing_lines::Outcome;
+use records::Cursor;
+
+// How far a sheet is done: the number of records, where the next one starts, the last answer's id and whether its budget ran out,
+// and the counts of the store.
+pub struct Progress {
+    pub done: usize,
+    pub at: usize,
+    pub id: u64,
+    pub spent: bool,
+    pub arena: DagArena,
+}
+
+// One more record done, or the number of the refusal that cuts the sheet short.
+pub enum Turn {
+    More(Progress),
+    Refused { number: u64, arena: DagArena },
+}
+
+// The next record: 3, then 2 and the call's own refusals.
+fn step(
+    sheet: &[u8],
+    nodes: &mut [u64],
+    slots: &mut [u32],
+    ids: &mut [u64; MOST_RECORDS],
+    progress: Progress,
+) -> Turn
+    requires { ⌜ (progress .at < length (now sheet)) × (length (now ids) ≡ mostRecords) × (progress .done ≤ mostRecords) × Sound (now nodes) (now slots) (progress .arena) ⌝ }
+    ensures { λ r. ⌜ Steps (now (sheet .entry)) progress (now (nodes .entry)) (now (slots .entry)) (now (ids .entry)) r (now (nodes .exit)) (now (slots .exit)) (now (ids .exit)) ⌝ }
+{
+    let done = progress.done;
+    let at = progress.at;
+    let arena = progress.arena;
+    if done == MOST_RECORDS {
+        return Turn::Refused {
+            number: TOO_MANY_RECORDS,
+            arena,
+        };
+    }
+    let record = records::read(sheet, Cursor { at });
+    let body = record.body;
+    let next = record.next;
+    let performed = perform(sheet, body, ids, done, nodes, slots, arena);
+    let after = performed.arena;
+    let answer = performed.answer;
+    match answer {
+        Answer::Refused(number) => Turn::Refused {
+            number,
+            arena: after,
+        },
+        Answer::Answered { id, spent } => {
+            ids[done] = id;
+            Turn::More(Progress {
+                done: done + 1,
+                at: next.at,
+                id,
+                spent,
+                arena: after,
+            })
+        }
+    }
+}
+
+// What a sheet without a refusal says.
+fn finished(progress: Progress) -> Outcome
+    ensures { λ r. ⌜ r ≡ finishedAs (progress .done) (progress .id) (progress .spent) ⌝ }
+{
+    if progress.done == 0 {
+        return Outcome::Empty;
+    }
+    if progress.spent {
+        return Outcome::Spent(progress.id);
+    }
+    Outcome::Ok(progress.id)
+}
+
+// All records from a place on, in a sound store.
+pub fn run_records(
+    sheet: &[u8],
+    start: usize,
+    nodes: &mut [u64],
+    slots: &mut [u32],
+    arena: DagArena,
+) -> Ran
+    requires { ⌜ Sound (now nodes) (now slots) arena ⌝ }
+    ensures { λ r. ⌜ Finishes (Sheet.records mostRecords (model .lent (memory (now (nodes .entry)) (now (slots .entry)) arena)) [] (model .view (memory (now (nodes .entry)) (now (slots .entry)) arena)) (drop start (now (sheet .entry)))) (memory (now (nodes .entry)) (now (slots .entry)) arena) (r .outcome) (memory (now (nodes .exit)) (now (slots .exit)) (r .arena)) ⌝ }
+{
+    let mut ids = [0; MOST_RECORDS];
+    let mut progress = Progress {
+        done: 0,
+        at: start,
+        id: 0,
+        spent: false,
+        arena,
+    };
+    while progress.at < sheet.len() {
+        let turn = step(sheet, nodes, slots, &mut ids, progress);
+        match turn {
+            Turn::Refused {
+                number,
+                arena: after,
+            } => {
+                return Ran {
+                    outcome: Outcome::Refused {
+                        number,
+                        at: progress.done as u64,
+                    },
+                    arena: after,
+                };
+            }
+            Turn::More(next) => {
+                progress = next;
+            }
+        }
+    }
+    let outcome = finished(progress);
+    let after = progress.arena;
+    Ran {
+        outcome,
+        arena: after,
+    }
+}

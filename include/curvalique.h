@@ -1,0 +1,311 @@
+/*
+ * Curvalique: a formula store, rewriter and pruner in memory that the caller
+ * lends. Every function here is proved to do what document 01 says, for every
+ * content of the lent lists; "01" below is that document.
+ *
+ * Linking: `rt staticlib curvalique` writes target/staticlib/libcurvalique.a,
+ * for x86-64 Linux. It needs memcpy and memset of C's library and nothing else.
+ *
+ * A STORE is two lent lists and two numbers. `nodes` holds the nodes, ten words
+ * each (CURVALIQUE_NODE_WORDS), and `node_words` is how many words are lent;
+ * `slots` is the duplicate table, and `slot_count` how many slots are lent.
+ * `count` is how many nodes there are, and `size` how many slots are in use as
+ * the table; calls read and write both. An id is a node's number, from 0. Up to
+ * 65,536 nodes are used, and 131,072 slots are enough for them. A store may be
+ * copied or kept on disk as it is: every call looks it over first.
+ *
+ * A CALL RETURNS 0 if it is answered, and its answer then stands behind the
+ * pointers at the end of its list of arguments. Else it returns the number of a
+ * refusal, and leaves what is behind those pointers as it was. The numbers are
+ * below. Of several that apply the first in this order is returned: 20, 5, 6,
+ * 4, 7 or 8, 23, 21, 22; for names 20, 9, 24. What a refusal leaves in the store
+ * is said at each function.
+ *
+ * OF A CALLER nothing is asked but C's own rules: a list is a pointer to as many
+ * elements as its length says, aligned for their type, all of which may be read
+ * and, where the pointer is not to const, written; no two lists or pointers of
+ * one call overlap, unless both are to const; and nothing else writes them
+ * during the call. A list of length 0 may have any pointer, also a null one. No
+ * content is asked for: damaged lists and counts are refused, with 20. No
+ * function keeps a pointer, allocates, or touches other memory, but for its
+ * stack: as compiled now, a prune takes about 40 KB of it, a name call 17 KB, a
+ * simplify 13 KB and any other call under 1 KB. (What a stack takes is not among
+ * the things that are proved.)
+ */
+#ifndef CURVALIQUE_H
+#define CURVALIQUE_H
+
+#include <stddef.h>
+#include <stdint.h>
+
+#ifdef __cplusplus
+extern "C" {
+#endif
+
+/* A node's words, in order: kind, payload, hash, coefficient's bits, flags,
+ * number of children, four child places (unused ones 0). */
+#define CURVALIQUE_NODE_WORDS 10
+
+/* A name list's entry: a length byte, then 32 bytes, of which unused ones are 0. */
+#define CURVALIQUE_ENTRY_BYTES 33
+#define CURVALIQUE_LONGEST_NAME 32
+
+/* Refusals. Numbers 1 to 3 are those of sheets. */
+#define CURVALIQUE_BAD_OPERAND 4      /* an id that is not below the count */
+#define CURVALIQUE_BAD_CODE 5         /* an operator, flags, control or depth value that is not listed */
+#define CURVALIQUE_BAD_CHILD_COUNT 6  /* the number of children */
+#define CURVALIQUE_BAD_THRESHOLD 7    /* a threshold that is NaN or has the sign bit */
+#define CURVALIQUE_BAD_SETTING 8      /* a setting that is not 10 to 100 */
+#define CURVALIQUE_BAD_NAME_LENGTH 9  /* a name that is empty or over 32 bytes */
+#define CURVALIQUE_NOT_SOUND 20       /* the store or the name list is not as 01 says of every sound one */
+#define CURVALIQUE_NO_NODE_PLACE 21   /* no place for a new node */
+#define CURVALIQUE_NO_SLOT_PLACE 22   /* a new node needs a larger table than the lent slots */
+#define CURVALIQUE_TOO_MANY_TERMS 23  /* a chain of over 4,096 terms */
+#define CURVALIQUE_NO_NAME_PLACE 24   /* no place for a new name */
+
+/* ---- A fresh store ---- */
+
+/*
+ * Makes a fresh store: sets count to 0 and size to 64, and the first 64 slots
+ * to 0. The nodes, and slots past the first 64, stay as they are.
+ * Refusals: 22 if fewer than 64 slots are lent; nothing is changed.
+ */
+uint64_t curvalique_fresh(
+    const uint64_t *nodes, size_t node_words, uint32_t *slots, size_t slot_count,
+    uint64_t *count, size_t *size);
+
+/*
+ * ---- Store calls ----
+ *
+ * Each answers the id of the one node that it asks for: that of the old node if
+ * there is one, and else that of a new one at the end. Two nodes are one if
+ * kind, payload, children and flags without 4 agree. A new node may double the
+ * table. Refusals that all of them have: 20; 21 and 22 for a new node (an old
+ * one is found also in a full store). A refused store call changes nothing.
+ */
+
+/*
+ * A variable, by its symbol: kind 0, flags 0. Refusals: 20, 21, 22.
+ */
+uint64_t curvalique_variable(
+    uint64_t *nodes, size_t node_words, uint32_t *slots, size_t slot_count,
+    uint64_t *count, size_t *size,
+    uint32_t symbol, uint64_t *id);
+
+/*
+ * A constant, by the bits of its binary64 value: kind 1, flags 0. 0.0 and -0.0
+ * are two nodes, and so are NaNs with other bits. Refusals: 20, 21, 22.
+ */
+uint64_t curvalique_constant(
+    uint64_t *nodes, size_t node_words, uint32_t *slots, size_t slot_count,
+    uint64_t *count, size_t *size,
+    uint64_t bits, uint64_t *id);
+
+/*
+ * The sum of two nodes: kind 2, flags 3. Refusals: 20, 4, 21, 22.
+ */
+uint64_t curvalique_add(
+    uint64_t *nodes, size_t node_words, uint32_t *slots, size_t slot_count,
+    uint64_t *count, size_t *size,
+    uint32_t a, uint32_t b, uint64_t *id);
+
+/*
+ * The first node minus the second: kind 3, flags 0. Refusals: 20, 4, 21, 22.
+ */
+uint64_t curvalique_sub(
+    uint64_t *nodes, size_t node_words, uint32_t *slots, size_t slot_count,
+    uint64_t *count, size_t *size,
+    uint32_t a, uint32_t b, uint64_t *id);
+
+/*
+ * The product of two nodes: kind 4, flags 3. Refusals: 20, 4, 21, 22.
+ */
+uint64_t curvalique_mul(
+    uint64_t *nodes, size_t node_words, uint32_t *slots, size_t slot_count,
+    uint64_t *count, size_t *size,
+    uint32_t a, uint32_t b, uint64_t *id);
+
+/*
+ * The first node over the second: kind 5, flags 0. Refusals: 20, 4, 21, 22.
+ */
+uint64_t curvalique_div(
+    uint64_t *nodes, size_t node_words, uint32_t *slots, size_t slot_count,
+    uint64_t *count, size_t *size,
+    uint32_t a, uint32_t b, uint64_t *id);
+
+/*
+ * The first node to the power of the second: kind 6, flags 0. Refusals: 20, 4,
+ * 21, 22.
+ */
+uint64_t curvalique_pow(
+    uint64_t *nodes, size_t node_words, uint32_t *slots, size_t slot_count,
+    uint64_t *count, size_t *size,
+    uint32_t a, uint32_t b, uint64_t *id);
+
+/*
+ * The first node modulo the second: kind 7, flags 0. Refusals: 20, 4, 21, 22.
+ */
+uint64_t curvalique_modulo(
+    uint64_t *nodes, size_t node_words, uint32_t *slots, size_t slot_count,
+    uint64_t *count, size_t *size,
+    uint32_t a, uint32_t b, uint64_t *id);
+
+/*
+ * The opposite of a node: kind 8, flags 0. Refusals: 20, 4, 21, 22.
+ */
+uint64_t curvalique_neg(
+    uint64_t *nodes, size_t node_words, uint32_t *slots, size_t slot_count,
+    uint64_t *count, size_t *size,
+    uint32_t a, uint64_t *id);
+
+/*
+ * Any operator over any operands: codes 0 Add, 1 Sub, 2 Mul, 3 Div, 4 Pow, 5 Mod
+ * and 6 Neg give kinds 2 to 8, with flags 0 to 3 (1 commutative, 2
+ * associative). Add and Mul take one to four operands, Neg one, the others two.
+ * Refusals: 20, 5, 6, 4, 21, 22.
+ */
+uint64_t curvalique_operator(
+    uint64_t *nodes, size_t node_words, uint32_t *slots, size_t slot_count,
+    uint64_t *count, size_t *size,
+    uint32_t code, uint32_t flags, const uint32_t *operands, size_t operand_count,
+    uint64_t *id);
+
+/*
+ * A function, by its number, over none to four operands: kind 16, flags 0.
+ * Refusals: 20, 6, 4, 21, 22.
+ */
+uint64_t curvalique_function(
+    uint64_t *nodes, size_t node_words, uint32_t *slots, size_t slot_count,
+    uint64_t *count, size_t *size,
+    uint32_t number, const uint32_t *operands, size_t operand_count, uint64_t *id);
+
+/*
+ * Select, over a condition and two values: kind 32, payload 0, flags 0. Refusals:
+ * 20, 4, 21, 22.
+ */
+uint64_t curvalique_select(
+    uint64_t *nodes, size_t node_words, uint32_t *slots, size_t slot_count,
+    uint64_t *count, size_t *size,
+    uint32_t a, uint32_t b, uint32_t c, uint64_t *id);
+
+/*
+ * IfElse, over a condition and two branches: kind 32, payload 1, flags 0.
+ * Refusals: 20, 4, 21, 22.
+ */
+uint64_t curvalique_if_else(
+    uint64_t *nodes, size_t node_words, uint32_t *slots, size_t slot_count,
+    uint64_t *count, size_t *size,
+    uint32_t a, uint32_t b, uint32_t c, uint64_t *id);
+
+/*
+ * ForLoop, over start, limit, step and body: kind 32, payload 2, flags 0.
+ * Refusals: 20, 4, 21, 22.
+ */
+uint64_t curvalique_for_loop(
+    uint64_t *nodes, size_t node_words, uint32_t *slots, size_t slot_count,
+    uint64_t *count, size_t *size,
+    uint32_t a, uint32_t b, uint32_t c, uint32_t d, uint64_t *id);
+
+/*
+ * Any control over any operands: codes 0 Select and 1 IfElse take three operands,
+ * 2 ForLoop four; kind 32, flags 0. Refusals: 20, 5, 6, 4, 21, 22.
+ */
+uint64_t curvalique_control(
+    uint64_t *nodes, size_t node_words, uint32_t *slots, size_t slot_count,
+    uint64_t *count, size_t *size,
+    uint32_t code, const uint32_t *operands, size_t operand_count, uint64_t *id);
+
+/* ---- Reading a node back ---- */
+
+/*
+ * Writes the ten words of a node. Flag 4 (canonical) is set in a node that a
+ * simplify answered for a part of its formula. Changes nothing else. Refusals:
+ * 20, 4; the words stay as they were.
+ */
+uint64_t curvalique_node(
+    const uint64_t *nodes, size_t node_words, const uint32_t *slots, size_t slot_count,
+    uint64_t count, size_t size,
+    uint32_t id, uint64_t words[CURVALIQUE_NODE_WORDS]);
+
+/* ---- Simplify and prune ---- */
+
+/*
+ * Simplifies the formula of a node by the built-in patterns, down to a depth
+ * limit of 0 to 255 and in at most as many steps as the budget says. Answers
+ * the result's id, `spent` 0 and the steps taken. If the budget is used up
+ * before the walk is done, it is still answered: the root's own id, `spent` 1
+ * and the steps; the nodes and marks made so far stay, and a further simplify
+ * goes on from them. Refusals: 20, 5 (depth), 4; nothing is changed. 21, 22: the
+ * walk stops, and keeps what it built and marked before.
+ */
+uint64_t curvalique_simplify(
+    uint64_t *nodes, size_t node_words, uint32_t *slots, size_t slot_count,
+    uint64_t *count, size_t *size,
+    uint32_t root, uint32_t depth, uint64_t budget,
+    uint64_t *id, uint64_t *spent, uint64_t *steps);
+
+/*
+ * Prunes the sum under a node at a threshold, by the bits of its binary64
+ * value: a term is kept if its magnitude is at least the threshold (a
+ * constant's is its absolute value, any other term's 1.0), and the kept terms
+ * are summed again in order. Answers the sum's id (0.0 if no term is kept, the
+ * term itself if one is) and how many terms are kept and dropped, a shared one
+ * as often as it stands there. A root that is no Add is answered itself, with 1
+ * kept and 0 dropped. Refusals: 20, 4, 7, 23; nothing is changed. 21, 22: the sum
+ * is not finished, and what was built of it stays.
+ */
+uint64_t curvalique_prune(
+    uint64_t *nodes, size_t node_words, uint32_t *slots, size_t slot_count,
+    uint64_t *count, size_t *size,
+    uint32_t root, uint64_t threshold, uint64_t *id, uint64_t *kept, uint64_t *dropped);
+
+/*
+ * The same at the threshold of a setting n from 10 to 100: the binary64 number
+ * nearest to 10^((3n-400)/100). Refusals: as there, with 8 for 7.
+ */
+uint64_t curvalique_prune_by_setting(
+    uint64_t *nodes, size_t node_words, uint32_t *slots, size_t slot_count,
+    uint64_t *count, size_t *size,
+    uint32_t root, uint32_t setting, uint64_t *id, uint64_t *kept, uint64_t *dropped);
+
+/*
+ * ---- Names ----
+ *
+ * A NAME LIST is a lent list of bytes, 33 for each entry
+ * (CURVALIQUE_ENTRY_BYTES), of which up to 4,096 are used, and a count of names.
+ * A list with count 0 is a sound one, whatever its bytes are. Names are any
+ * bytes, 1 to 32 of them; a name's number is its place in the list, from 0.
+ */
+
+/*
+ * Answers a name's number: the one that it has, or the next if it is new, which
+ * adds it to the list and 1 to the count. Bytes past the used entries stay.
+ * Refusals: 20, 9, 24 (a known name keeps its number also in a full list);
+ * nothing is changed.
+ */
+uint64_t curvalique_intern_name(
+    uint8_t *entries, size_t entry_bytes, size_t *count,
+    const uint8_t *name, size_t name_length, uint64_t *number);
+
+/*
+ * Answers `known` 1 and a name's number, or `known` 0 if the list does not have
+ * it; the number then stays as it was. Refusals: 20, 9; nothing is changed.
+ */
+uint64_t curvalique_lookup_name(
+    const uint8_t *entries, size_t entry_bytes, size_t count,
+    const uint8_t *name, size_t name_length, uint64_t *known, uint64_t *number);
+
+/*
+ * Answers `known` 1 and the name of a number, its length and its bytes, with 0s
+ * after it; or `known` 0 if no name has the number, and length and bytes then
+ * stay as they were. Refusals: 20; nothing is changed.
+ */
+uint64_t curvalique_name(
+    const uint8_t *entries, size_t entry_bytes, size_t count,
+    uint32_t number, uint64_t *known, size_t *length, uint8_t bytes[CURVALIQUE_LONGEST_NAME]);
+
+#ifdef __cplusplus
+}
+#endif
+
+#endif

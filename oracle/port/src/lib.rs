@@ -1,0 +1,14 @@
+//! The port's C interface, and calls on lent lists through it.
+
+pub mod calls;
+mod interface;
+pub mod lists;
+pub mod names;
+
+/// What the interface returns for a call that is not refused.
+const ANSWERED: u64 = 0;
+
+/// An answer, or the number of a refusal.
+fn unless_refused<T>(number: u64, answer: T) -> Result<T, u64> {
+    if number == ANSWERED { Ok(answer) } else { Err(number) }
+}
