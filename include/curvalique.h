@@ -12,7 +12,9 @@
  * `count` is how many nodes there are, and `size` how many slots are in use as
  * the table; calls read and write both. An id is a node's number, from 0. Up to
  * 65,536 nodes are used, and 131,072 slots are enough for them. A store may be
- * copied or kept on disk as it is: every call looks it over first.
+ * copied or kept on disk as it is: every call looks it over first, in time that
+ * grows with its nodes. Words past the last whole node are unused and stay. Ids
+ * are answered in 64 bits and taken in 32; they are below 65,536.
  *
  * A CALL RETURNS 0 if it is answered, and its answer then stands behind the
  * pointers at the end of its list of arguments. Else it returns the number of a
@@ -25,8 +27,9 @@
  * elements as its length says, aligned for their type, all of which may be read
  * and, where the pointer is not to const, written; no two lists or pointers of
  * one call overlap, unless both are to const; and nothing else writes them
- * during the call. A list of length 0 may have any pointer, also a null one. No
- * content is asked for: damaged lists and counts are refused, with 20. No
+ * during the call. A list of length 0 may have any pointer, also a null one;
+ * `count`, `size` and the pointers to answers are never null and are aligned,
+ * and an array is as long as its declaration says. No content is asked for: damaged lists and counts are refused, with 20. No
  * function keeps a pointer, allocates, or touches other memory, but for its
  * stack: as compiled now, a prune takes about 40 KB of it, a name call 17 KB, a
  * simplify 13 KB and any other call under 1 KB. (What a stack takes is not among
@@ -219,8 +222,8 @@ uint64_t curvalique_control(
 
 /*
  * Writes the ten words of a node. Flag 4 (canonical) is set in a node that a
- * simplify answered for a part of its formula. Changes nothing else. Refusals:
- * 20, 4; the words stay as they were.
+ * walk finished a part of its formula with, also one that was spent or stopped
+ * later. Changes nothing else. Refusals: 20, 4; the words stay as they were.
  */
 uint64_t curvalique_node(
     const uint64_t *nodes, size_t node_words, const uint32_t *slots, size_t slot_count,
@@ -234,9 +237,11 @@ uint64_t curvalique_node(
  * limit of 0 to 255 and in at most as many steps as the budget says. Answers
  * the result's id, `spent` 0 and the steps taken. If the budget is used up
  * before the walk is done, it is still answered: the root's own id, `spent` 1
- * and the steps; the nodes and marks made so far stay, and a further simplify
- * goes on from them. Refusals: 20, 5 (depth), 4; nothing is changed. 21, 22: the
- * walk stops, and keeps what it built and marked before.
+ * and the steps; the nodes and marks made so far stay. A further simplify starts
+ * again at the root and takes marked children unwalked, so that the same budget
+ * may be spent again. Only the budget bounds the time: a changed child that is
+ * shared is walked each time it is met. Refusals: 20, 5 (depth), 4; nothing is
+ * changed. 21, 22: the walk stops, and keeps what it built and marked before.
  */
 uint64_t curvalique_simplify(
     uint64_t *nodes, size_t node_words, uint32_t *slots, size_t slot_count,
