@@ -1,2 +1,3 @@
 pub mod Prime
 pub mod Appending
+pub mod Zeros

@@ -36,20 +36,36 @@ fn add_byte(h: u64, byte: u64) -> u64
     wrapping_mul_prime(h ^ byte)
 }
 
-// The low 32 bits of a number, as four bytes.
+// Two bytes that are 0: exclusive or leaves the sum as it is.
+fn add_two_zeros(h: u64) -> u64
+    ensures { λ r. ⌜ r ≡ fnvFrom h (0 ∷ 0 ∷ []) ⌝ }
+{
+    wrapping_mul_prime(wrapping_mul_prime(h))
+}
+
+// The low 32 bits of a number, as four bytes. An id is below 65,536, so that its first two bytes are 0.
 fn add_u32(h: u64, x: u64) -> u64
     ensures { λ r. ⌜ r ≡ fnvFrom h (bytes32 x) ⌝ }
 {
+    if x < TWO_TO_16 {
+        let zeros = add_two_zeros(h);
+        let high = add_byte(zeros, x / BYTE);
+        return add_byte(high, x % BYTE);
+    }
     let first = add_byte(h, x / TWO_TO_24 % BYTE);
     let second = add_byte(first, x / TWO_TO_16 % BYTE);
     let third = add_byte(second, x / BYTE % BYTE);
     add_byte(third, x % BYTE)
 }
 
-// A number of 64 bits, as eight bytes.
+// A number of 64 bits, as eight bytes. The payload of an operator is 0.
 fn add_u64(h: u64, x: u64) -> u64
     ensures { λ r. ⌜ r ≡ fnvFrom h (bytes64 x) ⌝ }
 {
+    if x == 0 {
+        let half = add_two_zeros(add_two_zeros(h));
+        return add_two_zeros(add_two_zeros(half));
+    }
     add_u32(add_u32(h, x / TWO_TO_32), x % TWO_TO_32)
 }
 
