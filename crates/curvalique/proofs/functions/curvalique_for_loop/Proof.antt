@@ -3,23 +3,18 @@ use borrow.Author.Needs.{needs}
 use Rattle.curvalique.proofs.functions.curvalique_for_loop.Statement.{statement}
 use Rattle.curvalique.proofs.functions.curvalique_for_loop.Tie as tie
 
--- src/functions.rt:97:9
 for-loop-requires : tie.Need-for-loop-requires
 for-loop-requires c κs = search needs
 
--- src/functions.rt:98:5
 leave-built-requires : tie.Need-leave-built-requires
 leave-built-requires c κs = search needs
 
--- src/functions.rt:78:1
 same-length : tie.Need-same-length
 same-length c = search needs
 
--- src/functions.rt:78:1
 same-length-2 : tie.Need-same-length-2
 same-length-2 c = search needs
 
--- src/functions.rt:78:1
 returns : tie.Need-returns
 returns c = in-numbers _ _ _ _ _ _ _ _ _ _ _ _ (c .before .before .before .before .before .before .before .before .for-loop .ensures) (c .leave-built .ensures .0) (c .leave-built .ensures .1)
 

@@ -3,23 +3,18 @@ use borrow.Author.Needs.{needs}
 use Rattle.curvalique.proofs.functions.curvalique_function.Statement.{statement}
 use Rattle.curvalique.proofs.functions.curvalique_function.Tie as tie
 
--- src/functions.rt:27:9
 function-requires : tie.Need-function-requires
 function-requires c κs = search needs
 
--- src/functions.rt:28:5
 leave-built-requires : tie.Need-leave-built-requires
 leave-built-requires c κs = search needs
 
--- src/functions.rt:10:1
 same-length : tie.Need-same-length
 same-length c = search needs
 
--- src/functions.rt:10:1
 same-length-2 : tie.Need-same-length-2
 same-length-2 c = search needs
 
--- src/functions.rt:10:1
 returns : tie.Need-returns
 returns c = in-numbers _ _ _ _ _ _ _ _ _ _ _ _ (c .before .before .before .before .before .before .before .before .function .ensures) (c .leave-built .ensures .0) (c .leave-built .ensures .1)
 

@@ -3,23 +3,18 @@ use borrow.Author.Needs.{needs}
 use Rattle.curvalique.proofs.functions.curvalique_if_else.Statement.{statement}
 use Rattle.curvalique.proofs.functions.curvalique_if_else.Tie as tie
 
--- src/functions.rt:73:9
 if-else-requires : tie.Need-if-else-requires
 if-else-requires c κs = search needs
 
--- src/functions.rt:74:5
 leave-built-requires : tie.Need-leave-built-requires
 leave-built-requires c κs = search needs
 
--- src/functions.rt:55:1
 same-length : tie.Need-same-length
 same-length c = search needs
 
--- src/functions.rt:55:1
 same-length-2 : tie.Need-same-length-2
 same-length-2 c = search needs
 
--- src/functions.rt:55:1
 returns : tie.Need-returns
 returns c = in-numbers _ _ _ _ _ _ _ _ _ _ _ _ (c .before .before .before .before .before .before .before .before .if-else .ensures) (c .leave-built .ensures .0) (c .leave-built .ensures .1)
 

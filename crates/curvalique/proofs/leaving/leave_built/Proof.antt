@@ -5,23 +5,18 @@ use borrow.Author.Needs.{needs}
 use Rattle.curvalique.proofs.leaving.leave_built.Statement.{statement}
 use Rattle.curvalique.proofs.leaving.leave_built.Tie as tie
 
--- src/leaving.rt:29:5
 leave-arena-requires : tie.Need-leave-arena-requires
 leave-arena-requires c κs = search needs
 
--- src/leaving.rt:32:27
 enum-known-answer : tie.Need-enum-known-answer
 enum-known-answer c = search needs
 
--- src/leaving.rt:36:32
 enum-known-answer-2 : tie.Need-enum-known-answer-2
 enum-known-answer-2 c = search needs
 
--- src/leaving.rt:24:1
 returns : tie.Need-returns
 returns c = (c .before .before .before .leave-arena .ensures, left-answered _ _ _ _ (ap answerOf (c .before .answer .given .1)) refl refl)
 
--- src/leaving.rt:24:1
 returns-2 : tie.Need-returns-2
 returns-2 c = (c .before .before .before .leave-arena .ensures, left-refused _ _ _ _ (ap answerOf (c .before .answer2 .given .1)))
 

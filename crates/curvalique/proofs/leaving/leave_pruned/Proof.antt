@@ -5,23 +5,18 @@ use borrow.Author.Needs.{needs}
 use Rattle.curvalique.proofs.leaving.leave_pruned.Statement.{statement}
 use Rattle.curvalique.proofs.leaving.leave_pruned.Tie as tie
 
--- src/leaving.rt:85:5
 leave-arena-requires : tie.Need-leave-arena-requires
 leave-arena-requires c κs = search needs
 
--- src/leaving.rt:88:38
 enum-known-answer : tie.Need-enum-known-answer
 enum-known-answer c = search needs
 
--- src/leaving.rt:94:33
 enum-known-answer-2 : tie.Need-enum-known-answer-2
 enum-known-answer-2 c = search needs
 
--- src/leaving.rt:73:1
 returns : tie.Need-returns
 returns c = (c .before .before .before .leave-arena .ensures, left-answered _ _ _ _ (ap meaning (c .before .answer .given .1)) refl refl)
 
--- src/leaving.rt:73:1
 returns-2 : tie.Need-returns-2
 returns-2 c = (c .before .before .before .leave-arena .ensures, left-refused _ _ _ _ (ap meaning (c .before .answer2 .given .1)))
 

@@ -5,31 +5,24 @@ use borrow.Author.Needs.{needs}
 use Rattle.curvalique.proofs.leaving.leave_simplified.Statement.{statement}
 use Rattle.curvalique.proofs.leaving.leave_simplified.Tie as tie
 
--- src/leaving.rt:53:5
 leave-arena-requires : tie.Need-leave-arena-requires
 leave-arena-requires c κs = search needs
 
--- src/leaving.rt:56:40
 enum-known-answer : tie.Need-enum-known-answer
 enum-known-answer c = search needs
 
--- src/leaving.rt:62:35
 enum-known-answer-2 : tie.Need-enum-known-answer-2
 enum-known-answer-2 c = search needs
 
--- src/leaving.rt:68:31
 enum-known-answer-3 : tie.Need-enum-known-answer-3
 enum-known-answer-3 c = search needs
 
--- src/leaving.rt:41:1
 returns : tie.Need-returns
 returns c = (c .before .before .before .leave-arena .ensures, left-answered _ _ _ _ (ap meaning (c .before .answer .given .1)) refl refl)
 
--- src/leaving.rt:41:1
 returns-2 : tie.Need-returns-2
 returns-2 c = (c .before .before .before .leave-arena .ensures, left-answered _ _ _ _ (ap meaning (c .before .answer2 .given .1)) refl refl)
 
--- src/leaving.rt:41:1
 returns-3 : tie.Need-returns-3
 returns-3 c = (c .before .before .before .leave-arena .ensures, left-refused _ _ _ _ (ap meaning (c .before .answer3 .given .1)))
 

@@ -3,39 +3,30 @@ use borrow.Author.Needs.{needs}
 use Rattle.curvalique.proofs.naming.curvalique_name.Statement.{statement}
 use Rattle.curvalique.proofs.naming.curvalique_name.Tie as tie
 
--- src/naming.rt:80:9
 name-requires : tie.Need-name-requires
 name-requires c κs = search needs
 
--- src/naming.rt:83:32
 enum-told : tie.Need-enum-told
 enum-told c = search needs
 
--- src/naming.rt:85:13
 enum-told-2 : tie.Need-enum-told-2
 enum-told-2 c = search needs
 
--- src/naming.rt:88:23
 enum-known-answer : tie.Need-enum-known-answer
 enum-known-answer c = search needs
 
--- src/naming.rt:95:25
 enum-known-answer-2 : tie.Need-enum-known-answer-2
 enum-known-answer-2 c = search needs
 
--- src/naming.rt:67:1
 returns : tie.Need-returns
 returns c = absurd (never-numbered _ _ _ _ (c .before .before .name .ensures) _ (c .enum-told .given .1))
 
--- src/naming.rt:67:1
 returns-2 : tie.Need-returns-2
 returns-2 c = name-unknown _ _ _ _ (c .before .before .name .ensures) (c .before .before .before .before .args .length .now) _ _ _ (c .enum-told2 .given .1)
 
--- src/naming.rt:67:1
 returns-3 : tie.Need-returns-3
 returns-3 c = name-known _ _ _ _ (c .before .before .before .before .name .ensures) _ _ _ (c .before .before .answer .given .1)
 
--- src/naming.rt:67:1
 returns-4 : tie.Need-returns-4
 returns-4 c = name-not-given _ _ _ _ (c .before .before .before .name .ensures) _ _ (c .before .before .before .before .before .args .length .now) _ _ (c .before .answer2 .given .1)
 

@@ -3,35 +3,27 @@ use borrow.Author.Needs.{needs}
 use Rattle.curvalique.proofs.opening.curvalique_fresh.Statement.{statement}
 use Rattle.curvalique.proofs.opening.curvalique_fresh.Tie as tie
 
--- src/opening.rt:21:9
 fresh-requires : tie.Need-fresh-requires
 fresh-requires c κs = search needs
 
--- src/opening.rt:23:27
 enum-known-opened : tie.Need-enum-known-opened
 enum-known-opened c = search needs
 
--- src/opening.rt:24:13
 leave-arena-requires : tie.Need-leave-arena-requires
 leave-arena-requires c κs = search needs
 
--- src/opening.rt:27:29
 enum-known-opened-2 : tie.Need-enum-known-opened-2
 enum-known-opened-2 c = search needs
 
--- src/opening.rt:11:1
 same-length : tie.Need-same-length
 same-length c = search needs
 
--- src/opening.rt:11:1
 returns : tie.Need-returns
 returns c = opened-answered _ _ _ _ (c .before .before .before .before .before .before .before .before .fresh .ensures) _ _ _ _ _ (c .before .before .before .before .opened .given .1) (c .leave-arena .ensures)
 
--- src/opening.rt:11:1
 same-length-2 : tie.Need-same-length-2
 same-length-2 c = search needs
 
--- src/opening.rt:11:1
 returns-2 : tie.Need-returns-2
 returns-2 c = opened-refused _ _ _ _ (c .before .before .before .before .before .fresh .ensures) _ _ _ _ (c .before .opened2 .given .1)
 

@@ -3,23 +3,18 @@ use borrow.Author.Needs.{needs}
 use Rattle.curvalique.proofs.operators.curvalique_modulo.Statement.{statement}
 use Rattle.curvalique.proofs.operators.curvalique_modulo.Tie as tie
 
--- src/operators.rt:137:9
 modulo-requires : tie.Need-modulo-requires
 modulo-requires c κs = search needs
 
--- src/operators.rt:138:5
 leave-built-requires : tie.Need-leave-built-requires
 leave-built-requires c κs = search needs
 
--- src/operators.rt:120:1
 same-length : tie.Need-same-length
 same-length c = search needs
 
--- src/operators.rt:120:1
 same-length-2 : tie.Need-same-length-2
 same-length-2 c = search needs
 
--- src/operators.rt:120:1
 returns : tie.Need-returns
 returns c = in-numbers _ _ _ _ _ _ _ _ _ _ _ _ (c .before .before .before .before .before .before .before .before .modulo .ensures) (c .leave-built .ensures .0) (c .leave-built .ensures .1)
 

@@ -3,23 +3,18 @@ use borrow.Author.Needs.{needs}
 use Rattle.curvalique.proofs.operators.curvalique_mul.Statement.{statement}
 use Rattle.curvalique.proofs.operators.curvalique_mul.Tie as tie
 
--- src/operators.rt:71:9
 mul-requires : tie.Need-mul-requires
 mul-requires c κs = search needs
 
--- src/operators.rt:72:5
 leave-built-requires : tie.Need-leave-built-requires
 leave-built-requires c κs = search needs
 
--- src/operators.rt:54:1
 same-length : tie.Need-same-length
 same-length c = search needs
 
--- src/operators.rt:54:1
 same-length-2 : tie.Need-same-length-2
 same-length-2 c = search needs
 
--- src/operators.rt:54:1
 returns : tie.Need-returns
 returns c = in-numbers _ _ _ _ _ _ _ _ _ _ _ _ (c .before .before .before .before .before .before .before .before .mul .ensures) (c .leave-built .ensures .0) (c .leave-built .ensures .1)
 

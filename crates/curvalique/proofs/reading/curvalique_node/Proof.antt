@@ -3,27 +3,21 @@ use borrow.Author.Needs.{needs}
 use Rattle.curvalique.proofs.reading.curvalique_node.Statement.{statement}
 use Rattle.curvalique.proofs.reading.curvalique_node.Tie as tie
 
--- src/reading.rt:42:9
 node-requires : tie.Need-node-requires
 node-requires c κs = search needs
 
--- src/reading.rt:46:17
 enum-told : tie.Need-enum-told
 enum-told c = search needs
 
--- src/reading.rt:47:22
 words-of-requires : tie.Need-words-of-requires
 words-of-requires c κs = search needs
 
--- src/reading.rt:50:24
 enum-known-answer : tie.Need-enum-known-answer
 enum-known-answer c = search needs
 
--- src/reading.rt:31:1
 returns : tie.Need-returns
 returns c = words-answered _ _ _ _ _ (c .before .before .before .before .node .ensures) _ _ (c .before .before .enum-told .given .1) (c .words-of .ensures)
 
--- src/reading.rt:31:1
 returns-2 : tie.Need-returns-2
 returns-2 c = words-refused _ _ _ _ _ (c .before .before .before .node .ensures) _ _ (c .before .answer .given .1)
 

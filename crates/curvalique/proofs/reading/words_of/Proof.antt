@@ -7,23 +7,18 @@ use borrow.Author.Needs.{needs}
 use Rattle.curvalique.proofs.reading.words_of.Statement.{statement}
 use Rattle.curvalique.proofs.reading.words_of.Tie as tie
 
--- src/reading.rt:23:9
 array-read-t5 : tie.Need-array-read-t5
 array-read-t5 c = search needs
 
--- src/reading.rt:24:9
 array-read-t8 : tie.Need-array-read-t8
 array-read-t8 c = search needs
 
--- src/reading.rt:25:9
 array-read-t11 : tie.Need-array-read-t11
 array-read-t11 c = search needs
 
--- src/reading.rt:26:9
 array-read-t14 : tie.Need-array-read-t14
 array-read-t14 c = search needs
 
--- src/reading.rt:12:1
 returns : tie.Need-returns
 returns c =
     let node = c .before .args .node in

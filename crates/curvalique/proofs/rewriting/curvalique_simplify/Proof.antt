@@ -3,23 +3,18 @@ use borrow.Author.Needs.{needs}
 use Rattle.curvalique.proofs.rewriting.curvalique_simplify.Statement.{statement}
 use Rattle.curvalique.proofs.rewriting.curvalique_simplify.Tie as tie
 
--- src/rewriting.rt:31:9
 simplify-requires : tie.Need-simplify-requires
 simplify-requires c κs = search needs
 
--- src/rewriting.rt:32:5
 leave-simplified-requires : tie.Need-leave-simplified-requires
 leave-simplified-requires c κs = search needs
 
--- src/rewriting.rt:11:1
 same-length : tie.Need-same-length
 same-length c = search needs
 
--- src/rewriting.rt:11:1
 same-length-2 : tie.Need-same-length-2
 same-length-2 c = search needs
 
--- src/rewriting.rt:11:1
 returns : tie.Need-returns
 returns c = in-numbers _ _ _ _ _ _ _ _ _ _ _ _ (c .before .before .before .before .before .before .before .before .before .before .simplify .ensures) (c .leave-simplified .ensures .0) (c .leave-simplified .ensures .1)
 
