@@ -10,6 +10,8 @@ import listing
 import values
 
 READINGS = 2
+# The one refusal that a sheet of the loader may meet.
+TOO_MANY_TERMS = 23
 
 
 class Wrong(Exception):
@@ -19,7 +21,7 @@ class Wrong(Exception):
 def check(records, texts, seed):
     """Counts what was checked; `texts` are the listings of the sheet cut after each record."""
     counted = Counter(sheets=1)
-    listings = answered(records, texts, counted)
+    listings = answered(texts, counted)
     for before, after in zip(listings, listings[1:]):
         check_stays(before.nodes, after.nodes)
     for later, record in enumerate(records[: len(listings)]):
@@ -35,20 +37,21 @@ def is_simplify(record):
     return record.operand is not None and record.threshold is None
 
 
-def answered(records, texts, counted):
-    """The listings of the records up to the first that is refused or outside what the program answers."""
+def answered(texts, counted):
+    """The listings of the records up to the first that has over 4,096 terms, or is outside what the program answers."""
     listings = []
     for text in texts:
         read = listing.read(text)
-        if read.word in ("refused", "outside"):
-            counted[f"sheets cut where {read.word}"] += 1
+        if read.word == "outside" or read.refusal == TOO_MANY_TERMS:
+            counted["sheets cut short"] += 1
             break
+        require(read.refusal is None, f"refused with {read.refusal}")
         listings.append(read)
     return listings
 
 
 def check_stays(before, after):
-    """"No later call changes the formula of an id.\""""
+    """01: "No later call changes the formula of an id". Only marks may change."""
     if len(after) < len(before) or any(old.without_mark() != new.without_mark() for old, new in zip(before, after)):
         raise Wrong("a node changed")
 
@@ -89,12 +92,13 @@ def check_shape(simplified, pruned, threshold):
         case [term]:
             require(pruned.answer == term, "the one kept term is not the answer")
         case _:
-            require(chain.terms(pruned.nodes, pruned.answer) == kept, "the answer's terms are not the kept ones in order")
+            terms = chain.terms(pruned.nodes, pruned.answer)
+            require(terms == kept, "the answer's terms are not the kept ones in order")
     return kept, dropped
 
 
 def check_value(reading, before, old, nodes, dropped, pruned):
-    """"The old formula's value equals the pruned one's plus the sum of the dropped terms.\""""
+    """That "the old formula's value equals the pruned one's plus the sum of the dropped terms"."""
     old_value = values.work_out(before, reading)[old]
     of_simplified = values.work_out(nodes, reading)
     new_value = values.work_out(pruned.nodes, reading)[pruned.answer]

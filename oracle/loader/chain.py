@@ -4,7 +4,7 @@ import kinds
 
 
 def terms(nodes, root):
-    """"The terms of an Add are those of its children, left to right, a shared one each time it is met"."""
+    """01: "the terms of an Add are those of its children, left to right, a shared one each time it is met"."""
     found = []
     waiting = [root]
     while waiting:
@@ -17,7 +17,7 @@ def terms(nodes, root):
 
 
 def is_dropped(node, threshold):
-    """A constant "whose magnitude is below the threshold"."""
+    """Whether a term is a constant "whose magnitude is below the threshold"."""
     return node.kind == kinds.CONSTANT and abs(kinds.double(node.payload)) < threshold
 
 

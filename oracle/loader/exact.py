@@ -20,7 +20,7 @@ def exact(nodes):
 
 
 def is_exact(node, bound):
-    """"No Div or Pow reachable, constants finite", and the bound at this node."""
+    """Whether the node itself is no Div or Pow, is finite if a constant, and is within the bound."""
     bits, size = bound
     if node.kind in (kinds.DIV, kinds.POW) or (node.kind == kinds.CONSTANT and not kinds.is_finite(node.payload)):
         return False

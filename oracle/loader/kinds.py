@@ -28,5 +28,5 @@ def is_finite(bits):
 
 
 def number(bits):
-    """"A constant its own number, both zeros 0"; what is not finite is in no formula of the exact kind."""
+    """01: "a constant its own number, both zeros 0". What is not finite is in no formula of the exact kind."""
     return Fraction(double(bits)) if is_finite(bits) else Fraction(0)

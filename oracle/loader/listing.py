@@ -33,6 +33,8 @@ class Listing:
     word: str
     # the last answer's id, or nothing
     answer: int | None
+    # the number of a refusal, or nothing
+    refusal: int | None
     nodes: list = field(default_factory=list)
     # kept and dropped terms by the record of a prune, where the details are there
     counts: dict = field(default_factory=dict)
@@ -55,8 +57,9 @@ def first_line(line):
     match = FIRST_LINE.fullmatch(line)
     if not match:
         raise Misread(f"first line '{line}'")
-    answer = int(match[2]) if match[2] is not None else None
-    return Listing(line.split(" ")[0], answer)
+    answer = int(match[2]) if match[2] else None
+    refusal = int(match[4]) if match[4] else None
+    return Listing(line.split(" ")[0], answer, refusal)
 
 
 def node_line(listing, line):

@@ -101,4 +101,5 @@ def prune(random, palette, operand):
     magnitude = min(1.0, abs(random.choice(palette)))
     beside = nextafter(magnitude, random.choice([0.0, 1.0]))
     threshold = abs(random.choice([0.0, 1.0, magnitude, beside, random.randint(0, STEPS) / STEPS, random.random()]))
-    return Record(b"\x07" + operand.to_bytes(2, "big") + kinds.bits_of(threshold).to_bytes(8, "big"), operand, threshold)
+    body = b"\x07" + operand.to_bytes(2, "big") + kinds.bits_of(threshold).to_bytes(8, "big")
+    return Record(body, operand, threshold)

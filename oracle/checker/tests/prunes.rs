@@ -57,7 +57,9 @@ impl Test {
     fn shown(&mut self, pruning: &Call) {
         let answer = call(&mut self.store, pruning);
         match answer {
-            Ok(CallAnswer::Pruned(pruned)) => self.line += &format!(" {} {} {}", pruned.id, pruned.kept, pruned.dropped),
+            Ok(CallAnswer::Pruned(pruned)) => {
+                self.line += &format!(" {} {} {}", pruned.id, pruned.kept, pruned.dropped)
+            }
             Ok(other) => panic!("{other:?}"),
             Err(refusal) => self.line += &format!(" refused {}", refusal.number()),
         }
