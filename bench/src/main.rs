@@ -1,14 +1,17 @@
 //! Times the port beside the Rust original on the same inputs, in one process, and checks that both give the same answers.
 //! Arguments, if any, choose measurements by their first words.
 
+mod by_hand;
 mod inputs;
 mod ours;
+mod sheets;
 mod store;
 mod theirs;
 mod timing;
 
 use inputs::{Chain, Changing, Formula, Settled, THRESHOLD, requests, variables};
 use ours::Ours;
+use sheets::Writer;
 use store::Store;
 use theirs::{unchanged, with_counters, without_clock};
 use timing::{ROUNDS, interleaved, median, timed};
@@ -131,6 +134,53 @@ fn pruning(store: &mut Ours, chain: &Chain, threshold: f64, earlier: usize) {
     row(&what, "ns a term", times[0], times[1], None);
 }
 
+/// The same prune by hand, beside the port's and the Rust's.
+fn pruning_by_hand(store: &mut Ours, chain: &Chain) {
+    let root = fresh(store, chain);
+    let answer = store.prune(root, THRESHOLD).0;
+    let nodes = store.nodes();
+    fresh(store, chain);
+    assert_eq!(answer, by_hand::prune(store, root, THRESHOLD));
+    assert_eq!(nodes, store.nodes());
+
+    let many = f64::from(chain.terms);
+    let shared = std::cell::RefCell::new(store);
+    let times = interleaved(&mut [
+        &mut || {
+            fresh(&mut shared.borrow_mut(), chain);
+            timed(|| shared.borrow_mut().prune(root, THRESHOLD)).0 / many
+        },
+        &mut || {
+            fresh(&mut shared.borrow_mut(), chain);
+            timed(|| by_hand::prune(&mut shared.borrow_mut(), root, THRESHOLD)).0 / many
+        },
+        &mut || {
+            let mut theirs = unchanged::Theirs::new();
+            chain.build(&mut theirs);
+            timed(|| theirs.prune(root, THRESHOLD)).0 / many
+        },
+    ]);
+    println!("| {} | {:.1} | {:.1} | {:.1} ({:.2}) |", chain.others, times[0], times[1], times[2], times[2] / times[1]);
+}
+
+/// A whole sheet on a fresh store: read, built, simplified and pruned.
+fn whole_sheet(store: &mut Ours, items: u32) {
+    let (sheet, records) = Writer::sheet(&Changing { items });
+    let answer = store.run_sheet(&sheet);
+    let mut theirs = unchanged::Theirs::new();
+    assert_eq!(answer, sheets::perform(&sheet, &mut theirs));
+    assert_eq!(store.nodes(), theirs.nodes());
+
+    let many = f64::from(records);
+    let times = interleaved(&mut [
+        &mut || timed(|| assert_eq!(store.run_sheet(&sheet), answer)).0 / many,
+        &mut || timed(|| assert_eq!(sheets::perform(&sheet, &mut unchanged::Theirs::new()), answer)).0 / many,
+        &mut || timed(|| assert_eq!(sheets::perform(&sheet, &mut without_clock::Theirs::new()), answer)).0 / many,
+    ]);
+    let what = format!("whole sheet: {records} records, {} bytes, {} nodes", sheet.len(), store.nodes().len());
+    row(&what, "ns a record", times[0], times[1], Some(times[2]));
+}
+
 /// The hash alone, which 01 prescribes by bytes: each waiting for the one before, as in a build, and side by side.
 fn hashing(what: &str, kind: u64, payload: u64, children: &[u64]) {
     const MANY: usize = 20_000;
@@ -183,6 +233,17 @@ fn main() {
         }
         for earlier in [0, 1] {
             pruning(&mut store, &Chain { terms: TERMS, others: 0 }, 0.0, earlier);
+        }
+    }
+    if chosen("sheets") {
+        for items in [8, 32, 96] {
+            whole_sheet(&mut store, items);
+        }
+    }
+    if chosen("hand") {
+        println!("\n| other nodes | ours, ns a term | by hand | the Rust (ratio to by hand) |\n|---|---|---|---|");
+        for others in [0, 16_000, 50_000] {
+            pruning_by_hand(&mut store, &Chain { terms: TERMS, others });
         }
     }
     if chosen("hashing") {

@@ -15,6 +15,10 @@ unsafe extern "C" {
         nodes: *mut u64, words: usize, slots: *mut u32, lent: usize, count: *mut u64, size: *mut usize,
         code: c_uint, flags: c_uint, operands: *const u32, operand_count: usize, id: *mut u64,
     ) -> u64;
+    fn curvalique_run_sheet_fresh(
+        sheet: *const u8, length: usize, nodes: *mut u64, words: usize, slots: *mut u32, lent: usize, count: *mut u64, size: *mut usize,
+        form: *mut u64, id: *mut u64, record: *mut u64,
+    ) -> u64;
     fn curvalique_audit(nodes: *const u64, words: usize, slots: *const u32, lent: usize, count: u64, size: usize) -> bool;
     fn curvalique_node_hash(kind: u64, payload: u64, children: *const u64, many: usize) -> u64;
     fn curvalique_build_sound(
@@ -91,6 +95,29 @@ impl Ours {
             )
         };
         assert_eq!(refusal, 0);
+        id as u32
+    }
+
+    /// The lists and counts themselves, for `by_hand`.
+    pub fn lists(&mut self) -> (*mut u64, *mut u32, u64, usize) {
+        (self.nodes.as_mut_ptr(), self.slots.as_mut_ptr(), self.count, self.size)
+    }
+
+    pub fn set_count(&mut self, count: u64) {
+        self.count = count;
+    }
+
+    /// A sheet on a fresh store; the last answer.
+    pub fn run_sheet(&mut self, sheet: &[u8]) -> u32 {
+        let (mut form, mut id, mut record) = (0, 0, 0);
+        // SAFETY: as in `clear`; the sheet is borrowed for the call.
+        let refusal = unsafe {
+            curvalique_run_sheet_fresh(
+                sheet.as_ptr(), sheet.len(), self.nodes.as_mut_ptr(), self.nodes.len(), self.slots.as_mut_ptr(), self.slots.len(),
+                &mut self.count, &mut self.size, &mut form, &mut id, &mut record,
+            )
+        };
+        assert_eq!((refusal, form), (0, 0));
         id as u32
     }
 

