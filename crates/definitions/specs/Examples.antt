@@ -40,6 +40,9 @@ two = 0x4000000000000000
 abbrev three : ℕ
 three = 0x4008000000000000
 
+abbrev five : ℕ
+five = 0x4014000000000000
+
 abbrev hundredth : ℕ
 hundredth = 0x3F847AE147AE147B
 
@@ -204,11 +207,12 @@ identityCases =
     -- 0 * -1 gives 0.0, and so does -0.0 * 1
     ∷ binary 2 plusZero minusOne plusZero
     ∷ binary 2 minusZero one plusZero
-    -- 0 / -1 gives 0.0
+    -- 0 / -1 gives 0.0, and so does -0.0 / 5
     ∷ binary 3 plusZero minusOne plusZero
+    ∷ binary 3 minusZero five plusZero
     ∷ []
 
-pub identity-cases : map (λ (cs : List Call). answers lent empty cs) identityCases ≡ map answeredBy (3 ∷ 1 ∷ 1 ∷ 0 ∷ 3 ∷ 0 ∷ [])
+pub identity-cases : map (λ (cs : List Call). answers lent empty cs) identityCases ≡ map answeredBy (3 ∷ 1 ∷ 1 ∷ 0 ∷ 3 ∷ 0 ∷ 3 ∷ [])
 unfolding answers
 identity-cases = refl
 

@@ -114,4 +114,30 @@ unsafe extern "C" {
         name_length: usize,
         number: *mut u64,
     ) -> u64;
+    pub fn curvalique_run_sheet_fresh(
+        sheet: *const u8,
+        sheet_length: usize,
+        nodes: *mut u64,
+        nodes_length: usize,
+        slots: *mut u32,
+        slots_length: usize,
+        count: *mut u64,
+        size: *mut usize,
+        form: *mut u64,
+        id: *mut u64,
+        record: *mut u64,
+    ) -> u64;
+    pub fn curvalique_list_sheet(sheet: *const u8, sheet_length: usize, listing: *mut u8, length: *mut usize);
+    pub fn curvalique_read_listing(
+        bytes: *const u8,
+        bytes_length: usize,
+        nodes: *mut u64,
+        nodes_length: usize,
+        count: *mut u64,
+        form: *mut u64,
+        id: *mut u64,
+        number: *mut u64,
+        record: *mut u64,
+        line: *mut u64,
+    ) -> u64;
 }

@@ -4,6 +4,7 @@ pub mod calls;
 mod interface;
 pub mod lists;
 pub mod names;
+pub mod sheets;
 
 /// What the interface returns for a call that is not refused.
 const ANSWERED: u64 = 0;
