@@ -7,3 +7,4 @@ pub mod Adding
 pub mod Marking
 pub mod Finding
 pub mod Forming
+pub mod Coefficient
