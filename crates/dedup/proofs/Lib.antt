@@ -1,6 +1,7 @@
 pub mod Doubling
 pub mod Rounds
 pub mod Searching
+pub mod GreatestChild
 pub mod Pigeon
 pub mod Placing
 pub mod Renewing

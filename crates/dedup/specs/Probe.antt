@@ -1,8 +1,8 @@
 -- What a search round the table finds.
-use Prim.Native.Nat.{ℕ, zero, suc, _+_, _%_, _≤_, _<_}
+use Prim.Native.Nat.{ℕ, zero, suc, _+_, _%_, _≤_, _<_, max}
 use mathlib.Core.Path.{_≡_}
 use mathlib.Core.Bool.{Bool, true, false, _&&_}
-use mathlib.Core.List.{List}
+use mathlib.Core.List.{List, [], _∷_}
 use lib.ListN.{length, getD}
 use lib.Dec.{ltb}
 use Rattle.arena.specs.declared.node.DagNode.{DagNode}
@@ -16,6 +16,11 @@ use Rattle.dedup.specs.Table.{TableSize, slotFrom, InUse}
 unfoldable pub holds : List ℕ → ℕ → DagNode → ℕ → Bool
 holds words known key zero = false
 holds words known key (suc id) = ltb id known && one (nodeAt words id) key
+
+-- the greatest of child places, 0 if there is none
+unfoldable pub greatestChild : List ℕ → ℕ
+greatestChild [] = 0
+greatestChild (child ∷ children) = max child (greatestChild children)
 
 -- what a search needs: a table, and the nodes that it compares
 pub record Ready (words : List ℕ) (known : ℕ) (slots : List ℕ) (size : ℕ) (key : DagNode) : Type 0 where

@@ -3,10 +3,11 @@ ghost use mathlib.Core.Path.{_≡_};
 ghost use Prim.Native.Nat.{_-_, _<_};
 ghost use Rattle.arena.specs.Node.{nodeHash};
 ghost use Rattle.arena.specs.Nodes.{AllWellFormed};
-ghost use Rattle.dedup.specs.Probe.{holds, Ready, Probed};
+ghost use Rattle.dedup.specs.Probe.{greatestChild, holds, Ready, Probed};
 use crate::sizes::modulo_size;
 use arena::DagNode;
 use arena::HASH;
+use arena::MOST_CHILDREN;
 use arena::NODE_WORDS;
 use arena::load;
 use arena::same_node;
@@ -26,13 +27,33 @@ pub fn slot_id(slot: u32) -> u64
     (slot - 1) as u64
 }
 
-// Whether a slot in use holds an id below `known` whose node is one with the key. The hash is compared first.
-fn slot_holds(nodes: &[u64], slot: u32, key: DagNode, known: u64) -> bool
-    requires { ⌜ (0 < slot) × AllWellFormed (now nodes) known × (key .hash ≡ nodeHash key) ⌝ }
+// The greatest of a node's child places; unused ones are 0.
+fn greatest_child(children: [u64; MOST_CHILDREN]) -> u64
+    ensures { λ r. ⌜ r ≡ greatestChild children ⌝ }
+{
+    let mut greatest: u64 = 0;
+    let mut j: usize = 0;
+    while j < MOST_CHILDREN {
+        let child = children[j];
+        if greatest < child {
+            greatest = child;
+        }
+        j += 1;
+    }
+    greatest
+}
+
+// Whether a slot in use holds an id below `known` whose node is one with the key. Children are lower than their
+// node, so a node below the key's greatest child is another and is not read. The hash is compared first.
+fn slot_holds(nodes: &[u64], slot: u32, key: DagNode, greatest: u64, known: u64) -> bool
+    requires { ⌜ (0 < slot) × AllWellFormed (now nodes) known × (key .hash ≡ nodeHash key) × (greatest ≡ greatestChild (key .children)) ⌝ }
     ensures { λ r. ⌜ r ≡ holds (now (nodes .entry)) known key slot ⌝ }
 {
     let id = slot_id(slot);
     if known <= id {
+        return false;
+    }
+    if id < greatest {
         return false;
     }
     if nodes[id as usize * NODE_WORDS + HASH] != key.hash {
@@ -47,6 +68,8 @@ pub fn probe(nodes: &[u64], slots: &[u32], size: usize, key: DagNode, known: u64
     requires { ⌜ Ready (now nodes) known (now slots) size key ⌝ }
     ensures { λ r. ⌜ Probed (now (nodes .entry)) known (now (slots .entry)) size key r ⌝ }
 {
+    let children = key.children;
+    let greatest = greatest_child(children);
     let mut at = modulo_size(key.hash as usize, size);
     let mut passed: usize = 0;
     while passed < size {
@@ -54,7 +77,7 @@ pub fn probe(nodes: &[u64], slots: &[u32], size: usize, key: DagNode, known: u64
         if slot == 0 {
             return Place::Free(at);
         }
-        if slot_holds(nodes, slot, key, known) {
+        if slot_holds(nodes, slot, key, greatest, known) {
             return Place::Here(at);
         }
         at = modulo_size(at + 1, size);
