@@ -20,3 +20,4 @@ pub mod NearestNumber
 pub mod SettingAnswers
 pub mod Instance
 pub mod FractionBits
+pub mod KnownNames
