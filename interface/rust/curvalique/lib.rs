@@ -1,0 +1,29 @@
+//! Safe calls of libcurvalique. What each call does is said in include/curvalique.h.
+
+mod listing;
+mod names;
+pub mod raw;
+mod refusal;
+mod sheet;
+mod store;
+
+pub use listing::{Listing, Outcome, Unread, list_sheet, read_listing};
+pub use names::Names;
+pub use refusal::Refusal;
+pub use sheet::{RefusedSheet, SheetAnswer};
+pub use store::{Node, Pruned, Simplified, Store};
+
+pub const NODE_WORDS: usize = 10;
+pub const ENTRY_BYTES: usize = 33;
+pub const LONGEST_NAME: usize = 32;
+pub const LISTING_BYTES: usize = 98_496;
+
+// The forms of a sheet's answer and of a listing's first line.
+pub const FORM_OK: u64 = 0;
+pub const FORM_EMPTY: u64 = 1;
+pub const FORM_SPENT: u64 = 2;
+pub const FORM_REFUSED: u64 = 3;
+
+// Why a listing is not read.
+pub const WRONG_LINE: u64 = 1;
+pub const TOO_FEW_WORDS: u64 = 2;

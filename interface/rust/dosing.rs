@@ -1,0 +1,66 @@
+//! Builds the dosing formula of samples/dosing.txt by calls of the library, simplifies it, prunes it, and reads its
+//! nodes back. Standard output gets the listing that document 01 describes, which the loader reads; standard error gets
+//! what simplify and prune report.
+
+use std::process::ExitCode;
+
+use curvalique::{NODE_WORDS, Refusal, Store};
+
+const NODES: usize = 64;
+const SLOTS: usize = 128;
+
+// The symbols of the variables, and what is asked of simplify and prune.
+const FLOW: u32 = 1;
+const CHLORINE: u32 = 2;
+const DEPTH: u32 = 255;
+const BUDGET: u64 = 1_000_000;
+const THRESHOLD: f64 = 0.01;
+
+/// 2 * (flow * 1.0) + 0.5 * chlorine + 0.004
+fn formula(store: &mut Store) -> Result<u32, Refusal> {
+    let (flow, chlorine) = (store.variable(FLOW)?, store.variable(CHLORINE)?);
+    let (one, two) = (store.constant(1.0)?, store.constant(2.0)?);
+    let (half, trace) = (store.constant(0.5)?, store.constant(0.004)?);
+    let plain = store.mul(flow, one)?;
+    let fed = store.mul(two, plain)?;
+    let acid = store.mul(half, chlorine)?;
+    let both = store.add(fed, acid)?;
+    store.add(both, trace)
+}
+
+fn simplify(store: &mut Store, root: u32) -> Result<u32, Refusal> {
+    let simplified = store.simplify(root, DEPTH, BUDGET)?;
+    let spent = u64::from(simplified.spent);
+    eprintln!("simplified {root} to {}: spent {spent}, steps {}", simplified.id, simplified.steps);
+    Ok(simplified.id)
+}
+
+fn prune(store: &mut Store, root: u32) -> Result<u32, Refusal> {
+    let pruned = store.prune(root, THRESHOLD)?;
+    eprintln!("pruned {root} to {}: kept {}, dropped {}", pruned.id, pruned.kept, pruned.dropped);
+    Ok(pruned.id)
+}
+
+fn print_node(store: &Store, id: u32) -> Result<(), Refusal> {
+    let node = store.node(id)?;
+    let children: String = node.children().iter().map(|child| format!(" {child}")).collect();
+    println!("{id} {} {:016X} {}{children}", node.kind, node.payload, node.flags);
+    Ok(())
+}
+
+fn run() -> Result<(), Refusal> {
+    let (mut nodes, mut slots) = ([0; NODES * NODE_WORDS], [0; SLOTS]);
+    let mut store = Store::fresh(&mut nodes, &mut slots)?;
+    let root = formula(&mut store)?;
+    let simplified = simplify(&mut store, root)?;
+    println!("ok {}", prune(&mut store, simplified)?);
+    (0..store.count as u32).try_for_each(|id| print_node(&store, id))
+}
+
+fn main() -> ExitCode {
+    if let Err(refusal) = run() {
+        eprintln!("dosing: {refusal}");
+        return ExitCode::FAILURE;
+    }
+    ExitCode::SUCCESS
+}
