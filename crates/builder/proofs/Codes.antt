@@ -11,7 +11,7 @@ use Rattle.arena.specs.Kind.{operatorArity, controlArity}
 use Rattle.arena.specs.Node.{canonical}
 use Rattle.arena.proofs.Deciding.{both}
 use Rattle.arena.proofs.Listing as L
-use Rattle.definitions.specs.Node.{childCountListed, node, variableKind, constantKind, addKind, negKind, functionKind, controlKind, forLoopControl}
+use Rattle.definitions.specs.Node.{childCountListed, node, variableKind, constantKind, addKind, negKind, functionKind, controlKind, forLoopControl, lastOperator, bothFlags}
 use Rattle.definitions.specs.Machine.{requested, request, operator}
 use Rattle.builder.specs.Stores.{Asked}
 
@@ -49,11 +49,11 @@ pub asked-control-code : (code : ℕ) → Asked (leb code forLoopControl) contro
 asked-control-code code = record { counts = λ t n. control-counts code n (leb-true code forLoopControl t); unmarked = λ _. omega arith }
 
 -- an operator by its code
-module _ (listed : Bool) (code flags : ℕ) (e : listed ≡ (leb code 6 && leb flags 3)) where
+module _ (listed : Bool) (code flags : ℕ) (e : listed ≡ (leb code lastOperator && leb flags bothFlags)) where
   pub asked-operator-code : Asked listed (addKind + code) 0 flags
   asked-operator-code = record {
-    counts = λ t n. let l = leb-true code 6 (both (leb code 6) (leb flags 3) (sym e ∙ t) .0) in operator-counts (addKind + code) n (omega arith) (omega arith);
-    unmarked = λ t. let l = leb-true flags 3 (both (leb code 6) (leb flags 3) (sym e ∙ t) .1) in omega arith;
+    counts = λ t n. let l = leb-true code lastOperator (both (leb code lastOperator) (leb flags bothFlags) (sym e ∙ t) .0) in operator-counts (addKind + code) n (omega arith) (omega arith);
+    unmarked = λ t. let l = leb-true flags bothFlags (both (leb code lastOperator) (leb flags bothFlags) (sym e ∙ t) .1) in omega arith;
   }
 
   pub operator-request : (operands : List ℕ) → requested (operator code flags operands) ≡ request listed (node (addKind + code) 0 flags operands)

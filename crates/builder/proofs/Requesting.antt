@@ -1,9 +1,9 @@
 -- The constructors' shared work is the plain machine's store call.
-use Prim.Native.Nat.{ℕ, _≤_, _<_}
-use mathlib.Core.Path.{_≡_, refl, sym, ap, _∙_, subst}
-use mathlib.Core.Bool.{Bool, true, false, cond}
+use Prim.Native.Nat.{ℕ}
+use mathlib.Core.Path.{_≡_, refl, sym, ap, _∙_}
+use mathlib.Core.Bool.{Bool, true, false}
 use mathlib.Core.List.{List}
-use lib.ListN.{length, getD, take}
+use lib.ListN.{length}
 use native.Mathlib.Omega.{arith}
 use Rattle.arena.specs.declared.DagArena.{DagArena}
 use Rattle.arena.specs.declared.node.DagNode.{DagNode}
@@ -11,7 +11,7 @@ use Rattle.arena.specs.Kind as Kind
 use Rattle.arena.specs.Node.{newNode}
 use Rattle.definitions.specs.Node as N
 use Rattle.definitions.specs.Intern as I
-use Rattle.definitions.specs.Refusals.{notSound, badOperand, badCode, badChildCount}
+use Rattle.definitions.specs.Refusals.{badOperand, badCode, badChildCount}
 use Rattle.definitions.specs.Machine as M
 use Rattle.definitions.specs.Machine.{call, storeCall, storedAs, requested, request, allBelow, onNodes, outcome, refused}
 use Rattle.store.specs.declared.Built.{Built}
@@ -20,20 +20,27 @@ use Rattle.store.specs.declared.Answer.the-variants.{Id, Refused}
 use Rattle.store.specs.Sound.{Sound}
 use Rattle.store.specs.View.{plainNode, nodesIn, lent, plainBuilt}
 use Rattle.store.specs.Lookup.{Places, Fits}
-use Rattle.store.specs.Memory.{memory, answerOf}
+use Rattle.store.specs.Memory.{Memory, memory, model, answerOf, Leaves}
 use Rattle.store.specs.Interning.{Interns}
 use Rattle.store.proofs.NewNodes.{new-plain}
 use Rattle.store.proofs.Viewing.{plain-length}
-use Rattle.store.proofs.Leaving.{leaves-unsound, leaves-kept, leaves-refused}
-use Rattle.builder.specs.Stores.{Stores, StoresAll, Asked}
+use Rattle.store.proofs.Keeping.{kept-refl}
+use Rattle.store.proofs.Leaving.{leaves-unsound, leaves-kept}
+use Rattle.builder.specs.Stores.{BuildsSound, BuildsAudited, unsound, sound, Asked}
 use Rattle.builder.proofs.Operands.{below-each, place-at}
 
--- an answer that only gives a number
-abbrev pub refusal : ℕ → DagArena → Built
-refusal number arena = record { answer = Refused number; arena = arena }
+-- a call that wants what was asked for
+module _ (c : M.Store) (q : M.Request) (e : requested c ≡ q) (m : Memory) where
+  pub stores-sound : (a : M.Answer) (m′ : Memory) → model .Sound m → BuildsSound q m a m′ → Leaves (M.store c) m a m′
+  unfolding call
+  stores-sound a m′ h b =
+      leaves-kept (M.store c) m a m′ h (b .kept)
+      (ap (λ (x : M.Request). onNodes (model .view m) (storeCall (model .lent m) (model .view m .nodes) x)) e ∙ ap (onNodes (model .view m)) (sym (b .outcome)))
+      (λ number r _. b .unchanged number r)
 
-pub stores-unsound : (listed : Bool) (kind payload flags : ℕ) (operands w slots : List ℕ) (s : DagArena) → (Sound w slots s → ⊥) → StoresAll listed kind payload flags operands w slots s w slots (refusal notSound s)
-stores-unsound listed kind payload flags operands w slots s n c e = leaves-unsound (M.store c) (memory w slots s) n
+  pub stores-audited : (a : M.Answer) (m′ : Memory) → BuildsAudited q m a m′ → Leaves (M.store c) m a m′
+  stores-audited _ _ (unsound n) = leaves-unsound (M.store c) m n
+  stores-audited a m′ (sound h b) = stores-sound a m′ h b
 
 -- an answer, plainly
 answered : (a : Answer) (ns : List N.Node) → storedAs (plainBuilt a ns) ≡ outcome (answerOf a) ns
@@ -51,27 +58,27 @@ module _ (listed : Bool) (kind payload flags : ℕ) (operands w slots : List ℕ
   abbrev wanted : M.Request
   wanted = request listed (N.node kind payload flags operands)
 
-  called : (c : M.Store) (o : M.Outcome) → requested c ≡ wanted → storeCall (lent w slots) ns wanted ≡ o → call (lent w slots) (M.state ns) (M.store c) ≡ onNodes (M.state ns) o
-  unfolding call
-  called c o e f = ap (λ (q : M.Request). onNodes (M.state ns) (storeCall (lent w slots) ns q)) e ∙ ap (onNodes (M.state ns)) f
+  -- an answer that only gives a number
+  abbrev Refuses : ℕ → Type 0
+  Refuses number = BuildsSound wanted (memory w slots s) (refused number) (memory w slots s)
 
-  refuses : (number : ℕ) → storeCall (lent w slots) ns wanted ≡ outcome (refused number) ns → StoresAll listed kind payload flags operands w slots s w slots (refusal number s)
-  refuses number f c e = leaves-refused (M.store c) (memory w slots s) number h (called c _ e f)
+  refuses : (number : ℕ) → storeCall (lent w slots) ns wanted ≡ outcome (refused number) ns → Refuses number
+  refuses number e = record { outcome = sym e; kept = kept-refl w slots s h; unchanged = λ _ _. refl }
 
   -- 5
-  pub refuse-code : listed ≡ false → StoresAll listed kind payload flags operands w slots s w slots (refusal badCode s)
+  pub refuse-code : listed ≡ false → Refuses badCode
   unfolding storeCall
   refuse-code l = refuses badCode (rw l refl)
 
   module _ (l : listed ≡ true) where
     -- 6
-    pub refuse-count : (r : Bool) → r ≡ Kind.listed kind payload (length operands) → r ≡ false → StoresAll listed kind payload flags operands w slots s w slots (refusal badChildCount s)
+    pub refuse-count : (r : Bool) → r ≡ Kind.listed kind payload (length operands) → r ≡ false → Refuses badChildCount
     unfolding storeCall
     refuse-count r k f = refuses badChildCount (rw (l, asked .counts l (length operands), ← k, f) refl)
 
     module _ (k : Kind.listed kind payload (length operands) ≡ true) where
       -- 4
-      pub refuse-operand : (r : Bool) → r ≡ allBelow (s .count) operands → r ≡ false → StoresAll listed kind payload flags operands w slots s w slots (refusal badOperand s)
+      pub refuse-operand : (r : Bool) → r ≡ allBelow (s .count) operands → r ≡ false → Refuses badOperand
       unfolding storeCall
       refuse-operand r b f = refuses badOperand (rw (l, asked .counts l (length operands), k, plain-length w (s .count), ← b, f) refl)
 
@@ -90,10 +97,9 @@ module _ (listed : Bool) (kind payload flags : ℕ) (operands w slots : List ℕ
         passed = rw (l, asked .counts l (length operands), k, plain-length w (s .count), b) refl
 
         -- the id of the node, 21 or 22
-        pub interned : (key : DagNode) → key ≡ newNode kind payload flags (length operands) places → (w′ slots′ : List ℕ) (r : Built) → Interns w slots s (plainNode key) w′ slots′ r → StoresAll listed kind payload flags operands w slots s w′ slots′ r
-        interned key q w′ slots′ r i c e =
+        pub interned : (key : DagNode) → key ≡ newNode kind payload flags (length operands) places → (w′ slots′ : List ℕ) (r : Built) → Interns w slots s (plainNode key) w′ slots′ r → BuildsSound wanted (memory w slots s) (answerOf (r .answer)) (memory w′ slots′ (r .arena))
+        interned key q w′ slots′ r i =
             let plain : plainNode key ≡ N.node kind payload flags operands = ap plainNode q ∙ new-plain (s .count) kind payload flags (length operands) places fits ∙ ap (N.node kind payload flags) (p .taken) in
             let o : storedAs (I.intern (lent w slots) ns (N.node kind payload flags operands)) ≡ outcome (answerOf (r .answer)) (nodesIn w′ (r .arena .count)) =
             ap (λ (n : N.Node). storedAs (I.intern (lent w slots) ns n)) (sym plain) ∙ ap storedAs (sym (i .builds .answer)) ∙ answered (r .answer) (nodesIn w′ (r .arena .count)) in
-            leaves-kept (M.store c) (memory w slots s) (answerOf (r .answer)) (memory w′ slots′ (r .arena)) h (i .builds .kept) (called c _ e (passed ∙ o))
-            (λ number a _. i .unchanged number (refused-is (r .answer) number a))
+            record { outcome = sym (passed ∙ o); kept = i .builds .kept; unchanged = λ number a. i .unchanged number (refused-is (r .answer) number a) }

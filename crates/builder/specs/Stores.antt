@@ -7,17 +7,26 @@ use Rattle.arena.specs.declared.DagArena.{DagArena}
 use Rattle.arena.specs.Kind as Kind
 use Rattle.arena.specs.Node.{canonical}
 use Rattle.definitions.specs.Node as N
+use Rattle.definitions.specs.Refusals.{notSound}
 use Rattle.definitions.specs.Machine as M
 use Rattle.store.specs.declared.Built.{Built}
-use Rattle.store.specs.Memory.{memory, answerOf, Leaves}
+use Rattle.store.specs.View.{Kept}
+use Rattle.store.specs.Memory.{Memory, memory, model, answerOf, Leaves}
 
 -- a store call, on the memory before it, with its answer and the memory after it
 abbrev pub Stores : M.Store → List ℕ → List ℕ → DagArena → List ℕ → List ℕ → Built → Type 0
 Stores c words slots arena words′ slots′ r = Leaves (M.store c) (memory words slots arena) (answerOf (r .answer)) (memory words′ slots′ (r .arena))
 
--- every store call that wants this node, with `listed` saying whether its operator, flags or control value is
-abbrev pub StoresAll : Bool → ℕ → ℕ → ℕ → List ℕ → List ℕ → List ℕ → DagArena → List ℕ → List ℕ → Built → Type 0
-StoresAll listed kind payload flags operands words slots arena words′ slots′ r = (c : M.Store) → M.requested c ≡ M.request listed (N.node kind payload flags operands) → Stores c words slots arena words′ slots′ r
+-- A request on a sound store: the plain machine's answer and nodes, and what every call keeps of the memory. A refusal changes nothing.
+pub record BuildsSound (q : M.Request) (m : Memory) (a : M.Answer) (m′ : Memory) : Type 0 where
+  pub outcome : M.outcome a (model .view m′ .nodes) ≡ M.storeCall (model .lent m) (model .view m .nodes) q
+  pub kept : Kept (m .words) (m .slots) (m .arena) (m′ .words) (m′ .slots) (m′ .arena)
+  pub unchanged : (number : ℕ) → a ≡ M.refused number → m′ ≡ m
+
+-- A request on any store, which is audited: 20 and nothing changed where it is not sound.
+pub data BuildsAudited (q : M.Request) (m : Memory) : M.Answer → Memory → Type 0 where
+  unsound : (model .Sound m → ⊥) → BuildsAudited q m (M.refused notSound) m
+  sound : {a : M.Answer} {m′ : Memory} → model .Sound m → BuildsSound q m a m′ → BuildsAudited q m a m′
 
 -- A kind, payload and flags that unmarked nodes have, unless they are not listed: a sound store's nodes have the child counts that the plain
 -- machine lists.

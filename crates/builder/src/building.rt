@@ -3,10 +3,12 @@ ghost use mathlib.Core.Path.{_≡_};
 ghost use Prim.Native.Nat.{ℕ, _≤_};
 ghost use lib.ListN.{length};
 ghost use Rattle.arena.specs.Layout.{mostChildren};
-ghost use Rattle.definitions.specs.Machine.{allBelow};
+ghost use Rattle.definitions.specs.Node as N;
+ghost use Rattle.definitions.specs.Machine as M;
 ghost use Rattle.store.specs.Sound.{Sound};
+ghost use Rattle.store.specs.Memory.{memory, answerOf};
 ghost use Rattle.store.specs.Lookup.{Places};
-ghost use Rattle.builder.specs.Stores.{StoresAll, Asked};
+ghost use Rattle.builder.specs.Stores.{BuildsSound, BuildsAudited, Asked};
 use crate::BAD_CHILD_COUNT;
 use crate::BAD_CODE;
 use crate::BAD_OPERAND;
@@ -22,7 +24,7 @@ use store::intern_node;
 
 // Whether all operands are ids below the count.
 fn all_below(operands: &[u32], count: u64) -> bool
-    ensures { λ r. ⌜ r ≡ allBelow count (now (operands .entry)) ⌝ }
+    ensures { λ r. ⌜ r ≡ M.allBelow count (now (operands .entry)) ⌝ }
 {
     let mut j: usize = 0;
     while j < operands.len() {
@@ -60,7 +62,7 @@ pub fn build_sound(
     operands: &[u32],
 ) -> Built
     requires { ⌜ Asked listed kind payload flags × Sound (now nodes) (now slots) arena ⌝ }
-    ensures { λ r. ⌜ StoresAll listed kind payload flags (now (operands .entry)) (now (nodes .entry)) (now (slots .entry)) arena (now (nodes .exit)) (now (slots .exit)) r ⌝ }
+    ensures { λ r. ⌜ BuildsSound (M.request listed (N.node kind payload flags (now (operands .entry)))) (memory (now (nodes .entry)) (now (slots .entry)) arena) (answerOf (r .answer)) (memory (now (nodes .exit)) (now (slots .exit)) (r .arena)) ⌝ }
 {
     if !listed {
         return Built {
@@ -87,7 +89,7 @@ pub fn build_sound(
 }
 
 // The same after the audit: 20 comes first.
-pub fn build(
+pub(crate) fn build(
     nodes: &mut [u64],
     slots: &mut [u32],
     arena: DagArena,
@@ -98,7 +100,7 @@ pub fn build(
     operands: &[u32],
 ) -> Built
     requires { ⌜ Asked listed kind payload flags ⌝ }
-    ensures { λ r. ⌜ StoresAll listed kind payload flags (now (operands .entry)) (now (nodes .entry)) (now (slots .entry)) arena (now (nodes .exit)) (now (slots .exit)) r ⌝ }
+    ensures { λ r. ⌜ BuildsAudited (M.request listed (N.node kind payload flags (now (operands .entry)))) (memory (now (nodes .entry)) (now (slots .entry)) arena) (answerOf (r .answer)) (memory (now (nodes .exit)) (now (slots .exit)) (r .arena)) ⌝ }
 {
     if !audit(nodes, slots, arena) {
         return Built {

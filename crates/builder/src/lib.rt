@@ -19,6 +19,7 @@ pub use opening::FreshStore;
 pub use opening::fresh;
 pub use operators::add;
 pub use operators::div;
+pub use operators::is_operator;
 pub use operators::modulo;
 pub use operators::mul;
 pub use operators::neg;

@@ -2,6 +2,7 @@
 ghost use mathlib.Core.Path.{_≡_};
 ghost use mathlib.Core.Bool.{_&&_};
 ghost use lib.Dec.{leb};
+ghost use Rattle.definitions.specs.Node.{lastOperator, bothFlags};
 ghost use Rattle.definitions.specs.Machine as M;
 ghost use Rattle.builder.specs.Stores.{Stores};
 use crate::building::build;
@@ -17,12 +18,10 @@ use arena::kind::POW;
 use arena::kind::SUB;
 use store::Built;
 
-// The flags of `add` and `mul`.
+// The flags of `add` and `mul`, the highest that a call may give.
 const REORDERABLE: u64 = COMMUTATIVE + ASSOCIATIVE;
 // Operator codes run from 0 Add to 6 Neg.
-const LAST_CODE: u32 = 6;
-
-const LAST_FLAGS: u32 = 3;
+const LAST_OPERATOR: u64 = NEG - ADD;
 
 // The sum of two.
 pub fn add(nodes: &mut [u64], slots: &mut [u32], arena: DagArena, a: u32, b: u32) -> Built
@@ -80,12 +79,12 @@ pub fn neg(nodes: &mut [u64], slots: &mut [u32], arena: DagArena, a: u32) -> Bui
     build(nodes, slots, arena, true, NEG, 0, 0, &operands)
 }
 
-// Whether code and flags are listed.
-fn is_operator(code: u32, flags: u32) -> bool
-    ensures { λ r. ⌜ r ≡ (leb code 6 && leb flags 3) ⌝ }
+// Whether an operator's code and flags are listed.
+pub fn is_operator(code: u64, flags: u64) -> bool
+    ensures { λ r. ⌜ r ≡ (leb code lastOperator && leb flags bothFlags) ⌝ }
 {
-    if code <= LAST_CODE {
-        flags <= LAST_FLAGS
+    if code <= LAST_OPERATOR {
+        flags <= REORDERABLE
     } else {
         false
     }
@@ -102,15 +101,8 @@ pub fn operator(
 ) -> Built
     ensures { λ r. ⌜ Stores (M.operator code flags (now (operands .entry))) (now (nodes .entry)) (now (slots .entry)) arena (now (nodes .exit)) (now (slots .exit)) r ⌝ }
 {
+    let code = code as u64;
+    let flags = flags as u64;
     let listed = is_operator(code, flags);
-    build(
-        nodes,
-        slots,
-        arena,
-        listed,
-        ADD + code as u64,
-        0,
-        flags as u64,
-        operands,
-    )
+    build(nodes, slots, arena, listed, ADD + code, 0, flags, operands)
 }

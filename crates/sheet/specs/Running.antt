@@ -9,7 +9,7 @@ use lib.Dec.{leb, ltb, eqb}
 use Rattle.arena.specs.declared.DagArena.{DagArena}
 use Rattle.definitions.specs.Limits.{mostRecords}
 use Rattle.definitions.specs.Refusals.{badRecord}
-use Rattle.definitions.specs.Node.{addKind, controlKind, forLoopControl, node}
+use Rattle.definitions.specs.Node.{addKind, controlKind, forLoopControl, lastOperator, bothFlags, node}
 use Rattle.definitions.specs.Machine as M
 use Rattle.definitions.specs.Sheet as Sheet
 use Rattle.store.specs.Memory.{Memory, memory, model, Stays}
@@ -34,11 +34,15 @@ answerAs (M.simplified id spent steps) = Answered id spent
 answerAs (M.pruned id kept dropped) = Answered id false
 answerAs (M.refused number) = Refused number
 
--- a call on a sound store, as the plain machine does it
-pub record Performs (c : M.Call) (m : Memory) (a : Answer) (m′ : Memory) : Type 0 where
-  pub answer : a ≡ answerAs (M.call (model .lent m) (model .view m) c .answer)
-  pub left : model .view m′ ≡ M.call (model .lent m) (model .view m) c .left
+-- on a sound store, what the plain machine answers and leaves
+pub record PerformsAs (plain : M.After) (m : Memory) (a : Answer) (m′ : Memory) : Type 0 where
+  pub answer : a ≡ answerAs (plain .answer)
+  pub left : model .view m′ ≡ plain .left
   pub stays : Stays m m′
+
+-- a call on a sound store, as the plain machine does it
+abbrev pub Performs : M.Call → Memory → Answer → Memory → Type 0
+Performs c m a m′ = PerformsAs (M.call (model .lent m) (model .view m) c) m a m′
 
 -- the id of an operand; one that is no earlier record gets the count
 abbrev pub idOf : List ℕ → ℕ → ℕ → ℕ → ℕ
@@ -48,18 +52,18 @@ idOf ids done count operand = cond (ltb operand done) (getD ids operand 0) count
 abbrev pub idBelow : List ℕ → ℕ → ℕ → ℕ → ℕ
 idBelow ids done count operand = cond (ltb operand done) (cond (ltb (getD ids operand 0) count) (getD ids operand 0) count) count
 
--- a store call that wants a node over any so many operands
-pub record Makes (make : List ℕ → M.Store) (q : Request) (n : ℕ) : Type 0 where
-  pub request : (operands : List ℕ) → length operands ≡ n → M.requested (make operands) ≡ M.request (q .listed) (node (q .kind) (q .payload) (q .flags) operands)
+-- what the plain machine is asked for, with these children
+abbrev pub wanted : Request → List ℕ → M.Request
+wanted q children = M.request (q .listed) (node (q .kind) (q .payload) (q .flags) children)
 
 -- a record that builds a node, over operands
 abbrev pub PerformsStore : Request → List ℕ → List ℕ → ℕ → Memory → Answer → Memory → Type 0
 PerformsStore q operands ids done m a m′ =
-    (make : List ℕ → M.Store) → Makes make q (length operands) → Performs (M.store (make (map (idOf ids done (m .arena .count)) operands))) m a m′
+    PerformsAs (M.onNodes (model .view m) (M.storeCall (model .lent m) (model .view m .nodes) (wanted q (map (idOf ids done (m .arena .count)) operands)))) m a m′
 
 -- what 03 and 05 want
 abbrev pub operatorRequest : ℕ → ℕ → Request
-operatorRequest code flags = record { listed = leb code 6 && leb flags 3; kind = addKind + code; payload = 0; flags = flags }
+operatorRequest code flags = record { listed = leb code lastOperator && leb flags bothFlags; kind = addKind + code; payload = 0; flags = flags }
 
 abbrev pub controlRequest : ℕ → Request
 controlRequest code = record { listed = leb code forLoopControl; kind = controlKind; payload = code; flags = 0 }

@@ -1,9 +1,7 @@
 // Records that build a node.
 ghost use mathlib.Core.Path.{_≡_};
-ghost use mathlib.Core.Bool.{_&&_};
 ghost use Prim.Native.Nat.{_+_, _*_, _≤_};
 ghost use lib.ListN.{length};
-ghost use lib.Dec.{leb};
 ghost use Rattle.definitions.specs.Limits.{mostRecords};
 ghost use Rattle.store.specs.Sound.{Sound};
 ghost use Rattle.store.specs.Memory.{memory};
@@ -21,11 +19,8 @@ use arena::MOST_CHILDREN;
 use arena::kind::ADD;
 use arena::kind::CONTROL;
 use arena::kind::FOR_LOOP;
-
-// "0 Add to 6 Neg"; "`operator` takes flags 0 to 3".
-const LAST_OPERATOR: u8 = 6;
-
-const LAST_FLAGS: u8 = 3;
+use builder::build_sound;
+use builder::is_operator;
 
 // A node that a record wants, but for its operands, and whether its operator, flags or control value is listed.
 pub struct Request {
@@ -35,25 +30,18 @@ pub struct Request {
     pub flags: u64,
 }
 
-// Whether an operator's code and flags are listed.
-fn is_operator(code: u8, flags: u8) -> bool
-    ensures { λ r. ⌜ r ≡ (leb code 6 && leb flags 3) ⌝ }
-{
-    if code <= LAST_OPERATOR {
-        return flags <= LAST_FLAGS;
-    }
-    false
-}
-
 // 03 operator(1: 0 Add to 6 Neg), flags(1).
 pub fn operator_request(code: u8, flags: u8) -> Request
     ensures { λ r. ⌜ r ≡ operatorRequest code flags ⌝ }
 {
+    let code = code as u64;
+    let flags = flags as u64;
+    let kind = ADD + code;
     Request {
         listed: is_operator(code, flags),
-        kind: ADD + code as u64,
+        kind,
         payload: 0,
-        flags: flags as u64,
+        flags,
     }
 }
 
@@ -100,7 +88,7 @@ pub fn build(
     }
     let count = arena.count;
     let children = operand_ids(sheet, first, operands, ids, done, count);
-    let built = builder::build_sound(
+    let built = build_sound(
         nodes,
         slots,
         arena,

@@ -1,14 +1,15 @@
 -- Building in numbers on a store that is known to be sound.
 use Prim.Native.Nat.{ℕ}
-use mathlib.Core.Path.{_≡_}
 use mathlib.Core.Bool.{true}
-use mathlib.Core.List.{List}
+use mathlib.Core.List.{List, [], _∷_}
 use Rattle.definitions.specs.Node as N
 use Rattle.definitions.specs.Machine as M
-use Rattle.store.specs.Memory.{Memory, Leaves}
-use Rattle.curvalique.specs.Calls.{unlessRefused}
+use Rattle.store.specs.Memory.{Memory}
+use Rattle.builder.specs.Stores.{BuildsSound}
+use Rattle.curvalique.specs.Calls.{Left}
 
--- every store call that wants this node
-abbrev pub BuildsNode : ℕ → ℕ → ℕ → List ℕ → Memory → ℕ → ℕ → Memory → Type 0
-BuildsNode kind payload flags operands m r id m′ =
-    (c : M.Store) → M.requested c ≡ M.request true (N.node kind payload flags operands) → Leaves (M.store c) m (unlessRefused r (M.stored id)) m′
+-- the request for this node: its answer, left as the number that is returned and the id behind its pointer
+pub record BuildsNode (kind payload flags : ℕ) (operands : List ℕ) (m : Memory) (id r id′ : ℕ) (m′ : Memory) : Type 0 where
+  pub answer : M.Answer
+  pub built : BuildsSound (M.request true (N.node kind payload flags operands)) m answer m′
+  pub left : Left answer r (M.stored id′) (id ∷ []) (id′ ∷ [])

@@ -47,7 +47,7 @@ pub extern "C" fn curvalique_build_sound(
     id: &mut u64,
 ) -> u64
     requires { ⌜ Asked true kind payload flags × Sound (now nodes) (now slots) (arenaOf (now count) (now size)) ⌝ }
-    ensures { λ r. ⌜ BuildsNode kind payload flags (now (operands .entry)) (lentMemory (now (nodes .entry)) (now (slots .entry)) (now (count .entry)) (now (size .entry))) r (now (id .exit)) (lentMemory (now (nodes .exit)) (now (slots .exit)) (now (count .exit)) (now (size .exit))) ⌝ }
+    ensures { λ r. ⌜ BuildsNode kind payload flags (now (operands .entry)) (lentMemory (now (nodes .entry)) (now (slots .entry)) (now (count .entry)) (now (size .entry))) (now (id .entry)) r (now (id .exit)) (lentMemory (now (nodes .exit)) (now (slots .exit)) (now (count .exit)) (now (size .exit))) ⌝ }
 {
     let arena = DagArena {
         count: *count,

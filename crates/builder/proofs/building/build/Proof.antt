@@ -1,5 +1,5 @@
 use borrow.Author.Tests.{not-true, not-false}
-use Rattle.builder.proofs.Requesting.{stores-unsound}
+use Rattle.builder.specs.Stores.{unsound, sound}
 use borrow.Author.Needs.{needs}
 use Rattle.builder.proofs.building.build.Statement.{statement}
 use Rattle.builder.proofs.building.build.Tie as tie
@@ -14,7 +14,7 @@ same-length-2 : tie.Need-same-length-2
 same-length-2 c = search needs
 
 returns : tie.Need-returns
-returns c = stores-unsound _ _ _ _ _ _ _ _ (c .before .audit .ensures .no (not-true _ (c .if1 .taken)))
+returns c = unsound (c .before .audit .ensures .no (not-true _ (c .if1 .taken)))
 
 build-sound-requires : tie.Need-build-sound-requires
 build-sound-requires c κs = (c .before .before .before .before .before .before .before .before .before .pre, c .before .before .before .audit .ensures .yes (not-false _ (c .before .before .if1 .left)))
@@ -26,7 +26,7 @@ same-length-4 : tie.Need-same-length-4
 same-length-4 c = search needs
 
 returns-2 : tie.Need-returns-2
-returns-2 c = search needs
+returns-2 c = sound (c .before .before .before .before .before .before .before .before .audit .ensures .yes (not-false _ (c .before .before .before .before .before .before .before .if1 .left))) (c .before .before .before .before .build-sound .ensures)
 
 pub build-spec : {M : Type 1} → statement M
 build-spec =

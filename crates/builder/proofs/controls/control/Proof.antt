@@ -1,6 +1,7 @@
 use mathlib.Core.Path.{refl}
 use Rattle.definitions.specs.Machine as M
 use Rattle.builder.proofs.Codes.{asked-control-code}
+use Rattle.builder.proofs.Requesting.{stores-audited}
 use borrow.Author.Needs.{needs}
 use Rattle.builder.proofs.controls.control.Statement.{statement}
 use Rattle.builder.proofs.controls.control.Tie as tie
@@ -15,7 +16,7 @@ same-length-2 : tie.Need-same-length-2
 same-length-2 c = search needs
 
 returns : tie.Need-returns
-returns c = c .before .before .before .before .build .ensures (M.control _ _) refl
+returns c = stores-audited (M.control _ _) _ refl _ _ _ (c .before .before .before .before .build .ensures)
 
 pub control-spec : {M : Type 1} → statement M
 control-spec = tie.close (tie.spec build-requires same-length same-length-2 returns)

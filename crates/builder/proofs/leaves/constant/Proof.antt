@@ -1,6 +1,7 @@
 use mathlib.Core.Path.{refl}
 use Rattle.definitions.specs.Machine as M
 use Rattle.builder.proofs.Codes.{asked-constant}
+use Rattle.builder.proofs.Requesting.{stores-audited}
 use borrow.Author.Needs.{needs}
 use Rattle.builder.proofs.leaves.constant.Statement.{statement}
 use Rattle.builder.proofs.leaves.constant.Tie as tie
@@ -18,7 +19,7 @@ same-length-2 : tie.Need-same-length-2
 same-length-2 c = search needs
 
 returns : tie.Need-returns
-returns c = c .before .before .before .before .build .ensures (M.constant _) refl
+returns c = stores-audited (M.constant _) _ refl _ _ _ (c .before .before .before .before .build .ensures)
 
 pub constant-spec : {M : Type 1} → statement M
 constant-spec =

@@ -1,6 +1,7 @@
 use mathlib.Core.Path.{refl}
 use Rattle.definitions.specs.Machine as M
 use Rattle.builder.proofs.Codes.{asked-operator-code, operator-request}
+use Rattle.builder.proofs.Requesting.{stores-audited}
 use borrow.Author.Needs.{needs}
 use Rattle.builder.proofs.operators.operator.Statement.{statement}
 use Rattle.builder.proofs.operators.operator.Tie as tie
@@ -21,7 +22,7 @@ same-length-2 : tie.Need-same-length-2
 same-length-2 c = search needs
 
 returns : tie.Need-returns
-returns c = c .before .before .before .before .build .ensures (M.operator _ _ _) (operator-request _ _ _ (c .before .before .before .before .before .before .before .is-operator .ensures) _)
+returns c = stores-audited (M.operator _ _ _) _ (operator-request _ _ _ (c .before .before .before .before .before .before .before .is-operator .ensures) _) _ _ _ (c .before .before .before .before .build .ensures)
 
 pub operator-spec : {M : Type 1} → statement M
 operator-spec =
