@@ -9,7 +9,7 @@ use lib.Dec.{leb}
 use native.Mathlib.Omega.{arith}
 use borrow.Author.Tests.{leb-true}
 use Rattle.definitions.specs.Machine.{Call}
-use Rattle.history.specs.Encoding.{callOf, withRest, firstCall, Decoded, decoded, withFirst, decodeFrom, decode, unread}
+use Rattle.history.specs.Encoding.{callOfCode, withRest, firstCall, Decoded, decoded, withFirst, decodeFrom, decode, unread}
 
 -- the rest after a call is shorter
 pub shorter : (ws : List ℕ) (c : Call) (r : List ℕ) → firstCall ws ≡ some (c, r) → length r < length ws
@@ -26,11 +26,11 @@ shorter ws c r = one (leb 6 (length ws)) refl
         let q : drop (6 + n) ws ≡ r = ap (λ (x : Call × List ℕ). x .1) p in
         subst (λ (x : List ℕ). length x < length ws) q (omega (arith, length-drop (6 + n) ws))
 
-    two : 6 ≤ length ws → (b : Bool) → cond b (withRest (callOf (getD ws 0 0) (getD ws 1 0) (getD ws 2 0) (getD ws 3 0) (getD ws 4 0) (take n (drop 6 ws))) (drop (6 + n) ws)) none ≡ some (c, r) → length r < length ws
-    two h true e = three h (callOf (getD ws 0 0) (getD ws 1 0) (getD ws 2 0) (getD ws 3 0) (getD ws 4 0) (take n (drop 6 ws))) e
+    two : 6 ≤ length ws → (b : Bool) → cond b (withRest (callOfCode (getD ws 0 0) (getD ws 1 0) (getD ws 2 0) (getD ws 3 0) (getD ws 4 0) (take n (drop 6 ws))) (drop (6 + n) ws)) none ≡ some (c, r) → length r < length ws
+    two h true e = three h (callOfCode (getD ws 0 0) (getD ws 1 0) (getD ws 2 0) (getD ws 3 0) (getD ws 4 0) (take n (drop 6 ws))) e
     two h false e = let z : _≡_ {A = ℕ} 0 1 = cc in absurd (omega arith)
 
-    one : (b : Bool) → leb 6 (length ws) ≡ b → cond b (cond (leb n (length ws - 6)) (withRest (callOf (getD ws 0 0) (getD ws 1 0) (getD ws 2 0) (getD ws 3 0) (getD ws 4 0) (take n (drop 6 ws))) (drop (6 + n) ws)) none) none ≡ some (c, r) → length r < length ws
+    one : (b : Bool) → leb 6 (length ws) ≡ b → cond b (cond (leb n (length ws - 6)) (withRest (callOfCode (getD ws 0 0) (getD ws 1 0) (getD ws 2 0) (getD ws 3 0) (getD ws 4 0) (take n (drop 6 ws))) (drop (6 + n) ws)) none) none ≡ some (c, r) → length r < length ws
     one true k e = two (leb-true 6 (length ws) k) (leb n (length ws - 6)) e
     one false k e = let z : _≡_ {A = ℕ} 0 1 = cc in absurd (omega arith)
 

@@ -11,7 +11,7 @@ use native.Mathlib.Omega.{arith}
 use borrow.Author.Tests.{le-leb}
 use Rattle.definitions.specs.Machine.{variable, constant, add, sub, mul, div, pow, modulo, neg, operator, function, select, ifElse, forLoop, control, Call, store, simplify, prune, pruneBySetting}
 use Rattle.definitions.specs.Promise.{All}
-use Rattle.history.specs.Encoding.{headerWords, wordValues, callOf, withRest, firstCall, decode, unread, readWords, wordsOf, encodeCall, encode, Word, WideWord, Operands, Within, Encodes}
+use Rattle.history.specs.Encoding.{headerWords, wordValues, callOfCode, withRest, firstCall, decode, unread, readWords, wordsOf, encodeCall, encode, Word, WideWord, OperandsWithin, CallWithin, Encodes}
 use Rattle.history.proofs.Decoding.{decode-none, decode-some, unread-none, unread-some, none-in-nothing}
 
 -- ---- the first call of a call's words and more
@@ -20,20 +20,20 @@ module _ (code a b high low : ℕ) (operands rest : List ℕ) where
   abbrev ws : List ℕ
   ws = wordsOf code a b high low operands ++ rest
 
-  first-words : firstCall (wordsOf code a b high low operands ++ rest) ≡ withRest (callOf code a b high low operands) rest
+  first-words : firstCall (wordsOf code a b high low operands ++ rest) ≡ withRest (callOfCode code a b high low operands) rest
   unfolding firstCall
   first-words =
       let long : leb headerWords (length ws) ≡ true = le-leb headerWords (length ws) (omega arith) in
       let fits : leb (length operands) (length ws - headerWords) ≡ true = le-leb (length operands) (length ws - headerWords) (omega (arith, length-append operands rest)) in
       let taken : take (length operands) (drop headerWords ws) ≡ operands = take-at operands rest (length operands) refl in
       let left : drop (headerWords + length operands) ws ≡ rest = sym (drop-drop (length operands) headerWords ws) ∙ drop-at operands rest (length operands) refl in
-      λ i. cond (long i) (cond (fits i) (withRest (callOf code a b high low (taken i)) (left i)) none) none
+      λ i. cond (long i) (cond (fits i) (withRest (callOfCode code a b high low (taken i)) (left i)) none) none
 
 halves : (n : ℕ) → n / wordValues * wordValues + n % wordValues ≡ n
 halves n = omega arith
 
 first-call : (c : Call) (rest : List ℕ) → firstCall (encodeCall c ++ rest) ≡ some (c, rest)
-unfolding callOf
+unfolding callOfCode
 first-call (store (variable s)) rest = first-words 0 s 0 0 0 [] rest
 first-call (store (constant n)) rest = first-words 1 0 0 (n / wordValues) (n % wordValues) [] rest ∙ ap (λ (k : ℕ). some (store (constant k), rest)) (halves n)
 first-call (store (add a b)) rest = first-words 2 a b 0 0 [] rest
@@ -71,13 +71,13 @@ all-append : (xs ys : List ℕ) → All Word xs → All Word ys → All Word (xs
 all-append [] ys p q = q
 all-append (x ∷ xs) ys (h, p) q = (h, all-append xs ys p q)
 
-header : (code a b high low : ℕ) (operands : List ℕ) → Word code → Word a → Word b → Word high → Word low → Operands operands → All Word (wordsOf code a b high low operands)
+header : (code a b high low : ℕ) (operands : List ℕ) → Word code → Word a → Word b → Word high → Word low → OperandsWithin operands → All Word (wordsOf code a b high low operands)
 header code a b high low operands h0 h1 h2 h3 h4 h = (h0, (h1, (h2, (h3, (h4, h)))))
 
 zero-word : Word 0
 zero-word = omega arith
 
-no-operands : Operands []
+no-operands : OperandsWithin []
 no-operands = (zero-word, tt)
 
 high-word : (n : ℕ) → WideWord n → Word (n / wordValues)
@@ -86,7 +86,7 @@ high-word n h = omega arith
 low-word : (n : ℕ) → Word (n % wordValues)
 low-word n = omega arith
 
-call-words : (c : Call) → Within c → All Word (encodeCall c)
+call-words : (c : Call) → CallWithin c → All Word (encodeCall c)
 call-words (store (variable s)) h = header 0 s 0 0 0 [] zero-word h zero-word zero-word zero-word no-operands
 call-words (store (constant n)) h = header 1 0 0 (n / wordValues) (n % wordValues) [] (omega arith) zero-word zero-word (high-word n h) (low-word n) no-operands
 call-words (store (add a b)) (p, q) = header 2 a b 0 0 [] (omega arith) p q zero-word zero-word no-operands
@@ -106,7 +106,7 @@ call-words (simplify i depth n) (p, q, r) = header 15 i depth (n / wordValues) (
 call-words (prune i n) (p, r) = header 16 i 0 (n / wordValues) (n % wordValues) [] (omega arith) p zero-word (high-word n r) (low-word n) no-operands
 call-words (pruneBySetting i n) (p, q) = header 17 i n 0 0 [] (omega arith) p q zero-word zero-word no-operands
 
-all-words : (cs : List Call) → All Within cs → All Word (encode cs)
+all-words : (cs : List Call) → All CallWithin cs → All Word (encode cs)
 all-words [] h = tt
 all-words (c ∷ cs) (h, t) = all-append (encodeCall c) (encode cs) (call-words c h) (all-words cs t)
 

@@ -12,9 +12,9 @@ use native.Mathlib.Nat.{add-zero}
 use borrow.Author.Tests.{le-leb, lt-leb, leb-true}
 use Rattle.definitions.specs.Machine as M
 use Rattle.history.specs.declared.finding.Next.the-variants.{Call, Stop}
-use Rattle.history.specs.Encoding.{headerWords, lastCode, callOf, known, withRest, firstCall}
-use Rattle.history.specs.Calling.{callBetween, Whole, Finds}
-use Rattle.history.proofs.Codes.{known-has, unknown-has-none}
+use Rattle.history.specs.Encoding.{headerWords, lastCode, callOfCode, known, withRest, firstCall}
+use Rattle.history.specs.Calling.{callBetween, WholeCall, FindsCall}
+use Rattle.history.proofs.CodeCalls.{known-has, unknown-has-none}
 
 call-is-not-stop : (A : Type 0) (end : ℕ) → Call end ≡ Stop → A
 call-is-not-stop A end e = let z : _≡_ {A = ℕ} 0 1 = cc in absurd (omega arith)
@@ -24,8 +24,8 @@ module _ (calls : List ℕ) (at : ℕ) where
   ws = drop at calls
 
   -- no whole header, or too few operands, or no call of the code
-  pub stops-at : firstCall (drop at calls) ≡ none → Finds calls at Stop
-  stops-at h = record { stops = λ _. h; finds = λ end e. call-is-not-stop (Whole calls at end) end (sym e) }
+  pub stops-at : firstCall (drop at calls) ≡ none → FindsCall calls at Stop
+  stops-at h = record { stops = λ _. h; finds = λ end e. call-is-not-stop (WholeCall calls at end) end (sym e) }
 
   -- the operands as many as the header says
   abbrev many : ℕ
@@ -35,7 +35,7 @@ module _ (calls : List ℕ) (at : ℕ) where
   many-is = getD-drop at calls 5 0
 
   abbrev header : Option M.Call
-  header = callOf (getD ws 0 0) (getD ws 1 0) (getD ws 2 0) (getD ws 3 0) (getD ws 4 0) (take (getD ws 5 0) (drop headerWords ws))
+  header = callOfCode (getD ws 0 0) (getD ws 1 0) (getD ws 2 0) (getD ws 3 0) (getD ws 4 0) (take (getD ws 5 0) (drop headerWords ws))
 
   abbrev rest : List ℕ
   rest = drop (headerWords + getD ws 5 0) ws
@@ -63,7 +63,7 @@ module _ (calls : List ℕ) (at : ℕ) where
   header-call =
       let e0 : getD ws 0 0 ≡ getD calls at 0 = getD-drop at calls 0 0 ∙ ap (λ n. getD calls n 0) (add-zero at) in
       let e5 : getD ws 5 0 ≡ end - (at + headerWords) = many-is ∙ (let q : many ≡ end - (at + headerWords) = omega arith in q) in
-      λ i. callOf (e0 i) (getD-drop at calls 1 0 i) (getD-drop at calls 2 0 i) (getD-drop at calls 3 0 i) (getD-drop at calls 4 0 i) (take (e5 i) (drop-drop headerWords at calls i))
+      λ i. callOfCode (e0 i) (getD-drop at calls 1 0 i) (getD-drop at calls 2 0 i) (getD-drop at calls 3 0 i) (getD-drop at calls 4 0 i) (take (e5 i) (drop-drop headerWords at calls i))
 
   whole-first : at ≤ length calls → headerWords ≤ length calls - at → many ≤ length calls - at - headerWords
       → firstCall (drop at calls) ≡ withRest (callBetween calls at end) (drop end calls)
@@ -80,10 +80,10 @@ module _ (calls : List ℕ) (at : ℕ) where
   unknown-code k h l u = whole-first k h l ∙ ap (λ o. withRest o (drop end calls)) (unknown-has-none (getD calls at 0) _ _ _ _ _ u)
 
   pub whole-call : at ≤ length calls → headerWords ≤ length calls - at → many ≤ length calls - at - headerWords → known (getD calls at 0) ≡ true
-      → Finds calls at (Call end)
+      → FindsCall calls at (Call end)
   whole-call k h l u =
       let (c, e) = known-has (getD calls at 0) (getD calls (at + 1) 0) (getD calls (at + 2) 0) (getD calls (at + 3) 0) (getD calls (at + 4) 0) (take (end - (at + headerWords)) (drop (at + headerWords) calls)) u in
-      let whole : Whole calls at end = record {
+      let whole : WholeCall calls at end = record {
         call = c;
         header = omega arith;
         fits = omega arith;
@@ -93,5 +93,5 @@ module _ (calls : List ℕ) (at : ℕ) where
       } in
       record {
         stops = call-is-not-stop (firstCall (drop at calls) ≡ none) end;
-        finds = λ n q. let r : end ≡ n = cc in subst (Whole calls at) r whole;
+        finds = λ n q. let r : end ≡ n = cc in subst (WholeCall calls at) r whole;
       }

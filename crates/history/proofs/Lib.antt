@@ -1,6 +1,6 @@
 pub mod Turns
 pub mod Decoding
-pub mod Codes
+pub mod CodeCalls
 pub mod EncodedCalls
 pub mod FirstCalls
 pub mod Replaying

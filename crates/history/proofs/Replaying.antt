@@ -25,8 +25,8 @@ use Rattle.history.specs.declared.reply.Reply.the-variants.{Nothing}
 use Rattle.history.specs.declared.Run.{Run}
 use Rattle.history.specs.declared.Replayed.the-variants.{Done, Refused}
 use Rattle.history.specs.Encoding.{firstCall, decode, unread, readWords}
-use Rattle.history.specs.Calling.{replyOf, RunsAt, Whole}
-use Rattle.history.specs.Replaying.{done, Continues, RunsAll, opened, Promised, Replays}
+use Rattle.history.specs.Calling.{replyOf, RunsCallAt, WholeCall}
+use Rattle.history.specs.Replaying.{done, Continues, RunsAll, freshMemory, Promised, Replays}
 use Rattle.history.proofs.Turns.{turns-more, history-of, stays-in-turn, last-more, last-is}
 use Rattle.history.proofs.Decoding.{decode-none, decode-some, unread-none, unread-some, none-in-nothing}
 
@@ -51,7 +51,7 @@ module _ (m : Memory) (calls : List ℕ) where
   }
 
   -- one call more
-  pub one-more : (at end many : ℕ) (r r′ : Answered) (m′ m″ : Memory) → Whole calls at end → RunTo m calls at r many m′ → RunsAt calls at end m′ r′ m″
+  pub one-more : (at end many : ℕ) (r r′ : Answered) (m′ m″ : Memory) → WholeCall calls at end → RunTo m calls at r many m′ → RunsCallAt calls at end m′ r′ m″
       → RunTo m calls end r′ (many + 1) m″
   one-more at end many r r′ m′ m″ w h f =
       let c = f .ran in
@@ -98,11 +98,11 @@ fresh-slots-past : (slots : List ℕ) (size : ℕ) → firstTableSize ≤ size �
 fresh-slots-past slots size h = later (freshSlots false slots) slots firstTableSize size h (drop-at (replicate firstTableSize 0) (drop firstTableSize slots) firstTableSize (length-replicate {A = ℕ} firstTableSize 0))
 
 -- the promise, by demand 3
-pub promised : (words slots : List ℕ) (cs : List M.Call) (r : Answered) (words′ slots′ : List ℕ) → Fresh model (opened words slots)
-    → model .lent (opened words slots) ≡ lent words slots → Continues (opened words slots) cs r (memory words′ slots′ (r .arena)) → Promised words slots cs r words′ slots′
+pub promised : (words slots : List ℕ) (cs : List M.Call) (r : Answered) (words′ slots′ : List ℕ) → Fresh model (freshMemory words slots)
+    → model .lent (freshMemory words slots) ≡ lent words slots → Continues (freshMemory words slots) cs r (memory words′ slots′ (r .arena)) → Promised words slots cs r words′ slots′
 promised words slots cs r words′ slots′ f e h =
-    let p = demand3 model (opened words slots) cs (h .answers) (h .memories) f (history-of (h .leaves)) in
-    let s : Stays (opened words slots) (memory words′ slots′ (r .arena)) = subst (Stays (opened words slots)) (h .last-memory) (stays-in-turn (h .leaves) (f .sound)) in
+    let p = demand3 model (freshMemory words slots) cs (h .answers) (h .memories) f (history-of (h .leaves)) in
+    let s : Stays (freshMemory words slots) (memory words′ slots′ (r .arena)) = subst (Stays (freshMemory words slots)) (h .last-memory) (stays-in-turn (h .leaves) (f .sound)) in
     record {
       fresh = f;
       run = h;
@@ -110,7 +110,7 @@ promised words slots cs r words′ slots′ f e h =
       sound = p .1;
       words-past = s .words-past;
       slots-past = s .slots-past ∙ fresh-slots-past slots (r .arena .size) (grown-up _ _ _ (s .grown));
-      size = least-size (opened words slots) (memory words′ slots′ (r .arena)) refl s;
+      size = least-size (freshMemory words slots) (memory words′ slots′ (r .arena)) refl s;
     }
 
 -- ---- a store that is opened, or not
@@ -139,9 +139,9 @@ replays-done words slots calls slots₁ words′ slots′ f arena r o e l h = go
     go true q a s = fresh-clash _ arena noSlotPlace (sym e ∙ a)
     go false q a s =
         let n : arena ≡ record { count = 0; size = firstTableSize } = cc in
-        let at-first : memory words slots₁ arena ≡ opened words slots = λ i. memory words (s i) (n i) in
+        let at-first : memory words slots₁ arena ≡ freshMemory words slots = λ i. memory words (s i) (n i) in
         let long : length (freshSlots false slots) ≡ length slots = ap length (sym s) ∙ l in
-        let same : model .lent (opened words slots) ≡ lent words slots = ap (λ (k : ℕ). record { nodes = lent words slots .nodes; slots = k }) long in
+        let same : model .lent (freshMemory words slots) ≡ lent words slots = ap (λ (k : ℕ). record { nodes = lent words slots .nodes; slots = k }) long in
         record {
           refused = λ q′. bool-clash _ (sym q′ ∙ q);
           promised = λ _. (

@@ -12,7 +12,7 @@ use Rattle.history.specs.declared.reply.Reply.the-variants.{Stored, Simp
 use Rattle.history.specs.declared.reply.Answered.{Answered}
 use Rattle.history.specs.declared.finding.Next.{Next}
 use Rattle.history.specs.declared.finding.Next.the-variants.{Call, Stop}
-use Rattle.history.specs.Encoding.{headerWords, lastCode, callOf, firstCall}
+use Rattle.history.specs.Encoding.{headerWords, lastCode, callOfCode, firstCall}
 
 -- an answer of the plain machine, or none where no call was run
 abbrev pub replyOf : Reply → Option M.Answer
@@ -24,7 +24,7 @@ replyOf (Refused number) = some (M.refused number)
 replyOf Nothing = none
 
 -- there is a call, and it meets the contract of the public call that it stands for
-pub record Runs (call : Option M.Call) (m : Memory) (r : Answered) (m′ : Memory) : Type 0 where
+pub record RunsCall (call : Option M.Call) (m : Memory) (r : Answered) (m′ : Memory) : Type 0 where
   pub ran : M.Call
   pub is : call ≡ some ran
   pub answer : M.Answer
@@ -34,14 +34,14 @@ pub record Runs (call : Option M.Call) (m : Memory) (r : Answered) (m′ : Memor
 -- the call whose header stands at one place, with the operands up to another
 abbrev pub callBetween : List ℕ → ℕ → ℕ → Option M.Call
 callBetween calls at end =
-    callOf (getD calls at 0) (getD calls (at + 1) 0) (getD calls (at + 2) 0) (getD calls (at + 3) 0) (getD calls (at + 4) 0)
+    callOfCode (getD calls at 0) (getD calls (at + 1) 0) (getD calls (at + 2) 0) (getD calls (at + 3) 0) (getD calls (at + 4) 0)
     (take (end - (at + headerWords)) (drop (at + headerWords) calls))
 
-abbrev pub RunsAt : List ℕ → ℕ → ℕ → Memory → Answered → Memory → Type 0
-RunsAt calls at end m r m′ = Runs (callBetween calls at end) m r m′
+abbrev pub RunsCallAt : List ℕ → ℕ → ℕ → Memory → Answered → Memory → Type 0
+RunsCallAt calls at end m r m′ = RunsCall (callBetween calls at end) m r m′
 
 -- a whole call with a known code stands between two places, and it is the first of the words from there on
-pub record Whole (calls : List ℕ) (at end : ℕ) : Type 0 where
+pub record WholeCall (calls : List ℕ) (at end : ℕ) : Type 0 where
   pub call : M.Call
   pub header : at + headerWords ≤ end
   pub fits : end ≤ length calls
@@ -49,6 +49,6 @@ pub record Whole (calls : List ℕ) (at end : ℕ) : Type 0 where
   pub between : callBetween calls at end ≡ some call
   pub first : firstCall (drop at calls) ≡ some (call, drop end calls)
 
-pub record Finds (calls : List ℕ) (at : ℕ) (r : Next) : Type 0 where
+pub record FindsCall (calls : List ℕ) (at : ℕ) (r : Next) : Type 0 where
   pub stops : r ≡ Stop → firstCall (drop at calls) ≡ none
-  pub finds : (end : ℕ) → r ≡ Call end → Whole calls at end
+  pub finds : (end : ℕ) → r ≡ Call end → WholeCall calls at end

@@ -31,8 +31,8 @@ abbrev pub lastCode : ℕ
 lastCode = 17
 
 -- the call of a code: 0 to 14 the store calls in the order of their list, 15 simplify, 16 prune, 17 prune by setting
-unfoldable pub callOf : ℕ → ℕ → ℕ → ℕ → ℕ → List ℕ → Option Call
-callOf code a b high low operands =
+unfoldable pub callOfCode : ℕ → ℕ → ℕ → ℕ → ℕ → List ℕ → Option Call
+callOfCode code a b high low operands =
     cond (eqb code 0) (some (store (variable a)))
     (cond (eqb code 1) (some (store (constant (wide high low))))
     (cond (eqb code 2) (some (store (add a b)))
@@ -62,12 +62,12 @@ withRest (some c) r = some (c, r)
 
 -- the first call of the words and the words after it; none where no whole call with a known code stands
 unfoldable pub firstCall : List ℕ → Option (Call × List ℕ)
-unfolding callOf
+unfolding callOfCode
 firstCall ws =
     let n = getD ws 5 0 in
     cond (leb headerWords (length ws))
     (cond (leb n (length ws - headerWords))
-    (withRest (callOf (getD ws 0 0) (getD ws 1 0) (getD ws 2 0) (getD ws 3 0) (getD ws 4 0) (take n (drop headerWords ws))) (drop (headerWords + n) ws))
+    (withRest (callOfCode (getD ws 0 0) (getD ws 1 0) (getD ws 2 0) (getD ws 3 0) (getD ws 4 0) (take n (drop headerWords ws))) (drop (headerWords + n) ws))
     none)
     none
 
@@ -141,8 +141,8 @@ Word n = n < wordValues
 abbrev pub WideWord : ℕ → Type 0
 WideWord n = n < wordValues * wordValues
 
-abbrev pub Operands : List ℕ → Type 0
-Operands c = Word (length c) × All Word c
+abbrev pub OperandsWithin : List ℕ → Type 0
+OperandsWithin c = Word (length c) × All Word c
 
 -- the arguments of a call within the widths that its parameters have
 abbrev pub StoreWithin : Store → Type 0
@@ -155,21 +155,21 @@ StoreWithin (div a b) = Word a × Word b
 StoreWithin (pow a b) = Word a × Word b
 StoreWithin (modulo a b) = Word a × Word b
 StoreWithin (neg a) = Word a
-StoreWithin (operator o f c) = Word o × Word f × Operands c
-StoreWithin (function f c) = Word f × Operands c
+StoreWithin (operator o f c) = Word o × Word f × OperandsWithin c
+StoreWithin (function f c) = Word f × OperandsWithin c
 StoreWithin (select a b c) = Word a × Word b × Word c
 StoreWithin (ifElse a b c) = Word a × Word b × Word c
 StoreWithin (forLoop a b c d) = Word a × Word b × Word c × Word d
-StoreWithin (control o c) = Word o × Operands c
+StoreWithin (control o c) = Word o × OperandsWithin c
 
-abbrev pub Within : Call → Type 0
-Within (store c) = StoreWithin c
-Within (simplify i depth n) = Word i × Word depth × WideWord n
-Within (prune i n) = Word i × WideWord n
-Within (pruneBySetting i n) = Word i × Word n
+abbrev pub CallWithin : Call → Type 0
+CallWithin (store c) = StoreWithin c
+CallWithin (simplify i depth n) = Word i × Word depth × WideWord n
+CallWithin (prune i n) = Word i × WideWord n
+CallWithin (pruneBySetting i n) = Word i × Word n
 
 -- Every list of calls is what some words decode to, with no word left over; within the widths they are words of 32 bits.
 pub record Encodes (cs : List Call) : Type 0 where
-  pub words : All Within cs → All Word (encode cs)
+  pub words : All CallWithin cs → All Word (encode cs)
   pub decodes : decode (encode cs) ≡ cs
   pub all-read : readWords (encode cs) ≡ length (encode cs)

@@ -59,13 +59,13 @@ pub record RunsAll (m : Memory) (calls : List ℕ) (r : Run) (m′ : Memory) : T
   pub counts : Counts calls r
 
 -- "the first gets a fresh store": the memory that the calls begin from
-abbrev pub opened : List ℕ → List ℕ → Memory
-opened words slots = memory words (freshSlots false slots) (record { count = 0; size = firstTableSize })
+abbrev pub freshMemory : List ℕ → List ℕ → Memory
+freshMemory words slots = memory words (freshSlots false slots) (record { count = 0; size = firstTableSize })
 
 -- The calls were run from a fresh store, and keep the promise of demand 3, with every store on the way sound.
 pub record Promised (words slots : List ℕ) (cs : List M.Call) (r : Answered) (words′ slots′ : List ℕ) : Type 0 where
-  pub fresh : Fresh model (opened words slots)
-  pub run : Continues (opened words slots) cs r (memory words′ slots′ (r .arena))
+  pub fresh : Fresh model (freshMemory words slots)
+  pub run : Continues (freshMemory words slots) cs r (memory words′ slots′ (r .arena))
   pub promise : Promise (lent words slots) cs (run .answers) (map (model .view) (run .memories))
   pub sound : All (model .Sound) (run .memories)
   -- "Words and slots past the used ones stay."

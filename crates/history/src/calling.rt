@@ -1,11 +1,11 @@
-// One call, by its code. The codes are those of specs/Encoding.antt: 0 to 14 the store calls, 15 simplify, 16 prune, 17 prune
-// by setting.
+// One call, by its code.
 ghost use mathlib.Core.Path.{_≡_};
 ghost use Prim.Native.Nat.{_≤_, _<_};
 ghost use Rattle.store.specs.Memory.{memory};
 ghost use Rattle.history.specs.Encoding as Encoding;
-ghost use Rattle.history.specs.Encoding.{firstWithOperands, firstRewriting, lastCode, callOf};
-ghost use Rattle.history.specs.Calling.{Runs};
+ghost use Rattle.history.specs.Encoding.{firstWithOperands, firstRewriting, lastCode, callOfCode};
+ghost use Rattle.history.specs.Calling.{RunsCall};
+use crate::codes;
 use crate::reply::Answered;
 use crate::reply::pruned;
 use crate::reply::simplified;
@@ -13,18 +13,18 @@ use crate::reply::stored;
 use arena::DagArena;
 
 // Codes below this one are calls over at most two arguments.
-const FIRST_WITH_OPERANDS: u32 = 9;
+const FIRST_WITH_OPERANDS: u32 = codes::OPERATOR;
 // Codes from this one on are no store calls.
-const FIRST_REWRITING: u32 = 15;
+const FIRST_REWRITING: u32 = codes::SIMPLIFY;
 
-// 2^32, which the high half counts.
-const HALF: u64 = 4294967296;
+// How many values a word of 32 bits has.
+const WORD_VALUES: u64 = 4_294_967_296;
 
 // A number of 64 bits by its halves.
 fn wide(high: u32, low: u32) -> u64
     ensures { λ r. ⌜ r ≡ Encoding.wide high low ⌝ }
 {
-    high as u64 * HALF + low as u64
+    high as u64 * WORD_VALUES + low as u64
 }
 
 // Variables, constants, and the operators that have a call of their own.
@@ -40,30 +40,30 @@ fn call_small(
     operands: &[u32],
 ) -> Answered
     requires { ⌜ code < firstWithOperands ⌝ }
-    ensures { λ r. ⌜ Runs (callOf code a b high low (now (operands .entry))) (memory (now (nodes .entry)) (now (slots .entry)) arena) r (memory (now (nodes .exit)) (now (slots .exit)) (r .arena)) ⌝ }
+    ensures { λ r. ⌜ RunsCall (callOfCode code a b high low (now (operands .entry))) (memory (now (nodes .entry)) (now (slots .entry)) arena) r (memory (now (nodes .exit)) (now (slots .exit)) (r .arena)) ⌝ }
 {
-    if code == 0 {
+    if code == codes::VARIABLE {
         return stored(builder::variable(nodes, slots, arena, a));
     }
-    if code == 1 {
+    if code == codes::CONSTANT {
         return stored(builder::constant(nodes, slots, arena, wide(high, low)));
     }
-    if code == 2 {
+    if code == codes::ADD {
         return stored(builder::add(nodes, slots, arena, a, b));
     }
-    if code == 3 {
+    if code == codes::SUB {
         return stored(builder::sub(nodes, slots, arena, a, b));
     }
-    if code == 4 {
+    if code == codes::MUL {
         return stored(builder::mul(nodes, slots, arena, a, b));
     }
-    if code == 5 {
+    if code == codes::DIV {
         return stored(builder::div(nodes, slots, arena, a, b));
     }
-    if code == 6 {
+    if code == codes::POW {
         return stored(builder::pow(nodes, slots, arena, a, b));
     }
-    if code == 7 {
+    if code == codes::MODULO {
         return stored(builder::modulo(nodes, slots, arena, a, b));
     }
     stored(builder::neg(nodes, slots, arena, a))
@@ -82,21 +82,21 @@ fn call_with_operands(
     operands: &[u32],
 ) -> Answered
     requires { ⌜ (firstWithOperands ≤ code) × (code < firstRewriting) ⌝ }
-    ensures { λ r. ⌜ Runs (callOf code a b high low (now (operands .entry))) (memory (now (nodes .entry)) (now (slots .entry)) arena) r (memory (now (nodes .exit)) (now (slots .exit)) (r .arena)) ⌝ }
+    ensures { λ r. ⌜ RunsCall (callOfCode code a b high low (now (operands .entry))) (memory (now (nodes .entry)) (now (slots .entry)) arena) r (memory (now (nodes .exit)) (now (slots .exit)) (r .arena)) ⌝ }
 {
-    if code == 9 {
+    if code == codes::OPERATOR {
         return stored(builder::operator(nodes, slots, arena, a, b, operands));
     }
-    if code == 10 {
+    if code == codes::FUNCTION {
         return stored(builder::function(nodes, slots, arena, a, operands));
     }
-    if code == 11 {
+    if code == codes::SELECT {
         return stored(builder::select(nodes, slots, arena, a, b, high));
     }
-    if code == 12 {
+    if code == codes::IF_ELSE {
         return stored(builder::if_else(nodes, slots, arena, a, b, high));
     }
-    if code == 13 {
+    if code == codes::FOR_LOOP {
         return stored(builder::for_loop(nodes, slots, arena, a, b, high, low));
     }
     stored(builder::control(nodes, slots, arena, a, operands))
@@ -115,12 +115,12 @@ fn call_rewriting(
     operands: &[u32],
 ) -> Answered
     requires { ⌜ (firstRewriting ≤ code) × (code ≤ lastCode) ⌝ }
-    ensures { λ r. ⌜ Runs (callOf code a b high low (now (operands .entry))) (memory (now (nodes .entry)) (now (slots .entry)) arena) r (memory (now (nodes .exit)) (now (slots .exit)) (r .arena)) ⌝ }
+    ensures { λ r. ⌜ RunsCall (callOfCode code a b high low (now (operands .entry))) (memory (now (nodes .entry)) (now (slots .entry)) arena) r (memory (now (nodes .exit)) (now (slots .exit)) (r .arena)) ⌝ }
 {
-    if code == 15 {
+    if code == codes::SIMPLIFY {
         return simplified(walk::simplify(nodes, slots, arena, a, b, wide(high, low)));
     }
-    if code == 16 {
+    if code == codes::PRUNE {
         return pruned(pruner::prune(nodes, slots, arena, a, wide(high, low)));
     }
     pruned(pruner::prune_by_setting(nodes, slots, arena, a, b))
@@ -139,7 +139,7 @@ pub(crate) fn call(
     operands: &[u32],
 ) -> Answered
     requires { ⌜ code ≤ lastCode ⌝ }
-    ensures { λ r. ⌜ Runs (callOf code a b high low (now (operands .entry))) (memory (now (nodes .entry)) (now (slots .entry)) arena) r (memory (now (nodes .exit)) (now (slots .exit)) (r .arena)) ⌝ }
+    ensures { λ r. ⌜ RunsCall (callOfCode code a b high low (now (operands .entry))) (memory (now (nodes .entry)) (now (slots .entry)) arena) r (memory (now (nodes .exit)) (now (slots .exit)) (r .arena)) ⌝ }
 {
     if code < FIRST_WITH_OPERANDS {
         return call_small(nodes, slots, arena, code, a, b, high, low, operands);

@@ -3,12 +3,13 @@ ghost use mathlib.Core.Path.{_≡_};
 ghost use Prim.Native.Nat.{_≤_};
 ghost use lib.ListN.{length};
 ghost use Rattle.history.specs.Encoding.{known};
-ghost use Rattle.history.specs.Calling.{Finds};
+ghost use Rattle.history.specs.Calling.{FindsCall};
+use crate::codes::PRUNE_BY_SETTING;
 
 // Code, a, b, high, low, number of operands.
 pub(crate) const HEADER_WORDS: usize = 6;
 
-const LAST_CODE: u32 = 17;
+const LAST_CODE: u32 = PRUNE_BY_SETTING;
 
 pub(crate) enum Next {
     // The place after the call.
@@ -27,7 +28,7 @@ fn is_known(code: u32) -> bool
 // Whether a whole call with a known code stands at a place.
 pub(crate) fn next_call(calls: &[u32], at: usize) -> Next
     requires { ⌜ at ≤ length (now calls) ⌝ }
-    ensures { λ r. ⌜ Finds (now (calls .entry)) at r ⌝ }
+    ensures { λ r. ⌜ FindsCall (now (calls .entry)) at r ⌝ }
 {
     let left = calls.len() - at;
     if left < HEADER_WORDS {

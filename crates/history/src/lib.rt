@@ -1,5 +1,6 @@
 // A list of calls, run on one store: the request's demand 3 as the contract of code. Calls are words, as specs/Encoding.antt says.
 mod calling;
+pub mod codes;
 mod finding;
 mod reply;
 
@@ -7,7 +8,7 @@ ghost use Prim.Native.Nat.{_+_, _≤_};
 ghost use lib.ListN.{length, getD};
 ghost use Rattle.store.specs.Memory.{memory};
 ghost use Rattle.history.specs.Encoding.{headerWords, lastCode};
-ghost use Rattle.history.specs.Calling.{RunsAt};
+ghost use Rattle.history.specs.Calling.{RunsCallAt};
 ghost use Rattle.history.specs.Replaying.{RunsAll, Replays};
 use arena::DagArena;
 use builder::FreshStore;
@@ -45,7 +46,7 @@ fn call_at(
     end: usize,
 ) -> Answered
     requires { ⌜ (at + headerWords ≤ end) × (end ≤ length (now calls)) × (getD (now calls) at 0 ≤ lastCode) ⌝ }
-    ensures { λ r. ⌜ RunsAt (now (calls .entry)) at end (memory (now (nodes .entry)) (now (slots .entry)) arena) r (memory (now (nodes .exit)) (now (slots .exit)) (r .arena)) ⌝ }
+    ensures { λ r. ⌜ RunsCallAt (now (calls .entry)) at end (memory (now (nodes .entry)) (now (slots .entry)) arena) r (memory (now (nodes .exit)) (now (slots .exit)) (r .arena)) ⌝ }
 {
     let start = at + HEADER_WORDS;
     let operands = &calls[start..end];

@@ -1,23 +1,4 @@
 // The lists.
-use crate::codes::ADD;
-use crate::codes::CONSTANT;
-use crate::codes::CONTROL;
-use crate::codes::DIV;
-use crate::codes::FOR_LOOP;
-use crate::codes::FUNCTION;
-use crate::codes::IF_ELSE;
-use crate::codes::MODULO;
-use crate::codes::MUL;
-use crate::codes::NEG;
-use crate::codes::OPERATOR;
-use crate::codes::POW;
-use crate::codes::PRUNE;
-use crate::codes::PRUNE_BY_SETTING;
-use crate::codes::SELECT;
-use crate::codes::SIMPLIFY;
-use crate::codes::SUB;
-use crate::codes::UNKNOWN;
-use crate::codes::VARIABLE;
 use crate::showing::MOST_SLOTS;
 use crate::showing::MOST_WORDS;
 use crate::showing::show;
@@ -25,7 +6,27 @@ use crate::showing::show_on;
 use crate::writing::for_each_below;
 use crate::writing::header;
 use crate::writing::with_operands;
+use history::codes::ADD;
+use history::codes::CONSTANT;
+use history::codes::CONTROL;
+use history::codes::DIV;
+use history::codes::FOR_LOOP;
+use history::codes::FUNCTION;
+use history::codes::IF_ELSE;
+use history::codes::MODULO;
+use history::codes::MUL;
+use history::codes::NEG;
+use history::codes::OPERATOR;
+use history::codes::POW;
+use history::codes::PRUNE;
+use history::codes::PRUNE_BY_SETTING;
+use history::codes::SELECT;
+use history::codes::SIMPLIFY;
+use history::codes::SUB;
+use history::codes::VARIABLE;
 
+// No call has this one.
+const UNKNOWN: u32 = 18;
 // Words of the longest list.
 const LONGEST: usize = 300;
 

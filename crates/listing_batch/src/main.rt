@@ -6,7 +6,10 @@ use libc::STDOUT_FILENO;
 
 const LENGTH_BYTES: usize = 4;
 
+// How many values a byte has, and two bytes.
 const BYTE_BASE: usize = 256;
+
+const HALF_BASE: usize = BYTE_BASE * BYTE_BASE;
 // The longest frame that is read. A sheet of over 16,384 bytes is refused whatever it holds.
 const FRAME_BYTES: usize = 65_536;
 
@@ -27,13 +30,9 @@ fn next_frame() -> Frame {
     if io::read_full(STDIN_FILENO, &mut head) < LENGTH_BYTES {
         return Frame::End;
     }
-    if head[0] != 0 {
-        return Frame::End;
-    }
-    if head[1] != 0 {
-        return Frame::End;
-    }
-    Frame::Length(wide(head[2]) * BYTE_BASE + wide(head[3]))
+    let high = wide(head[0]) * BYTE_BASE + wide(head[1]);
+    let low = wide(head[2]) * BYTE_BASE + wide(head[3]);
+    Frame::Length(high * HALF_BASE + low)
 }
 
 // Writes a frame with the listing of a sheet; false where the output took no more.
@@ -42,10 +41,10 @@ fn answer(sheet: &[u8]) -> bool {
     let bytes = listing.bytes;
     let length = listing.length;
     let head = [
-        (length / 16_777_216 % 256) as u8,
-        (length / 65_536 % 256) as u8,
-        (length / 256 % 256) as u8,
-        (length % 256) as u8,
+        (length / HALF_BASE / BYTE_BASE % BYTE_BASE) as u8,
+        (length / HALF_BASE % BYTE_BASE) as u8,
+        (length / BYTE_BASE % BYTE_BASE) as u8,
+        (length % BYTE_BASE) as u8,
     ];
     if !io::write_all(STDOUT_FILENO, &head) {
         return false;

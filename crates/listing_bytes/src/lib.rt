@@ -6,9 +6,9 @@ use listing_lines::all_lines;
 use sheet::run_fresh;
 
 // 01: "a fresh store of 512 nodes and 1,024 slots".
-pub const NODES: usize = 512;
+const NODES: usize = 512;
 
-pub const SLOTS: usize = 1_024;
+const SLOTS: usize = 1_024;
 
 const WORDS: usize = NODES * NODE_WORDS;
 // Room for the first line and the line of each node.

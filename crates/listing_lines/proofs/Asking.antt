@@ -9,7 +9,7 @@ use Rattle.listing_lines.specs.declared.NodeLine.{NodeLine}
 use Rattle.listing_lines.specs.declared.Found.the-variants.{Line as Found-line}
 use Rattle.listing_lines.specs.Line.{Holds}
 use Rattle.listing_lines.specs.Outcome.{lineOf}
-use Rattle.listing_lines.specs.NodeLine.{Refuses, Lists}
+use Rattle.listing_lines.specs.Answers.{Refuses, Lists}
 
 module _ (m : Memory) (id : ℕ) where
   pub lists-unsound : (r : NodeLine) → Refuses notSound r → (model .Sound m → ⊥) → Lists m id r

@@ -17,8 +17,8 @@ use Rattle.store.specs.View.{nodesIn}
 use Rattle.store.proofs.Viewing.{plain-length}
 use Rattle.listing_lines.specs.declared.line.Line.{Line}
 use Rattle.listing_lines.specs.declared.Outcome.{Outcome}
-use Rattle.listing_lines.specs.declared.Outcome.the-variants.{Ok, Spent, Refused, Empty as Empty-outcome}
-use Rattle.listing_lines.specs.Line.{lineBytes, mostDigits, numberBytes, childrenBytes, text, Empty, Extends, Holds}
+use Rattle.listing_lines.specs.declared.Outcome.the-variants.{Ok, Spent, Refused, Empty}
+use Rattle.listing_lines.specs.Line.{lineBytes, mostDigits, numberBytes, childrenBytes, text, EmptyLine, Extends, Holds}
 use Rattle.listing_lines.specs.Outcome.{answeredAs, outcomeOf, firstLineOf, lineOf, joined, allLines}
 
 -- ---- one byte more
@@ -75,7 +75,7 @@ extends-more n h p = record { is = p .is; long = let l = p .long in omega arith 
 pub extends-as : {a b : Line} {m : ℕ} (x y : List ℕ) → x ≡ y → Extends a x m b → Extends a y m b
 extends-as {a} {b} {m} x y e p = subst (λ (t : List ℕ). Extends a t m b) e p
 
-pub from-empty : {a b : Line} {x : List ℕ} {m : ℕ} → Empty a → Extends a x m b → m ≤ lineBytes → Holds x b
+pub from-empty : {a b : Line} {x : List ℕ} {m : ℕ} → EmptyLine a → Extends a x m b → m ≤ lineBytes → Holds x b
 from-empty {a} {b} {x} e p l = let z = e .long in let h = p .long in record { is = p .is ∙ ap (λ (t : List ℕ). t ++ x) (e .is); within = omega arith }
 
 -- ---- children, one at a time
@@ -124,7 +124,7 @@ module _ (base : Line) (children : List ℕ) (r : Line) (place : ℕ) (d : Liste
 pub same-outcome : {o o′ : Outcome} {r : Line} → o′ ≡ o → Holds (firstLineOf o ++ (lineFeed ∷ [])) r → Holds (firstLineOf o′ ++ (lineFeed ∷ [])) r
 same-outcome {r = r} e h = subst (λ (o : Outcome). Holds (firstLineOf o ++ (lineFeed ∷ [])) r) (sym e) h
 
-module _ {a b c d : Line} (i : ℕ) (e : Empty a) (q : Extends b (space ∷ decimal i) numberBytes c) (r : Extends c (lineFeed ∷ []) 1 d) where
+module _ {a b c d : Line} (i : ℕ) (e : EmptyLine a) (q : Extends b (space ∷ decimal i) numberBytes c) (r : Extends c (lineFeed ∷ []) 1 d) where
   pub ok-line : Extends a okWord 2 b → Holds (firstLineOf (Ok i) ++ (lineFeed ∷ [])) d
   unfolding firstLineOf firstLine answered
   ok-line p = from-empty e (extends-trans (extends-trans p q) r) (lit≤ tt)
@@ -133,16 +133,16 @@ module _ {a b c d : Line} (i : ℕ) (e : Empty a) (q : Extends b (space ∷ deci
   unfolding firstLineOf firstLine answered
   spent-line p = from-empty e (extends-trans (extends-trans p q) r) (lit≤ tt)
 
-pub empty-line : {a b : Line} → Empty a → Extends a (okWord ++ space ∷ dash ++ lineFeed ∷ []) 5 b → Holds (firstLineOf Empty-outcome ++ (lineFeed ∷ [])) b
+pub empty-line : {a b : Line} → EmptyLine a → Extends a (okWord ++ space ∷ dash ++ lineFeed ∷ []) 5 b → Holds (firstLineOf Empty ++ (lineFeed ∷ [])) b
 unfolding firstLineOf firstLine
 empty-line e p = from-empty e p (lit≤ tt)
 
-pub refused-line : {a b c d f g : Line} (number at : ℕ) → Empty a → Extends a refusedWord 7 b → Extends b (space ∷ decimal number) numberBytes c → Extends c (space ∷ atWord) 3 d → Extends d (space ∷ decimal at) numberBytes f → Extends f (lineFeed ∷ []) 1 g → Holds (firstLineOf (Refused number at) ++ (lineFeed ∷ [])) g
+pub refused-line : {a b c d f g : Line} (number at : ℕ) → EmptyLine a → Extends a refusedWord 7 b → Extends b (space ∷ decimal number) numberBytes c → Extends c (space ∷ atWord) 3 d → Extends d (space ∷ decimal at) numberBytes f → Extends f (lineFeed ∷ []) 1 g → Holds (firstLineOf (Refused number at) ++ (lineFeed ∷ [])) g
 unfolding firstLineOf firstLine
 refused-line number at e p q r s t = from-empty e (extends-trans (extends-trans (extends-trans (extends-trans p q) r) s) t) (lit≤ tt)
 
 -- "id, kind, payload in 16 capital hex digits, flags, children; one space between"
-pub node-line : {a b c d f g h : Line} (i k p l : ℕ) (n : Node) → Empty a → Extends a (decimal i) mostDigits b → Extends b (space ∷ decimal k) numberBytes c → Extends c (space ∷ hex p) numberBytes d → Extends d (space ∷ decimal l) numberBytes f → Extends f (childrenPart (n .children)) childrenBytes g → Extends g (lineFeed ∷ []) 1 h → k ≡ n .kind → p ≡ n .payload → l ≡ allFlags n → Holds (nodeLine i n ++ (lineFeed ∷ [])) h
+pub node-line : {a b c d f g h : Line} (i k p l : ℕ) (n : Node) → EmptyLine a → Extends a (decimal i) mostDigits b → Extends b (space ∷ decimal k) numberBytes c → Extends c (space ∷ hex p) numberBytes d → Extends d (space ∷ decimal l) numberBytes f → Extends f (childrenPart (n .children)) childrenBytes g → Extends g (lineFeed ∷ []) 1 h → k ≡ n .kind → p ≡ n .payload → l ≡ allFlags n → Holds (nodeLine i n ++ (lineFeed ∷ [])) h
 unfolding nodeLine
 node-line i k p l n e id kind payload flags children feed ek ep el =
     let kind′ = extends-as _ _ (ap (λ (v : ℕ). space ∷ decimal v) ek) kind in

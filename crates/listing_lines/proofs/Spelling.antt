@@ -27,11 +27,11 @@ pub digit-high : (d : ℕ) → 10 ≤ d → hexDigit d ≡ 55 + d
 digit-high d h = ap (λ (b : Bool). cond b (48 + d) (55 + d)) (le-ltb d 10 h)
 
 -- ---- decimal
-decimal-step : (f n : ℕ) (r : List ℕ) → 10 ≤ n → decimalFrom (suc f) n r ≡ decimalFrom f (n / 10) ((48 + n % 10) ∷ r)
+pub decimal-step : (f n : ℕ) (r : List ℕ) → 10 ≤ n → decimalFrom (suc f) n r ≡ decimalFrom f (n / 10) ((48 + n % 10) ∷ r)
 unfolding decimalFrom
 decimal-step f n r h = ap (λ (b : Bool). elim b [ true ↦ (48 + n) ∷ r | false ↦ decimalFrom f (n / 10) ((48 + n % 10) ∷ r) ]) (le-ltb n 10 h)
 
-decimal-last : (f n : ℕ) (r : List ℕ) → n < 10 → decimalFrom (suc f) n r ≡ (48 + n) ∷ r
+pub decimal-last : (f n : ℕ) (r : List ℕ) → n < 10 → decimalFrom (suc f) n r ≡ (48 + n) ∷ r
 unfolding decimalFrom
 decimal-last f n r h = ap (λ (b : Bool). elim b [ true ↦ (48 + n) ∷ r | false ↦ decimalFrom f (n / 10) ((48 + n % 10) ∷ r) ]) (lt-ltb n 10 h)
 

@@ -1,4 +1,4 @@
 pub mod Line
 pub mod Outcome
-pub mod NodeLine
+pub mod Answers
 pub mod Filling

@@ -26,7 +26,7 @@ abbrev pub text : Line → List ℕ
 text l = take (l .length) (l .bytes)
 
 -- a line without text
-pub record Empty (l : Line) : Type 0 where
+pub record EmptyLine (l : Line) : Type 0 where
   pub is : text l ≡ []
   pub long : l .length ≡ 0
 

@@ -11,15 +11,15 @@ use crate::line::with_bytes;
 // A number of 64 bits has 20 decimal digits at most; a payload has 16 hex digits.
 const MOST_DIGITS: usize = 20;
 
-const HEX_DIGITS: usize = 16;
+pub const HEX_DIGITS: usize = 16;
 
-const DECIMAL_BASE: u64 = 10;
+pub const DECIMAL_BASE: u64 = 10;
 
-const HEX_BASE: u64 = 16;
-// The bytes of the digits 0 and, less ten, A.
-const ZERO: u8 = 48;
+pub const HEX_BASE: u64 = 16;
+// The bytes of the digit 0 and, less ten, of the digit A.
+pub const ZERO: u8 = 48;
 
-const BEFORE_LETTERS: u8 = 55;
+pub const BEFORE_LETTERS: u8 = 55;
 
 // Digits at the end of an array, from a place on.
 struct Digits {
@@ -82,7 +82,7 @@ fn with_digits(line: Line, digits: Digits) -> Line
 }
 
 // The line with a number.
-pub fn with_decimal(line: Line, n: u64) -> Line
+pub(crate) fn with_decimal(line: Line, n: u64) -> Line
     requires { ⌜ line .length + mostDigits ≤ lineBytes ⌝ }
     ensures { λ r. ⌜ Extends line (decimal n) mostDigits r ⌝ }
 {
@@ -90,7 +90,7 @@ pub fn with_decimal(line: Line, n: u64) -> Line
 }
 
 // The line with a space and a number.
-pub fn with_number(line: Line, n: u64) -> Line
+pub(crate) fn with_number(line: Line, n: u64) -> Line
     requires { ⌜ line .length + numberBytes ≤ lineBytes ⌝ }
     ensures { λ r. ⌜ Extends line (space ∷ decimal n) numberBytes r ⌝ }
 {
@@ -98,7 +98,7 @@ pub fn with_number(line: Line, n: u64) -> Line
 }
 
 // The line with a space and a payload.
-pub fn with_payload(line: Line, n: u64) -> Line
+pub(crate) fn with_payload(line: Line, n: u64) -> Line
     requires { ⌜ line .length + numberBytes ≤ lineBytes ⌝ }
     ensures { λ r. ⌜ Extends line (space ∷ hex n) numberBytes r ⌝ }
 {

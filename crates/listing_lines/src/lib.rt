@@ -6,19 +6,24 @@ mod node;
 mod refusals;
 
 pub use all::all_lines;
+pub use digits::BEFORE_LETTERS;
+pub use digits::DECIMAL_BASE;
+pub use digits::HEX_BASE;
+pub use digits::HEX_DIGITS;
+pub use digits::ZERO;
 pub use line::LINE_BYTES;
 pub use line::Line;
-pub use node::node_line_sound;
 ghost use mathlib.Core.List.{[], _∷_, _++_};
 ghost use Rattle.definitions.specs.Listing.{lineFeed};
 ghost use Rattle.store.specs.Memory.{memory};
 ghost use Rattle.listing_lines.specs.Line.{Holds};
 ghost use Rattle.listing_lines.specs.Outcome.{firstLineOf};
-ghost use Rattle.listing_lines.specs.NodeLine.{Lists, Refuses};
+ghost use Rattle.listing_lines.specs.Answers.{Lists, Refuses};
 use arena::DagArena;
 use digits::with_number;
 use line::new;
 use line::with_bytes;
+use node::node_line_sound;
 
 // What a sheet's first line says: the last answer's id, no records, the id of a last record that ran out, or a refusal and
 // its record.

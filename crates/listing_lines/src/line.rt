@@ -1,7 +1,7 @@
 // A line of text in an array that no line of the listing fills.
 ghost use Prim.Native.Nat.{_+_, _≤_};
 ghost use lib.ListN.{length};
-ghost use Rattle.listing_lines.specs.Line.{lineBytes, Extends, Empty};
+ghost use Rattle.listing_lines.specs.Line.{lineBytes, Extends, EmptyLine};
 
 // The longest line of a node has three numbers of at most 20 digits, 16 hex digits, four children, and a byte between or
 // after each: 164 bytes.
@@ -13,8 +13,8 @@ pub struct Line {
 }
 
 // A line without text.
-pub fn new() -> Line
-    ensures { λ r. ⌜ Empty r ⌝ }
+pub(crate) fn new() -> Line
+    ensures { λ r. ⌜ EmptyLine r ⌝ }
 {
     Line {
         bytes: [0; LINE_BYTES],
@@ -23,7 +23,7 @@ pub fn new() -> Line
 }
 
 // The line with more text.
-pub fn with_bytes(line: Line, more: &[u8]) -> Line
+pub(crate) fn with_bytes(line: Line, more: &[u8]) -> Line
     requires { ⌜ line .length + length (now more) ≤ lineBytes ⌝ }
     ensures { λ r. ⌜ Extends line (now (more .entry)) (length (now (more .entry))) r ⌝ }
 {

@@ -41,7 +41,7 @@ fn with_children(line: Line, nodes: &[u64], count: u64, id: u64) -> Line
 
 // The line of an id in a store whose nodes are known to be sound: "id, kind, payload in 16 capital hex digits, flags, children; one
 // space between, the rest decimal".
-pub fn node_line_sound(nodes: &[u64], count: u64, id: u64) -> Line
+pub(crate) fn node_line_sound(nodes: &[u64], count: u64, id: u64) -> Line
     requires { ⌜ Lookup (now nodes) count id ⌝ }
     ensures { λ r. ⌜ Holds (lineOf (nodesIn (now (nodes .entry)) count) id) r ⌝ }
 {

@@ -14,8 +14,8 @@ use Rattle.arena.specs.Layout.{mostChildren}
 use Rattle.listing_reader.specs.declared.number.Number as N
 use Rattle.listing_reader.specs.declared.number.Number.the-variants as NV
 use Rattle.listing_reader.specs.declared.node.Children.{Children}
-use Rattle.listing_reader.specs.Numbers.{wordEnd, EndsDigits, Spelled, Reads}
-use Rattle.listing_reader.specs.Line.{ReadsEnd, Placed, ReadsChildren}
+use Rattle.listing_reader.specs.Numbers.{wordEnd, EndsDigits, Spelled, ReadsNumber}
+use Rattle.listing_reader.specs.Line.{ReadsEnd, PlacedChildren, ReadsChildren}
 use Rattle.listing_reader.proofs.Found.{only}
 use Rattle.listing_reader.proofs.FirstLines.{spaced-unique}
 
@@ -67,7 +67,7 @@ pub record GoesOn (bytes : List ℕ) (next : ℕ) (done cs rest : List ℕ) : Ty
 
 -- the children between two places are read, and are the first of any that stand there
 pub record ChildrenRead (bytes : List ℕ) (at : ℕ) (places : List ℕ) (count next : ℕ) : Type 0 where
-  pub placed : Placed places count
+  pub placed : PlacedChildren places count
   pub text : drop at bytes ≡ childrenPart (take count places) ++ drop next bytes
   pub first : (cs rest : List ℕ) → ((j : ℕ) → getD cs j 0 < wordEnd) → drop at bytes ≡ childrenPart cs ++ lineFeed ∷ rest → GoesOn bytes next (take count places) cs rest
 
@@ -90,7 +90,7 @@ module _ {bytes : List ℕ} {at : ℕ} {places : List ℕ} {count next : ℕ} (c
   done-long : length (take count places) ≡ count
   done-long = let f = c .placed .four in let l = c .placed .few in length-take-le count places (omega arith)
 
-  module _ {r : N.Number} (d : Reads (λ n rest. space ∷ (decimal n ++ rest)) EndsDigits bytes next r) {v to : ℕ} (e : r ≡ NV.Found v to) (l : count < mostChildren) where
+  module _ {r : N.Number} (d : ReadsNumber (λ n rest. space ∷ (decimal n ++ rest)) EndsDigits bytes next r) {v to : ℕ} (e : r ≡ NV.Found v to) (l : count < mostChildren) where
     s : Spelled (λ n rest. space ∷ (decimal n ++ rest)) EndsDigits bytes next v to
     s = d .found v to e
 
@@ -145,7 +145,7 @@ module _ {bytes : List ℕ} {at : ℕ} {places : List ℕ} {count next : ℕ} (c
           c .text
           ∙ ap (λ (x : List ℕ). childrenPart (take count places) ++ x) (d .text e)
           ∙ ap₂ (λ (k : ℕ) (p : List ℕ). childrenPart (take k p) ++ lineFeed ∷ drop (r .next) bytes) (sym (d .counted e)) (sym (d .placed e));
-      placed = λ e. subst (λ (k : ℕ). Placed (r .places) k) (sym (d .counted e)) (subst (λ (p : List ℕ). Placed p count) (sym (d .placed e)) (c .placed));
+      placed = λ e. subst (λ (k : ℕ). PlacedChildren (r .places) k) (sym (d .counted e)) (subst (λ (p : List ℕ). PlacedChildren p count) (sym (d .placed e)) (c .placed));
       nothing = λ e cs rest few small q. let g = c .first cs rest small q in go e cs rest few small (g .more) (g .is) (g .text);
     }
       where
@@ -154,7 +154,7 @@ module _ {bytes : List ℕ} {at : ℕ} {places : List ℕ} {count next : ℕ} (c
         go e cs rest few small (m ∷ more) p q = stop m more cs rest few small p q
 
     -- no further child
-    pub children-stop : {a : N.Number} → Reads (λ n rest. space ∷ (decimal n ++ rest)) EndsDigits bytes next a → a ≡ NV.Nothing → ReadsChildren bytes at r
+    pub children-stop : {a : N.Number} → ReadsNumber (λ n rest. space ∷ (decimal n ++ rest)) EndsDigits bytes next a → a ≡ NV.Nothing → ReadsChildren bytes at r
     children-stop da ea = ending (λ m more cs rest few small p q.
         let low : m < wordEnd = subst (λ (x : ℕ). x < wordEnd) (ap (λ (x : List ℕ). getD x count 0) p ∙ getD-at (take count places) m more 0 count done-long) (small count) in
         da .nothing ea m (childrenPart more ++ lineFeed ∷ rest) low (children-end-digits more rest) (q ∙ children-cons m more (lineFeed ∷ rest)))

@@ -8,21 +8,13 @@ use lib.Dec.{lit<}
 use native.Mathlib.Omega.{arith}
 use native.Mathlib.Nat.{pow-suc}
 use native.Mathlib.Decide.{decLt}
-use borrow.Author.Tests.{lt-ltb, le-ltb}
 use Rattle.definitions.specs.Listing.{decimal, decimalFrom}
+use Rattle.listing_lines.proofs.Spelling.{decimal-last, decimal-step}
 use Rattle.listing_reader.specs.Numbers.{wordEnd, isDigit, EndsDigits}
 use Rattle.listing_reader.proofs.Bytes.{range-digit}
 use Rattle.listing_reader.proofs.Found.{Unique}
 
 -- ---- the definition, digit by digit
-decimal-last : (f n : ℕ) (r : List ℕ) → n < 10 → decimalFrom (suc f) n r ≡ (48 + n) ∷ r
-unfolding decimalFrom
-decimal-last f n r h = ap (λ (b : Bool). elim b [ true ↦ (48 + n) ∷ r | false ↦ decimalFrom f (n / 10) ((48 + n % 10) ∷ r) ]) (lt-ltb n 10 h)
-
-decimal-step : (f n : ℕ) (r : List ℕ) → 10 ≤ n → decimalFrom (suc f) n r ≡ decimalFrom f (n / 10) ((48 + n % 10) ∷ r)
-unfolding decimalFrom
-decimal-step f n r h = ap (λ (b : Bool). elim b [ true ↦ (48 + n) ∷ r | false ↦ decimalFrom f (n / 10) ((48 + n % 10) ∷ r) ]) (le-ltb n 10 h)
-
 append-from : (f n : ℕ) (r s : List ℕ) → decimalFrom f n r ++ s ≡ decimalFrom f n (r ++ s)
 unfolding decimalFrom
 append-from zero n r s = refl

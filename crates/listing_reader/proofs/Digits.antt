@@ -13,7 +13,7 @@ use native.Mathlib.Nat.{pow-suc, pow-le-pow-right}
 use Rattle.definitions.specs.Listing.{decimal, hex, hexFrom, hexDigit, space}
 use Rattle.listing_reader.specs.declared.number.Number.{Number}
 use Rattle.listing_reader.specs.declared.number.Number.the-variants.{Found, Nothing}
-use Rattle.listing_reader.specs.Numbers.{wordEnd, isDigit, EndsDigits, Anything, HexValue, Reads}
+use Rattle.listing_reader.specs.Numbers.{wordEnd, isDigit, EndsDigits, Anything, HexValue, ReadsNumber}
 use Rattle.listing_reader.proofs.Bytes.{here, byte-then, at-start, first-byte, digit-range, range-digit}
 use Rattle.listing_reader.proofs.Found.{reads-found, reads-nothing}
 use Rattle.listing_reader.proofs.Decimal.{decimal-one, decimal-more, first-digit, starts-with-digit, too-large}
@@ -76,13 +76,13 @@ module _ {bytes : List ℕ} {at value next : ℕ} (d : Digits bytes at value nex
         small = s;
       }
 
-  pub digits-over : isDigit (getD bytes next 0) ≡ true → wordEnd ≤ value * 10 + (b - 48) → Reads (λ n rest. decimal n ++ rest) EndsDigits bytes at Nothing
+  pub digits-over : isDigit (getD bytes next 0) ≡ true → wordEnd ≤ value * 10 + (b - 48) → ReadsNumber (λ n rest. decimal n ++ rest) EndsDigits bytes at Nothing
   digits-over t s = reads-nothing (λ n rest l f p.
       let r = digit-range (getD bytes next 0) t in
       let high = r .1 in
       too-large value (b - 48) (drop (next + 1) bytes) (d .small) (omega arith) s n rest l f (sym (d .text ∙ ap (λ (x : List ℕ). decimal value ++ x) (digit-then t)) ∙ p))
 
-pub digits-end : {bytes : List ℕ} {at value next : ℕ} → Digits bytes at value next → isDigit (getD bytes next 0) ≡ false → Reads (λ n rest. decimal n ++ rest) EndsDigits bytes at (Found value next)
+pub digits-end : {bytes : List ℕ} {at value next : ℕ} → Digits bytes at value next → isDigit (getD bytes next 0) ≡ false → ReadsNumber (λ n rest. decimal n ++ rest) EndsDigits bytes at (Found value next)
 digits-end {bytes} {at} {value} {next} d t = reads-found value next (record {
   text = d .text;
   follows = record { ends = ap isDigit (at-start bytes next) ∙ t };
@@ -90,7 +90,7 @@ digits-end {bytes} {at} {value} {next} d t = reads-found value next (record {
 })
 
 -- no digit, no number
-pub no-digit : (bytes : List ℕ) (at : ℕ) → isDigit (getD bytes at 0) ≡ false → Reads (λ n rest. decimal n ++ rest) EndsDigits bytes at Nothing
+pub no-digit : (bytes : List ℕ) (at : ℕ) → isDigit (getD bytes at 0) ≡ false → ReadsNumber (λ n rest. decimal n ++ rest) EndsDigits bytes at Nothing
 no-digit bytes at t = reads-nothing (λ n rest l f p.
     false≢true (sym t ∙ sym (ap isDigit (at-start bytes at)) ∙ ap (λ (x : List ℕ). isDigit (getD x 0 0)) p ∙ starts-with-digit n rest l))
 
@@ -99,7 +99,7 @@ module _ (bytes : List ℕ) (at : ℕ) (is : getD bytes at 0 ≡ 48) where
   zero-then = byte-then bytes at 48 (omega arith) is ∙ decimal-one 0 (drop (at + 1) bytes) (omega arith)
 
   -- 0 alone
-  pub zero-alone : isDigit (getD bytes (at + 1) 0) ≡ false → Reads (λ n rest. decimal n ++ rest) EndsDigits bytes at (Found 0 (at + 1))
+  pub zero-alone : isDigit (getD bytes (at + 1) 0) ≡ false → ReadsNumber (λ n rest. decimal n ++ rest) EndsDigits bytes at (Found 0 (at + 1))
   zero-alone t =
       reads-found 0 (at + 1) (record {
         text = zero-then;
@@ -108,7 +108,7 @@ module _ (bytes : List ℕ) (at : ℕ) (is : getD bytes at 0 ≡ 48) where
       })
 
   -- no number in fewest digits starts with 0 and goes on
-  pub leading-zero : isDigit (getD bytes (at + 1) 0) ≡ true → Reads (λ n rest. decimal n ++ rest) EndsDigits bytes at Nothing
+  pub leading-zero : isDigit (getD bytes (at + 1) 0) ≡ true → ReadsNumber (λ n rest. decimal n ++ rest) EndsDigits bytes at Nothing
   leading-zero t = reads-nothing (λ n rest l f p. go n rest l f p)
     where
       go : (n : ℕ) (rest : List ℕ) → n < wordEnd → EndsDigits rest → drop at bytes ≡ decimal n ++ rest → ⊥
@@ -171,7 +171,7 @@ module _ {bytes : List ℕ} {at value next read : ℕ} (h : HexDigits bytes at v
       }
 
   -- no digit, no number
-  pub no-hex : d ≡ 16 → read < 16 → Reads (λ n rest. hex n ++ rest) Anything bytes at Nothing
+  pub no-hex : d ≡ 16 → read < 16 → ReadsNumber (λ n rest. hex n ++ rest) Anything bytes at Nothing
   no-hex l r = reads-nothing (λ n rest s f p.
       let g = digit-at 16 n rest read r in
       let i = h .here in
@@ -188,7 +188,7 @@ fits-more {value = value} {read = read} h l =
     let p : 16 ^ read ≤ 16 ^ 15 = pow-le-pow-right {n = 16} (omega arith) {i = read} {j = 15} (omega arith) in
     omega arith
 
-pub hex-end : {bytes : List ℕ} {at value next read : ℕ} → HexDigits bytes at value next read → 16 ≤ read → Reads (λ n rest. hex n ++ rest) Anything bytes at (Found value next)
+pub hex-end : {bytes : List ℕ} {at value next read : ℕ} → HexDigits bytes at value next read → 16 ≤ read → ReadsNumber (λ n rest. hex n ++ rest) Anything bytes at (Found value next)
 hex-end {bytes} {at} {value} {next} {read} h l =
     let f : read ≤ 16 = h .few in
     let z : read ≡ 16 = omega arith in
@@ -201,10 +201,10 @@ hex-end {bytes} {at} {value} {next} {read} h l =
 -- ---- after a space
 
 module _ (spell : ℕ → List ℕ → List ℕ) (Follows : List ℕ → Type 0) (bytes : List ℕ) (at b : ℕ) (e : b ≡ getD bytes at 0) where
-  pub no-space : (b ≡ space → ⊥) → Reads (λ n rest. space ∷ spell n rest) Follows bytes at Nothing
+  pub no-space : (b ≡ space → ⊥) → ReadsNumber (λ n rest. space ∷ spell n rest) Follows bytes at Nothing
   no-space h = reads-nothing (λ n rest l f p. h (e ∙ first-byte bytes at space (spell n rest) p))
 
-  pub after-space : (r : Number) → b ≡ space → Reads spell Follows bytes (at + 1) r → Reads (λ n rest. space ∷ spell n rest) Follows bytes at r
+  pub after-space : (r : Number) → b ≡ space → ReadsNumber spell Follows bytes (at + 1) r → ReadsNumber (λ n rest. space ∷ spell n rest) Follows bytes at r
   after-space r h d = record {
     found = λ n next q. let s = d .found n next q in record { text = here-then ∙ ap (λ (x : List ℕ). space ∷ x) (s .text); follows = s .follows; small = s .small };
     nothing = λ q n rest l f p. d .nothing q n rest l f (ap (drop 1) (sym here-then ∙ p));

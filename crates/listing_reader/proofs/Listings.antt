@@ -17,9 +17,9 @@ use Rattle.listing_lines.specs.declared.Outcome.{Outcome}
 use Rattle.listing_lines.specs.declared.Outcome.the-variants as O
 use Rattle.listing_lines.specs.Outcome.{firstLineOf}
 use Rattle.listing_reader.specs.declared.Answer.the-variants.{Read, Refused, Full}
-use Rattle.listing_reader.specs.declared.node.NodeLine.{NodeLine}
+use Rattle.listing_reader.specs.declared.node.ListedNode.{ListedNode}
 use Rattle.listing_reader.specs.Numbers.{wordEnd, isDigit}
-use Rattle.listing_reader.specs.First.{Small, FirstAt, NoFirst}
+use Rattle.listing_reader.specs.First.{SmallOutcome, FirstAt, NoFirst}
 use Rattle.listing_reader.specs.Line.{LineOf, NoLine, ReadsLine}
 use Rattle.listing_reader.specs.Listing.{Begins, IsListing, Wrong, first, later, OneMore, Reading}
 use Rattle.listing_reader.proofs.Decimal.{starts-with-digit}
@@ -44,7 +44,7 @@ no-dash n r s h e =
     let d : decimal n ++ (lineFeed ∷ r) ≡ 45 ∷ lineFeed ∷ s = ap (drop 3) e in
     false≢true (ap (λ (l : List ℕ). isDigit (getD l 0 0)) (sym d) ∙ starts-with-digit n (lineFeed ∷ r) h)
 
-first-unique : (o p : Outcome) (r s : List ℕ) → Small o → Small p → firstLineOf o ++ lineFeed ∷ r ≡ firstLineOf p ++ lineFeed ∷ s → (o ≡ p) × (r ≡ s)
+first-unique : (o p : Outcome) (r s : List ℕ) → SmallOutcome o → SmallOutcome p → firstLineOf o ++ lineFeed ∷ r ≡ firstLineOf p ++ lineFeed ∷ s → (o ≡ p) × (r ≡ s)
 first-unique (O.Ok i) (O.Ok j) r s a b e = let u = line-behind-unique okWord i j r s a b (sym (ok-text i r) ∙ e ∙ ok-text j s) in (ap O.Ok (u .0), u .1)
 first-unique (O.Ok i) O.Empty r s a b e = absurd (no-dash i r s a (sym (ok-text i r) ∙ e ∙ empty-text s))
 first-unique (O.Ok i) (O.Spent j) r s a b e = absurd (differ 111 115 (λ z. omega arith) refl refl (sym (ok-text i r) ∙ e ∙ spent-text j s))
@@ -204,7 +204,7 @@ module _ {bytes : List ℕ} {o : Outcome} {before after : List ℕ} {at count : 
     pub too-many : count ≡ mostNodes → Reading bytes before (Refused (count + 2)) after
     too-many e = wrong (λ m. absurd (omega arith))
 
-    module _ {q : NodeLine} (r : ReadsLine bytes at count q) where
+    module _ {q : ListedNode} (r : ReadsLine bytes at count q) where
       pub wrong-line : q .found ≡ false → Reading bytes before (Refused (count + 2)) after
       wrong-line e = wrong (λ m. r .nothing e (omega arith))
 
@@ -218,7 +218,7 @@ module _ {bytes : List ℕ} {o : Outcome} {before after : List ℕ} {at count : 
           (subst (λ (k : ℕ). OneMore bytes after k) z (record { many = omega arith; outcome = o; rest = drop at bytes; node = q .node; after = drop (q .next) bytes; begins = d .begins; line = r .found e }))
           (subst (λ (k : ℕ). drop (k * nodeWords) after ≡ drop (k * nodeWords) before) z (d .past))
 
-  lines-one : {q : NodeLine} → ReadsLine bytes at count q → q .found ≡ true → (count ≡ mostNodes → ⊥) → count < length after / nodeWords → LinesRead bytes o before (put after count (q .node)) (q .next) (count + 1)
+  lines-one : {q : ListedNode} → ReadsLine bytes at count q → q .found ≡ true → (count ≡ mostNodes → ⊥) → count < length after / nodeWords → LinesRead bytes o before (put after count (q .node)) (q .next) (count + 1)
   lines-one {q} r e n m =
       let k = d .begins .formed .many in
       let many : count < mostNodes = omega arith in
@@ -251,7 +251,7 @@ module _ {bytes : List ℕ} {o : Outcome} {before after : List ℕ} {at count : 
           ∙ drop-drop nodeWords (count * nodeWords) before
           ∙ sym (ap (λ (j : ℕ). drop j before) z)
 
-  pub lines-next : {q : NodeLine} {w : List ℕ} → ReadsLine bytes at count q → q .found ≡ true → (count ≡ mostNodes → ⊥) → count < length after / nodeWords → w ≡ put after count (q .node) → LinesRead bytes o before w (q .next) (count + 1)
+  pub lines-next : {q : ListedNode} {w : List ℕ} → ReadsLine bytes at count q → q .found ≡ true → (count ≡ mostNodes → ⊥) → count < length after / nodeWords → w ≡ put after count (q .node) → LinesRead bytes o before w (q .next) (count + 1)
   lines-next {q} r e n m p = subst (λ (x : List ℕ). LinesRead bytes o before x (q .next) (count + 1)) (sym p) (lines-one r e n m)
 
 -- no first line

@@ -22,9 +22,9 @@ use Rattle.store.specs.View.{plainNode}
 use Rattle.listing_reader.specs.declared.node.Heading as H
 use Rattle.listing_reader.specs.declared.node.Heading.the-variants as HV
 use Rattle.listing_reader.specs.declared.node.Children.{Children}
-use Rattle.listing_reader.specs.declared.node.NodeLine.{NodeLine}
+use Rattle.listing_reader.specs.declared.node.ListedNode.{ListedNode}
 use Rattle.listing_reader.specs.Numbers.{wordEnd}
-use Rattle.listing_reader.specs.Line.{headed, SmallHeading, HeadingAt, ReadsHeading, Placed, ReadsChildren, LineOf, NoLine, ReadsLine}
+use Rattle.listing_reader.specs.Line.{headed, SmallHeading, HeadingAt, ReadsHeading, PlacedChildren, ReadsChildren, LineOf, NoLine, ReadsLine}
 use Rattle.listing_reader.proofs.Headings.{SameHeading, headed-unique}
 use Rattle.listing_reader.proofs.ChildLines.{children-end-digits, children-unique}
 
@@ -114,32 +114,32 @@ same-places places count children arity pf pc pu cf ca cu e = (same, ext-getD 0 
 
 -- ---- the line of a node, or none
 
-not-found : {bytes : List ℕ} {at id : ℕ} {q : NodeLine} → q .found ≡ false → (id < wordEnd → NoLine (drop at bytes) id) → ReadsLine bytes at id q
+not-found : {bytes : List ℕ} {at id : ℕ} {q : ListedNode} → q .found ≡ false → (id < wordEnd → NoLine (drop at bytes) id) → ReadsLine bytes at id q
 not-found e h = record { found = λ t. absurd (false≢true (sym e ∙ t)); nothing = λ t. h }
 
-pub no-heading-line : {bytes : List ℕ} {at id : ℕ} {q : NodeLine} {r : H.Heading} → ReadsHeading bytes at r → r ≡ HV.Nothing → q .found ≡ false → ReadsLine bytes at id q
+pub no-heading-line : {bytes : List ℕ} {at id : ℕ} {q : ListedNode} {r : H.Heading} → ReadsHeading bytes at r → r ≡ HV.Nothing → q .found ≡ false → ReadsLine bytes at id q
 no-heading-line {id = id} d e z = not-found z (λ low n rest l. d .nothing e id (n .kind) (n .payload) (n .flags) (childrenPart (childrenOf n) ++ lineFeed ∷ rest) (small-heading l low) (children-end-digits (childrenOf n) rest) (in-order-is l))
 
 module _ {bytes : List ℕ} {at : ℕ} {r : H.Heading} (d : ReadsHeading bytes at r) {i k p f next : ℕ} (e : r ≡ HV.Found i k p f next) where
   heading : HeadingAt bytes at i k p f next
   heading = d .found i k p f next e
 
-  pub other-id : {id : ℕ} {q : NodeLine} → (i ≡ id → ⊥) → q .found ≡ false → ReadsLine bytes at id q
+  pub other-id : {id : ℕ} {q : ListedNode} → (i ≡ id → ⊥) → q .found ≡ false → ReadsLine bytes at id q
   other-id h z = not-found z (λ low n rest l. h (agrees l low refl heading .ids))
 
-  pub other-flags : {id : ℕ} {q : NodeLine} → flagsEnd ≤ f → q .found ≡ false → ReadsLine bytes at id q
+  pub other-flags : {id : ℕ} {q : ListedNode} → flagsEnd ≤ f → q .found ≡ false → ReadsLine bytes at id q
   other-flags h z = not-found z (λ low n rest l.
       let m : n .flags < flagsEnd = l .formed .marks in
       let s : f ≡ n .flags = agrees l low refl heading .flag in
       omega arith)
 
   module _ {cr : Children} (dc : ReadsChildren bytes next cr) where
-    pub other-children : {id : ℕ} {q : NodeLine} → cr .found ≡ false → q .found ≡ false → ReadsLine bytes at id q
+    pub other-children : {id : ℕ} {q : ListedNode} → cr .found ≡ false → q .found ≡ false → ReadsLine bytes at id q
     other-children h z = not-found z (λ low n rest l.
         dc .nothing h (childrenOf n) rest (let a = children-long l in let b = few-children l in omega arith) (small-children l low) (agrees l low refl heading .rests))
 
     module _ (hc : cr .found ≡ true) where
-      placed : Placed (cr .places) (cr .count)
+      placed : PlacedChildren (cr .places) (cr .count)
       placed = dc .placed hc
 
       read-small : (j : ℕ) → getD (take (cr .count) (cr .places)) j 0 < wordEnd
@@ -158,7 +158,7 @@ module _ {bytes : List ℕ} {at : ℕ} {r : H.Heading} (d : ReadsHeading bytes a
           let u = children-unique (take (cr .count) (cr .places)) (childrenOf n) (drop (cr .next) bytes) rest read-small (small-children l low) (sym (dc .text hc) ∙ agrees l low refl heading .rests) in
           same-places (cr .places) (cr .count) (n .children) (n .arity) (placed .four) (placed .few) (placed .unused) (l .four) (few-children l) (l .formed .places .unused) (u .0)
 
-      pub other-kind : {id : ℕ} {q : NodeLine} {t : Bool} → t ≡ listed k p (cr .count) → t ≡ false → q .found ≡ false → ReadsLine bytes at id q
+      pub other-kind : {id : ℕ} {q : ListedNode} {t : Bool} → t ≡ listed k p (cr .count) → t ≡ false → q .found ≡ false → ReadsLine bytes at id q
       other-kind {t = t} h g z = not-found z (λ low n rest l.
           let a = agrees l low refl heading in
           let c : cr .count ≡ n .arity = same-node n rest low l .0 in
@@ -167,7 +167,7 @@ module _ {bytes : List ℕ} {at : ℕ} {r : H.Heading} (d : ReadsHeading bytes a
           let s : listed k p (cr .count) ≡ true = ap (λ (x : ℕ). listed x p (cr .count)) m ∙ ap₂ (λ (x y : ℕ). listed (n .kind) x y) o c ∙ l .formed .kinds in
           false≢true (sym g ∙ h ∙ s))
 
-      pub other-places : {id : ℕ} {q : NodeLine} {t : Bool} → i ≡ id → Says t (LowerChildren i (cr .count) (cr .places)) → t ≡ false → q .found ≡ false → ReadsLine bytes at id q
+      pub other-places : {id : ℕ} {q : ListedNode} {t : Bool} → i ≡ id → Says t (LowerChildren i (cr .count) (cr .places)) → t ≡ false → q .found ≡ false → ReadsLine bytes at id q
       other-places {id} {t = t} w h g z = not-found z (λ low n rest l.
           let s = same-node n rest low l in
           h .no g (subst (λ (x : ℕ). LowerChildren x (cr .count) (cr .places)) (sym w)
@@ -193,7 +193,7 @@ module _ {bytes : List ℕ} {at : ℕ} {r : H.Heading} (d : ReadsHeading bytes a
           wide = heading .small .payload-small;
         }
 
-        pub line-found : {q : NodeLine} → q .node ≡ newNode k p f (cr .count) (cr .places) → q .next ≡ cr .next → q .found ≡ true → ReadsLine bytes at id q
+        pub line-found : {q : ListedNode} → q .node ≡ newNode k p f (cr .count) (cr .places) → q .next ≡ cr .next → q .found ≡ true → ReadsLine bytes at id q
         line-found {q} m o z = record {
           found = λ e. subst (λ (x : DagNode). LineOf (drop at bytes) id x (drop (q .next) bytes)) (sym m) (line (drop (q .next) bytes) (dc .text hc ∙ ap (λ (x : ℕ). childrenPart (take (cr .count) (cr .places)) ++ lineFeed ∷ drop x bytes) (sym o)));
           nothing = λ e. absurd (false≢true (sym e ∙ z));

@@ -15,10 +15,10 @@ use Rattle.listing_lines.proofs.Lines.{first-line-is}
 use Rattle.listing_reader.specs.declared.Answer.{Answer}
 use Rattle.listing_reader.specs.declared.Answer.the-variants.{Read}
 use Rattle.listing_reader.specs.Numbers.{wordEnd}
-use Rattle.listing_reader.specs.First.{Small}
+use Rattle.listing_reader.specs.First.{SmallOutcome}
 use Rattle.listing_reader.specs.Listing.{IsListing, Reading}
 
-module _ (ran : Ran) (words slots : List ℕ) (arena : DagArena) (sound : Sound words slots arena) (wide : (i : ℕ) → getD words i 0 < wordEnd) (same : nodesIn words (arena .count) ≡ ran .left .nodes) (small : Small (outcomeOf (ran .refusal) (ran .answers))) where
+module _ (ran : Ran) (words slots : List ℕ) (arena : DagArena) (sound : Sound words slots arena) (wide : (i : ℕ) → getD words i 0 < wordEnd) (same : nodesIn words (arena .count) ≡ ran .left .nodes) (small : SmallOutcome (outcomeOf (ran .refusal) (ran .answers))) where
   -- the listing of a result whose nodes a sound store holds is a listing in the reader's sense
   pub listing-is : IsListing (listing ran) (outcomeOf (ran .refusal) (ran .answers)) words (arena .count)
   unfolding listing nodeAt

@@ -12,20 +12,20 @@ use Rattle.listing_reader.specs.declared.first.First.the-variants.{Found
 use Rattle.listing_reader.specs.Numbers.{wordEnd}
 
 -- the numbers of an outcome are words of 64 bits; more is not asked of them
-abbrev pub Small : Outcome → Type 0
-Small (Ok i) = i < wordEnd
-Small Empty = Unit {0}
-Small (Spent i) = i < wordEnd
-Small (Refused number at) = (number < wordEnd) × (at < wordEnd)
+abbrev pub SmallOutcome : Outcome → Type 0
+SmallOutcome (Ok i) = i < wordEnd
+SmallOutcome Empty = Unit {0}
+SmallOutcome (Spent i) = i < wordEnd
+SmallOutcome (Refused number at) = (number < wordEnd) × (at < wordEnd)
 
 -- the line of an outcome stands first, and ends at the next place
 pub record FirstAt (bytes : List ℕ) (o : Outcome) (next : ℕ) : Type 0 where
   pub text : bytes ≡ firstLineOf o ++ lineFeed ∷ drop next bytes
-  pub small : Small o
+  pub small : SmallOutcome o
 
 -- no first line
 abbrev pub NoFirst : List ℕ → Type 0
-NoFirst bytes = (o : Outcome) (rest : List ℕ) → Small o → bytes ≡ firstLineOf o ++ lineFeed ∷ rest → ⊥
+NoFirst bytes = (o : Outcome) (rest : List ℕ) → SmallOutcome o → bytes ≡ firstLineOf o ++ lineFeed ∷ rest → ⊥
 
 pub record ReadsFirst (bytes : List ℕ) (r : First) : Type 0 where
   pub found : (o : Outcome) (next : ℕ) → r ≡ Found o next → FirstAt bytes o next
@@ -34,4 +34,4 @@ pub record ReadsFirst (bytes : List ℕ) (r : First) : Type 0 where
 -- a refusal's first line is found where it stands
 pub record ReadsRefused (bytes : List ℕ) (r : First) : Type 0 where
   pub found : (o : Outcome) (next : ℕ) → r ≡ Found o next → FirstAt bytes o next
-  pub nothing : r ≡ Nothing → (number at : ℕ) (rest : List ℕ) → Small (Refused number at) → bytes ≡ firstLineOf (Refused number at) ++ lineFeed ∷ rest → ⊥
+  pub nothing : r ≡ Nothing → (number at : ℕ) (rest : List ℕ) → SmallOutcome (Refused number at) → bytes ≡ firstLineOf (Refused number at) ++ lineFeed ∷ rest → ⊥

@@ -12,7 +12,7 @@ use Rattle.store.specs.View.{plainNode}
 use Rattle.listing_reader.specs.declared.node.Heading.{Heading}
 use Rattle.listing_reader.specs.declared.node.Heading.the-variants.{Found, Nothing}
 use Rattle.listing_reader.specs.declared.node.Children.{Children}
-use Rattle.listing_reader.specs.declared.node.NodeLine.{NodeLine}
+use Rattle.listing_reader.specs.declared.node.ListedNode.{ListedNode}
 use Rattle.listing_reader.specs.Numbers.{wordEnd, EndsDigits}
 
 -- ---- before the children: "id, kind, payload in 16 capital hex digits, flags"
@@ -47,7 +47,7 @@ pub record ReadsEnd (bytes : List ℕ) (at count : ℕ) (places : List ℕ) (r :
   pub nothing : r .found ≡ false → (rest : List ℕ) → drop at bytes ≡ lineFeed ∷ rest → ⊥
 
 -- so many children are read into the places; unused ones are 0
-pub record Placed (places : List ℕ) (count : ℕ) : Type 0 where
+pub record PlacedChildren (places : List ℕ) (count : ℕ) : Type 0 where
   pub four : length places ≡ mostChildren
   pub few : count ≤ mostChildren
   pub unused : (j : ℕ) → count ≤ j → getD places j 0 ≡ 0
@@ -55,7 +55,7 @@ pub record Placed (places : List ℕ) (count : ℕ) : Type 0 where
 
 pub record ReadsChildren (bytes : List ℕ) (at : ℕ) (r : Children) : Type 0 where
   pub text : r .found ≡ true → drop at bytes ≡ childrenPart (take (r .count) (r .places)) ++ lineFeed ∷ drop (r .next) bytes
-  pub placed : r .found ≡ true → Placed (r .places) (r .count)
+  pub placed : r .found ≡ true → PlacedChildren (r .places) (r .count)
   pub nothing : r .found ≡ false → (cs : List ℕ) (rest : List ℕ) → length cs ≤ mostChildren → ((j : ℕ) → getD cs j 0 < wordEnd) → drop at bytes ≡ childrenPart cs ++ lineFeed ∷ rest → ⊥
 
 -- ---- the line
@@ -73,6 +73,6 @@ pub record LineOf (text : List ℕ) (id : ℕ) (n : DagNode) (rest : List ℕ) :
 abbrev pub NoLine : List ℕ → ℕ → Type 0
 NoLine text id = (n : DagNode) (rest : List ℕ) → LineOf text id n rest → ⊥
 
-pub record ReadsLine (bytes : List ℕ) (at id : ℕ) (r : NodeLine) : Type 0 where
+pub record ReadsLine (bytes : List ℕ) (at id : ℕ) (r : ListedNode) : Type 0 where
   pub found : r .found ≡ true → LineOf (drop at bytes) id (r .node) (drop (r .next) bytes)
   pub nothing : r .found ≡ false → id < wordEnd → NoLine (drop at bytes) id

@@ -14,17 +14,19 @@ use Rattle.listing_lines.specs.Outcome.{firstLineOf}
 use Rattle.listing_reader.specs.declared.Answer.{Answer}
 use Rattle.listing_reader.specs.declared.Answer.the-variants.{Read, Refused, Full}
 use Rattle.listing_reader.specs.Numbers.{wordEnd}
-use Rattle.listing_reader.specs.First.{Small, NoFirst}
+use Rattle.listing_reader.specs.First.{SmallOutcome, NoFirst}
 use Rattle.listing_reader.specs.Line.{LineOf, NoLine}
 
 -- Bytes that begin with the first line of an outcome and the lines of so many nodes in memory, each of them as 01 lists it.
 pub record Begins (bytes : List ℕ) (o : Outcome) (words : List ℕ) (count : ℕ) (rest : List ℕ) : Type 0 where
   pub text : bytes ≡ firstLineOf o ++ lineFeed ∷ (nodeLines 0 (nodesIn words count) ++ rest)
-  pub small : Small o
+  pub small : SmallOutcome o
   pub formed : AllWellFormed words count
   pub wide : (i : ℕ) → i < count → nodeAt words i .payload < wordEnd
 
--- bytes that are the listing of an outcome and of the nodes in memory
+-- Bytes that are the listing of an outcome and of the nodes in memory. Of the first line only this is asked, that its numbers are words of
+-- 64 bits: the id after `ok` or `spent` is not compared with the count of nodes. Of the nodes only this, that each is well formed: two of
+-- them may be the same.
 abbrev pub IsListing : List ℕ → Outcome → List ℕ → ℕ → Type 0
 IsListing bytes o words count = Begins bytes o words count []
 
@@ -51,9 +53,9 @@ written lent (Refused line) = line - 2
 written lent Full = lent
 
 -- What is read are the nodes whose listing the bytes are (`right`). Every listing of a store's nodes is read, back to the words of the nodes,
--- if there is place for them (`whole`), and else answered with `Full` (`short`). Any other bytes are refused with the number of the first
--- line that is wrong (`refused`), unless more nodes stand before it than there is place for (`full`): never, if 65,536 nodes have place.
--- Words past the nodes stay (`past`).
+-- if there is place for them (`whole`), and else answered with `Full` (`short`). Bytes that are no listing in the sense of `IsListing` are
+-- refused with the number of the first line that is wrong (`refused`), unless more nodes stand before it than there is place for (`full`):
+-- never, if 65,536 nodes have place. Words past the nodes stay (`past`).
 pub record Reading (bytes before : List ℕ) (r : Answer) (after : List ℕ) : Type 0 where
   pub right : (o : Outcome) (count : ℕ) → r ≡ Read o count → IsListing bytes o after count
   pub whole : (o : Outcome) (words : List ℕ) (count : ℕ) → IsListing bytes o words count → count * nodeWords ≤ length before → (r ≡ Read o count) × (take (count * nodeWords) after ≡ take (count * nodeWords) words)

@@ -10,7 +10,7 @@ use listing_lines::Outcome;
 const EMPTY_BYTES: usize = 5;
 
 // What reading the first line finds: its outcome and the place after it, or nothing.
-pub enum First {
+pub(crate) enum First {
     Found { outcome: Outcome, next: usize },
     Nothing,
 }
@@ -35,7 +35,7 @@ fn refused(bytes: &[u8]) -> First
 
 // "`ok` and the last answer's id (`-` without records), or `spent` and the id if the last record ran out, or `refused`
 // number `at` record".
-pub fn first_line(bytes: &[u8]) -> First
+pub(crate) fn first_line(bytes: &[u8]) -> First
     ensures { λ r. ⌜ ReadsFirst (now (bytes .entry)) r ⌝ }
 {
     if word_at(bytes, 0, b"ok -\n") {

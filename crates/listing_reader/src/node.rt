@@ -15,7 +15,7 @@ use arena::audit::lower_children;
 use arena::kind::is_listed;
 
 // What stands before a node's children, and the place after it, or nothing.
-pub enum Heading {
+enum Heading {
     Found {
         id: u64,
         kind: u64,
@@ -27,7 +27,7 @@ pub enum Heading {
 }
 
 // Children up to the line's end, if they are there, and the place after it.
-pub struct Children {
+struct Children {
     pub found: bool,
     pub count: u64,
     pub places: [u64; MOST_CHILDREN],
@@ -35,7 +35,7 @@ pub struct Children {
 }
 
 // A node as listed, if its line is there, and the place after it.
-pub struct NodeLine {
+pub(crate) struct ListedNode {
     pub found: bool,
     pub node: DagNode,
     pub next: usize,
@@ -114,10 +114,10 @@ fn children_at(bytes: &[u8], at: usize) -> Children
 }
 
 // No line of a node.
-fn no_line(at: usize) -> NodeLine
+fn no_line(at: usize) -> ListedNode
     ensures { λ r. ⌜ r .found ≡ false ⌝ }
 {
-    NodeLine {
+    ListedNode {
         found: false,
         node: DagNode {
             kind: 0,
@@ -133,7 +133,7 @@ fn no_line(at: usize) -> NodeLine
 }
 
 // The line of the node of an id, with its line feed.
-pub fn node_line(bytes: &[u8], at: usize, wanted: u64) -> NodeLine
+pub(crate) fn node_line(bytes: &[u8], at: usize, wanted: u64) -> ListedNode
     ensures { λ r. ⌜ ReadsLine (now (bytes .entry)) at wanted r ⌝ }
 {
     let start = heading_at(bytes, at);
@@ -165,7 +165,7 @@ pub fn node_line(bytes: &[u8], at: usize, wanted: u64) -> NodeLine
     if !lower_children(places, arity, id) {
         return no_line(at);
     }
-    NodeLine {
+    ListedNode {
         found: true,
         node: DagNode::new(kind, payload, flags, arity, places),
         next: rest.next,

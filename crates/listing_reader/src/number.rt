@@ -4,37 +4,32 @@ ghost use mathlib.Core.List.{_∷_, _++_};
 ghost use Prim.Native.Nat.{_≤_, _<_};
 ghost use lib.ListN.{getD};
 ghost use Rattle.definitions.specs.Listing.{decimal, hex, space};
-ghost use Rattle.listing_reader.specs.Numbers.{zeroDigit, nineDigit, isDigit, EndsDigits, Anything, HexValue, Reads};
+ghost use Rattle.listing_reader.specs.Numbers.{zeroDigit, nineDigit, isDigit, EndsDigits, Anything, HexValue, ReadsNumber};
+use listing_lines::BEFORE_LETTERS;
+use listing_lines::DECIMAL_BASE;
+use listing_lines::HEX_BASE;
+use listing_lines::HEX_DIGITS;
+use listing_lines::ZERO;
 
-// The bytes of the space and of the digits 0, 9, A and F.
+// The bytes of the space and of the digits 9, A and F.
 const SPACE: u8 = 32;
-
-const ZERO: u8 = 48;
 
 const NINE: u8 = 57;
 
 const LETTER_A: u8 = 65;
 
 const LETTER_F: u8 = 70;
-// A letter's byte less its value.
-const BEFORE_LETTERS: u8 = 55;
-
-const DECIMAL_BASE: u64 = 10;
-
-const HEX_BASE: u64 = 16;
-
-const HEX_DIGITS: u64 = 16;
 // The value of a byte that is no hex digit.
 const NO_DIGIT: u64 = 16;
 
 // What reading a number finds: the number and the place after it, or nothing.
-pub enum Number {
+pub(crate) enum Number {
     Found { value: u64, next: usize },
     Nothing,
 }
 
 // The byte at a place, 0 past the end.
-pub fn byte_at(bytes: &[u8], at: usize) -> u8
+pub(crate) fn byte_at(bytes: &[u8], at: usize) -> u8
     ensures { λ r. ⌜ r ≡ getD (now (bytes .entry)) at 0 ⌝ }
 {
     if at < bytes.len() { bytes[at] } else { 0 }
@@ -52,7 +47,7 @@ fn is_digit(byte: u8) -> bool
 // A decimal number whose first digit is not 0.
 fn digits_at(bytes: &[u8], at: usize) -> Number
     requires { ⌜ (zeroDigit < getD (now bytes) at 0) × (getD (now bytes) at 0 ≤ nineDigit) ⌝ }
-    ensures { λ r. ⌜ Reads (λ n rest. decimal n ++ rest) EndsDigits (now (bytes .entry)) at r ⌝ }
+    ensures { λ r. ⌜ ReadsNumber (λ n rest. decimal n ++ rest) EndsDigits (now (bytes .entry)) at r ⌝ }
 {
     let mut value = (byte_at(bytes, at) - ZERO) as u64;
     let mut next = at + 1;
@@ -68,8 +63,8 @@ fn digits_at(bytes: &[u8], at: usize) -> Number
 }
 
 // A decimal number in fewest digits.
-pub fn decimal_at(bytes: &[u8], at: usize) -> Number
-    ensures { λ r. ⌜ Reads (λ n rest. decimal n ++ rest) EndsDigits (now (bytes .entry)) at r ⌝ }
+pub(crate) fn decimal_at(bytes: &[u8], at: usize) -> Number
+    ensures { λ r. ⌜ ReadsNumber (λ n rest. decimal n ++ rest) EndsDigits (now (bytes .entry)) at r ⌝ }
 {
     let first = byte_at(bytes, at);
     if !is_digit(first) {
@@ -105,11 +100,11 @@ fn hex_value(byte: u8) -> u64
 
 // A number in 16 capital hex digits.
 fn hex_at(bytes: &[u8], at: usize) -> Number
-    ensures { λ r. ⌜ Reads (λ n rest. hex n ++ rest) Anything (now (bytes .entry)) at r ⌝ }
+    ensures { λ r. ⌜ ReadsNumber (λ n rest. hex n ++ rest) Anything (now (bytes .entry)) at r ⌝ }
 {
     let mut value: u64 = 0;
     let mut next = at;
-    let mut read: u64 = 0;
+    let mut read: usize = 0;
     while read < HEX_DIGITS {
         let digit = hex_value(byte_at(bytes, next));
         if digit == NO_DIGIT {
@@ -123,8 +118,8 @@ fn hex_at(bytes: &[u8], at: usize) -> Number
 }
 
 // A space and a decimal number.
-pub fn spaced_decimal_at(bytes: &[u8], at: usize) -> Number
-    ensures { λ r. ⌜ Reads (λ n rest. space ∷ (decimal n ++ rest)) EndsDigits (now (bytes .entry)) at r ⌝ }
+pub(crate) fn spaced_decimal_at(bytes: &[u8], at: usize) -> Number
+    ensures { λ r. ⌜ ReadsNumber (λ n rest. space ∷ (decimal n ++ rest)) EndsDigits (now (bytes .entry)) at r ⌝ }
 {
     if byte_at(bytes, at) != SPACE {
         return Number::Nothing;
@@ -133,8 +128,8 @@ pub fn spaced_decimal_at(bytes: &[u8], at: usize) -> Number
 }
 
 // A space and a payload.
-pub fn spaced_hex_at(bytes: &[u8], at: usize) -> Number
-    ensures { λ r. ⌜ Reads (λ n rest. space ∷ (hex n ++ rest)) Anything (now (bytes .entry)) at r ⌝ }
+pub(crate) fn spaced_hex_at(bytes: &[u8], at: usize) -> Number
+    ensures { λ r. ⌜ ReadsNumber (λ n rest. space ∷ (hex n ++ rest)) Anything (now (bytes .entry)) at r ⌝ }
 {
     if byte_at(bytes, at) != SPACE {
         return Number::Nothing;

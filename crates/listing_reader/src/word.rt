@@ -3,19 +3,19 @@ ghost use mathlib.Core.List.{_∷_, _++_};
 ghost use Prim.Native.Nat.{_<_};
 ghost use lib.ListN.{length};
 ghost use Rattle.definitions.specs.Listing.{decimal, space, lineFeed};
-ghost use Rattle.listing_reader.specs.Numbers.{EndsDigits, Anything, Reads};
-ghost use Rattle.listing_reader.specs.Words.{Starts};
+ghost use Rattle.listing_reader.specs.Numbers.{EndsDigits, Anything, ReadsNumber};
+ghost use Rattle.listing_reader.specs.Words.{StartsWith};
 use crate::number::Number;
 use crate::number::byte_at;
 use crate::number::spaced_decimal_at;
 
 // "Each line ends with the byte 0A (hex)."
-pub const LINE_FEED: u8 = 10;
+pub(crate) const LINE_FEED: u8 = 10;
 
 // Whether a word stands at a place.
-pub fn word_at(bytes: &[u8], at: usize, word: &[u8]) -> bool
+pub(crate) fn word_at(bytes: &[u8], at: usize, word: &[u8]) -> bool
     requires { ⌜ 0 < length (now word) ⌝ }
-    ensures { λ r. ⌜ Starts (now (bytes .entry)) at (now (word .entry)) r ⌝ }
+    ensures { λ r. ⌜ StartsWith (now (bytes .entry)) at (now (word .entry)) r ⌝ }
 {
     if bytes.len() < at {
         return false;
@@ -34,9 +34,9 @@ pub fn word_at(bytes: &[u8], at: usize, word: &[u8]) -> bool
 }
 
 // A word, a space and a number.
-pub fn number_behind(bytes: &[u8], at: usize, word: &[u8]) -> Number
+pub(crate) fn number_behind(bytes: &[u8], at: usize, word: &[u8]) -> Number
     requires { ⌜ 0 < length (now word) ⌝ }
-    ensures { λ r. ⌜ Reads (λ n rest. now (word .entry) ++ (space ∷ (decimal n ++ rest))) EndsDigits (now (bytes .entry)) at r ⌝ }
+    ensures { λ r. ⌜ ReadsNumber (λ n rest. now (word .entry) ++ (space ∷ (decimal n ++ rest))) EndsDigits (now (bytes .entry)) at r ⌝ }
 {
     if !word_at(bytes, at, word) {
         return Number::Nothing;
@@ -45,9 +45,9 @@ pub fn number_behind(bytes: &[u8], at: usize, word: &[u8]) -> Number
 }
 
 // A word, a space, a number and the line's end.
-pub fn line_behind(bytes: &[u8], at: usize, word: &[u8]) -> Number
+pub(crate) fn line_behind(bytes: &[u8], at: usize, word: &[u8]) -> Number
     requires { ⌜ 0 < length (now word) ⌝ }
-    ensures { λ r. ⌜ Reads (λ n rest. now (word .entry) ++ (space ∷ (decimal n ++ (lineFeed ∷ rest)))) Anything (now (bytes .entry)) at r ⌝ }
+    ensures { λ r. ⌜ ReadsNumber (λ n rest. now (word .entry) ++ (space ∷ (decimal n ++ (lineFeed ∷ rest)))) Anything (now (bytes .entry)) at r ⌝ }
 {
     let number = number_behind(bytes, at, word);
     let Number::Found { value, next } = number else {

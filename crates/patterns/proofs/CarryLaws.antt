@@ -18,7 +18,7 @@ use Rattle.store.specs.declared.Built.{Built}
 use Rattle.store.specs.declared.Answer.{Answer}
 use Rattle.store.specs.declared.Answer.the-variants as A
 use Rattle.store.proofs.Keeping.{kept-refl, kept-trans}
-use Rattle.patterns.specs.Carrying.{TwoOperands, Operand, Low, besideConstant, carried, BuildsBy}
+use Rattle.patterns.specs.Carrying.{TwoOperands, Operand, ReplacementLow, besideConstant, carried, BuildsBy}
 use Rattle.patterns.specs.Deciding.{ResultLow, plainResult}
 use Rattle.patterns.specs.Applied.{Applies, appliedOf, matchedOf, plainMatched, MatchedLow}
 use Rattle.patterns.specs.declared.Replacement.{Replacement}
@@ -29,7 +29,8 @@ use Rattle.patterns.specs.declared.Applied.{Applied}
 use Rattle.patterns.specs.declared.Matched.the-variants as M
 
 -- ---- nodes that may be interned
-no-children : (j : ℕ) → _≡_ {A = ℕ} (getD (0 ∷ 0 ∷ 0 ∷ 0 ∷ []) j 0) 0
+-- unused child places are 0
+pub no-children : (j : ℕ) → _≡_ {A = ℕ} (getD (0 ∷ 0 ∷ 0 ∷ 0 ∷ []) j 0) 0
 no-children zero = refl
 no-children (suc zero) = refl
 no-children (suc (suc zero)) = refl
@@ -131,8 +132,8 @@ module _ {w slots : List ℕ} {s : DagArena} where
   pub applies-none : {p : PatternResult} {plain : Option I.Built} → p ≡ R.Declined → plainResult (lent w slots) (nodesIn w (s .count)) p ≡ plain → Sound w slots s → Applies w slots s plain w slots (record { matched = M.Declined; arena = s })
   applies-none e f h = record { is = ap (plainResult (lent w slots) (nodesIn w (s .count))) (sym e) ∙ f; kept = kept-refl w slots s h; low = tt; same = λ e. (refl, refl, refl) }
 
-pub known-low : (count : ℕ) {p q : Replacement} → p ≡ q → Low count p → Low count q
-known-low count e l = subst (Low count) e l
+pub known-low : (count : ℕ) {p q : Replacement} → p ≡ q → ReplacementLow count p → ReplacementLow count q
+known-low count e l = subst (ReplacementLow count) e l
 
 pub known-result-low : (count : ℕ) {p q : PatternResult} → p ≡ q → ResultLow count p → ResultLow count q
 known-result-low count e l = subst (ResultLow count) e l

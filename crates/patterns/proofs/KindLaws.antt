@@ -1,15 +1,16 @@
 -- The patterns of a kind over its children, first that fits.
-use Prim.Native.Nat.{ℕ, zero, suc, _≤_, _<_}
+use Prim.Native.Nat.{ℕ, _≤_, _<_}
 use mathlib.Core.Path.{_≡_, refl, sym, ap, _∙_, subst}
 use mathlib.Core.Bool.{true, false}
 use mathlib.Core.List.{List, [], _∷_}
 use mathlib.Core.Option.{Option, none, some}
 use mathlib.Core.Logic.{_⊎_, inl, inr}
 use lib.ListN.{length, getD, take}
-use lib.Seq.{ext-getD, length-take-le}
+use lib.Seq.{length-take-le}
 use lib.Ieee.{Float}
 use native.Mathlib.Omega.{arith}
 use borrow.Author.Tests.{ne-eqb}
+use Rattle.definitions.specs.Limits.{mostChildren}
 use Rattle.definitions.specs.Node.{Node, at, addKind, subKind, mulKind, divKind, powKind, negKind}
 use Rattle.definitions.specs.Intern.{Lent, Built}
 use Rattle.definitions.specs.Patterns.{orElse, constantValue, addZero, subIdentity, mulIdentity, divIdentity, powIdentity, negDouble, identities, fold, foldBoth, constantFold, mulCoefMerge, addCoefMerge, merges, tryApply}
@@ -108,23 +109,22 @@ no-pattern l ns k (a ∷ []) u v = rw (ne-eqb k negKind (u refl)) refl
 no-pattern l ns k (a ∷ b ∷ []) u v = no-binary l ns k a b (v refl)
 no-pattern l ns k (a ∷ b ∷ c ∷ r) u v = refl
 
-four : (c : List ℕ) → length c ≡ 4 → c ≡ getD c 0 0 ∷ getD c 1 0 ∷ getD c 2 0 ∷ getD c 3 0 ∷ []
-four c e = ext-getD 0 c (getD c 0 0 ∷ getD c 1 0 ∷ getD c 2 0 ∷ getD c 3 0 ∷ []) e (λ i h. go i (rw e at h))
-  where
-    go : (i : ℕ) → i < 4 → getD c i 0 ≡ getD (getD c 0 0 ∷ getD c 1 0 ∷ getD c 2 0 ∷ getD c 3 0 ∷ []) i 0
-    go zero h = refl
-    go (suc zero) h = refl
-    go (suc (suc zero)) h = refl
-    go (suc (suc (suc zero))) h = refl
-    go (suc (suc (suc (suc i)))) h = absurd (omega arith)
+-- the four child places, written out
+pub four-places : (c : List ℕ) → length c ≡ mostChildren → c ≡ getD c 0 0 ∷ getD c 1 0 ∷ getD c 2 0 ∷ getD c 3 0 ∷ []
+four-places [] e = absurd (omega arith)
+four-places (a ∷ []) e = absurd (omega arith)
+four-places (a ∷ b ∷ []) e = absurd (omega arith)
+four-places (a ∷ b ∷ c ∷ []) e = absurd (omega arith)
+four-places (a ∷ b ∷ c ∷ d ∷ []) e = refl
+four-places (a ∷ b ∷ c ∷ d ∷ x ∷ l) e = absurd (omega arith)
 
 module _ (k n : ℕ) (c : List ℕ) (len : length c ≡ 4) where
   pub one-child : n ≡ 1 → k ≡ negKind → (l : Lent) (ns : List Node) → negDouble ns (getD c 0 0) ≡ tryApply l ns k (take n c)
   unfolding tryApply
-  one-child e h l ns = rw (e, h) (ap (λ (d : List ℕ). tryApply l ns negKind (take 1 d)) (sym (four c len)))
+  one-child e h l ns = rw (e, h) (ap (λ (d : List ℕ). tryApply l ns negKind (take 1 d)) (sym (four-places c len)))
 
   pub two-children : n ≡ 2 → (l : Lent) (ns : List Node) → tryApply l ns k (getD c 0 0 ∷ getD c 1 0 ∷ []) ≡ tryApply l ns k (take n c)
-  two-children e l ns = rw e (ap (λ (d : List ℕ). tryApply l ns k (take 2 d)) (sym (four c len)))
+  two-children e l ns = rw e (ap (λ (d : List ℕ). tryApply l ns k (take 2 d)) (sym (four-places c len)))
 
   -- no pattern for the number of children, or for the kind
   pub nothing-fits : n ≤ 4 → (n ≡ 1 → k ≡ negKind → ⊥) → (n ≡ 2 → (k < addKind) ⊎ (powKind < k)) → (l : Lent) (ns : List Node) → none ≡ tryApply l ns k (take n c)

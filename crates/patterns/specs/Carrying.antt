@@ -48,8 +48,8 @@ pub record TwoOperands (count kind lhs rhs : ℕ) : Type 0 where
   pub listing : listed kind 0 2 ≡ true
 
 -- the ids of a replacement are those of the store
-abbrev pub Low : ℕ → Replacement → Type 0
-Low count (Id i) = i < count
-Low count (Constant b) = Unit {0}
-Low count (ConstantLeft k b other) = Operand count k other
-Low count (ConstantRight k b other) = Operand count k other
+abbrev pub ReplacementLow : ℕ → Replacement → Type 0
+ReplacementLow count (Id i) = i < count
+ReplacementLow count (Constant b) = Unit {0}
+ReplacementLow count (ConstantLeft k b other) = Operand count k other
+ReplacementLow count (ConstantRight k b other) = Operand count k other

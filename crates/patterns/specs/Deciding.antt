@@ -10,7 +10,7 @@ use Rattle.store.specs.View.{nodesIn}
 use Rattle.store.specs.Lookup.{Lookup}
 use Rattle.fold.specs.declared.Folded.{Folded}
 use Rattle.fold.specs.declared.Folded.the-variants as F
-use Rattle.patterns.specs.Carrying.{carried, Low}
+use Rattle.patterns.specs.Carrying.{carried, ReplacementLow}
 use Rattle.patterns.specs.declared.Replacement.the-variants.{ConstantLeft, ConstantRight}
 use Rattle.patterns.specs.declared.PatternResult.{PatternResult}
 use Rattle.patterns.specs.declared.PatternResult.the-variants.{Fits, Declined}
@@ -26,7 +26,7 @@ plainResult l ns (Fits r) = some (carried r l ns)
 plainResult l ns Declined = none
 
 abbrev pub ResultLow : ℕ → PatternResult → Type 0
-ResultLow count (Fits r) = Low count r
+ResultLow count (Fits r) = ReplacementLow count r
 ResultLow count Declined = Unit {0}
 
 -- a decision is the plain machine's, whatever is lent

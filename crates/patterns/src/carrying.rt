@@ -1,7 +1,7 @@
 // Carrying out a replacement through the store, which alone makes nodes.
 ghost use mathlib.Core.List.{[], _∷_};
 ghost use Rattle.store.specs.View.{Sound};
-ghost use Rattle.patterns.specs.Carrying.{BuildsBy, constantOf, operatorOf, besideConstant, carried, Low, Operand, TwoOperands};
+ghost use Rattle.patterns.specs.Carrying.{BuildsBy, constantOf, operatorOf, besideConstant, carried, ReplacementLow, Operand, TwoOperands};
 use crate::Replacement;
 use arena::ASSOCIATIVE;
 use arena::COMMUTATIVE;
@@ -12,7 +12,7 @@ use store::Answer;
 use store::Built;
 
 // 01: "`add` and `mul` give flags 3".
-const ADD_AND_MUL_FLAGS: u64 = COMMUTATIVE + ASSOCIATIVE;
+pub const ADD_AND_MUL_FLAGS: u64 = COMMUTATIVE + ASSOCIATIVE;
 
 fn intern_constant(nodes: &mut [u64], slots: &mut [u32], arena: DagArena, bits: u64) -> Built
     requires { ⌜ Sound (now nodes) (now slots) arena ⌝ }
@@ -87,13 +87,13 @@ fn beside_constant(
 }
 
 // What a replacement says, built.
-pub fn carry_out(
+pub(crate) fn carry_out(
     nodes: &mut [u64],
     slots: &mut [u32],
     arena: DagArena,
     replacement: Replacement,
 ) -> Built
-    requires { ⌜ Low (arena .count) replacement × Sound (now nodes) (now slots) arena ⌝ }
+    requires { ⌜ ReplacementLow (arena .count) replacement × Sound (now nodes) (now slots) arena ⌝ }
     ensures { λ r. ⌜ BuildsBy (carried replacement) (now (nodes .entry)) (now (slots .entry)) arena (now (nodes .exit)) (now (slots .exit)) r ⌝ }
 {
     match replacement {

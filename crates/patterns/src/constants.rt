@@ -9,13 +9,13 @@ ghost use Rattle.patterns.specs.Reading.{valueOf};
 use arena::kind::CONSTANT;
 
 // The bits of a node that is a constant.
-pub enum Constant {
+pub(crate) enum Constant {
     Bits(u64),
     Missing,
 }
 
 // The constant that a node is.
-pub fn constant_value(nodes: &[u64], count: u64, id: u64) -> Constant
+pub(crate) fn constant_value(nodes: &[u64], count: u64, id: u64) -> Constant
     requires { ⌜ Lookup (now nodes) count id ⌝ }
     ensures { λ r. ⌜ valueOf r ≡ P.constantValue (N.at (nodesIn (now (nodes .entry)) count) id) ⌝ }
 {
@@ -27,7 +27,7 @@ pub fn constant_value(nodes: &[u64], count: u64, id: u64) -> Constant
 }
 
 // Zero tests accept -0.0.
-pub fn is_zero(c: Constant) -> bool
+pub(crate) fn is_zero(c: Constant) -> bool
     ensures { λ r. ⌜ r ≡ P.isZero (valueOf c) ⌝ }
 {
     match c {
@@ -36,7 +36,7 @@ pub fn is_zero(c: Constant) -> bool
     }
 }
 
-pub fn is_one(c: Constant) -> bool
+pub(crate) fn is_one(c: Constant) -> bool
     ensures { λ r. ⌜ r ≡ P.isOne (valueOf c) ⌝ }
 {
     match c {
@@ -45,7 +45,7 @@ pub fn is_one(c: Constant) -> bool
     }
 }
 
-pub fn is_finite(c: Constant) -> bool
+fn is_finite(c: Constant) -> bool
     ensures { λ r. ⌜ r ≡ P.isFinite (valueOf c) ⌝ }
 {
     match c {
@@ -54,7 +54,7 @@ pub fn is_finite(c: Constant) -> bool
     }
 }
 
-pub fn is_positive(c: Constant) -> bool
+pub(crate) fn is_positive(c: Constant) -> bool
     ensures { λ r. ⌜ r ≡ P.isPositive (valueOf c) ⌝ }
 {
     match c {
@@ -64,7 +64,7 @@ pub fn is_positive(c: Constant) -> bool
 }
 
 // A zero times a finite constant.
-pub fn vanishes(zero: Constant, finite: Constant) -> bool
+pub(crate) fn vanishes(zero: Constant, finite: Constant) -> bool
     ensures { λ r. ⌜ r ≡ (P.isZero (valueOf zero) && P.isFinite (valueOf finite)) ⌝ }
 {
     if is_zero(zero) {

@@ -7,7 +7,13 @@ use crate::constants::Constant;
 use crate::constants::constant_value;
 use fold::Folded;
 
-pub fn constant_fold(nodes: &[u64], count: u64, kind: u64, lhs: u64, rhs: u64) -> PatternResult
+pub(crate) fn constant_fold(
+    nodes: &[u64],
+    count: u64,
+    kind: u64,
+    lhs: u64,
+    rhs: u64,
+) -> PatternResult
     requires { ⌜ Both (now nodes) count lhs rhs ⌝ }
     ensures { λ r. ⌜ Decides (now (nodes .entry)) count (λ l ns. P.constantFold l ns kind lhs rhs) r ⌝ }
 {

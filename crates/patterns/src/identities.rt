@@ -20,7 +20,7 @@ use fold::BITS_OF_ONE;
 use fold::BITS_OF_ZERO;
 
 // `x + 0 -> x` and `0 + x -> x`.
-pub fn add_zero(nodes: &[u64], count: u64, lhs: u64, rhs: u64) -> PatternResult
+fn add_zero(nodes: &[u64], count: u64, lhs: u64, rhs: u64) -> PatternResult
     requires { ⌜ Both (now nodes) count lhs rhs ⌝ }
     ensures { λ r. ⌜ Decides (now (nodes .entry)) count (λ l ns. P.addZero l ns lhs rhs) r ⌝ }
 {
@@ -34,7 +34,7 @@ pub fn add_zero(nodes: &[u64], count: u64, lhs: u64, rhs: u64) -> PatternResult
 }
 
 // `x - 0 -> x` and `x - x -> 0`.
-pub fn sub_identity(nodes: &[u64], count: u64, lhs: u64, rhs: u64) -> PatternResult
+fn sub_identity(nodes: &[u64], count: u64, lhs: u64, rhs: u64) -> PatternResult
     requires { ⌜ Both (now nodes) count lhs rhs ⌝ }
     ensures { λ r. ⌜ Decides (now (nodes .entry)) count (λ l ns. P.subIdentity l ns lhs rhs) r ⌝ }
 {
@@ -48,7 +48,7 @@ pub fn sub_identity(nodes: &[u64], count: u64, lhs: u64, rhs: u64) -> PatternRes
 }
 
 // `x * 0 -> 0` and `0 * x -> 0` where x is a finite constant, `1 * x -> x` and `x * 1 -> x`.
-pub fn mul_identity(nodes: &[u64], count: u64, lhs: u64, rhs: u64) -> PatternResult
+fn mul_identity(nodes: &[u64], count: u64, lhs: u64, rhs: u64) -> PatternResult
     requires { ⌜ Both (now nodes) count lhs rhs ⌝ }
     ensures { λ r. ⌜ Decides (now (nodes .entry)) count (λ l ns. P.mulIdentity l ns lhs rhs) r ⌝ }
 {
@@ -70,7 +70,7 @@ pub fn mul_identity(nodes: &[u64], count: u64, lhs: u64, rhs: u64) -> PatternRes
 }
 
 // `x / 1 -> x`, `0 / x -> 0`, and `x / x -> 1` where x is a constant other than zero.
-pub fn div_identity(nodes: &[u64], count: u64, lhs: u64, rhs: u64) -> PatternResult
+fn div_identity(nodes: &[u64], count: u64, lhs: u64, rhs: u64) -> PatternResult
     requires { ⌜ Both (now nodes) count lhs rhs ⌝ }
     ensures { λ r. ⌜ Decides (now (nodes .entry)) count (λ l ns. P.divIdentity l ns lhs rhs) r ⌝ }
 {
@@ -91,7 +91,7 @@ pub fn div_identity(nodes: &[u64], count: u64, lhs: u64, rhs: u64) -> PatternRes
 }
 
 // `x ^ 0 -> 1`, `x ^ 1 -> x`, `1 ^ x -> 1`, and `0 ^ x -> 0` where x is a constant above zero.
-pub fn pow_identity(nodes: &[u64], count: u64, lhs: u64, rhs: u64) -> PatternResult
+fn pow_identity(nodes: &[u64], count: u64, lhs: u64, rhs: u64) -> PatternResult
     requires { ⌜ Both (now nodes) count lhs rhs ⌝ }
     ensures { λ r. ⌜ Decides (now (nodes .entry)) count (λ l ns. P.powIdentity l ns lhs rhs) r ⌝ }
 {
@@ -116,7 +116,7 @@ pub fn pow_identity(nodes: &[u64], count: u64, lhs: u64, rhs: u64) -> PatternRes
 }
 
 // `--x -> x`: the operand of a Neg that is a Neg itself.
-pub fn neg_double(nodes: &[u64], count: u64, operand: u64) -> PatternResult
+pub(crate) fn neg_double(nodes: &[u64], count: u64, operand: u64) -> PatternResult
     requires { ⌜ Lookup (now nodes) count operand ⌝ }
     ensures { λ r. ⌜ Decides (now (nodes .entry)) count (λ l ns. P.negDouble ns operand) r ⌝ }
 {
@@ -130,7 +130,7 @@ pub fn neg_double(nodes: &[u64], count: u64, operand: u64) -> PatternResult
 }
 
 // The identity of an operator of two operands.
-pub fn identity(nodes: &[u64], count: u64, kind: u64, lhs: u64, rhs: u64) -> PatternResult
+pub(crate) fn identity(nodes: &[u64], count: u64, kind: u64, lhs: u64, rhs: u64) -> PatternResult
     requires { ⌜ Both (now nodes) count lhs rhs ⌝ }
     ensures { λ r. ⌜ Decides (now (nodes .entry)) count (λ l ns. P.identities l ns kind lhs rhs) r ⌝ }
 {

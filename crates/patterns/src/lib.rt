@@ -6,15 +6,7 @@ mod folding;
 mod identities;
 mod merging;
 
-pub use folding::constant_fold;
-pub use identities::add_zero;
-pub use identities::div_identity;
-pub use identities::mul_identity;
-pub use identities::neg_double;
-pub use identities::pow_identity;
-pub use identities::sub_identity;
-pub use merging::add_coef_merge;
-pub use merging::mul_coef_merge;
+pub use carrying::ADD_AND_MUL_FLAGS;
 ghost use mathlib.Core.Path.{_≡_};
 ghost use mathlib.Core.List.{[], _∷_};
 ghost use lib.ListN.{take};
@@ -32,14 +24,14 @@ use store::Built;
 
 // What stands in the operator's place: an id; a constant; or a constant and then an operator over it and another operand, the
 // constant on the left or on the right.
-pub enum Replacement {
+pub(crate) enum Replacement {
     Id(u64),
     Constant(u64),
     ConstantLeft { kind: u64, bits: u64, other: u64 },
     ConstantRight { kind: u64, bits: u64, other: u64 },
 }
 
-pub enum PatternResult {
+pub(crate) enum PatternResult {
     Fits(Replacement),
     Declined,
 }

@@ -16,7 +16,7 @@ use arena::kind::MUL;
 use fold::Folded;
 
 // The constant among two children: its bits, and the other child. Where both are constants the left one is taken.
-pub enum ConstantChild {
+enum ConstantChild {
     Left { bits: u64, other: u64 },
     Right { bits: u64, other: u64 },
     Missing,
@@ -88,7 +88,7 @@ fn mul_merge(nodes: &[u64], count: u64, constant: u64, product: u64) -> PatternR
 }
 
 // `(c * x) * d` and `(x * c) * d`, then `d * (c * x)` and `d * (x * c)`.
-pub fn mul_coef_merge(nodes: &[u64], count: u64, lhs: u64, rhs: u64) -> PatternResult
+fn mul_coef_merge(nodes: &[u64], count: u64, lhs: u64, rhs: u64) -> PatternResult
     requires { ⌜ Both (now nodes) count lhs rhs ⌝ }
     ensures { λ r. ⌜ Decides (now (nodes .entry)) count (λ l ns. P.mulCoefMerge l ns lhs rhs) r ⌝ }
 {
@@ -101,7 +101,7 @@ pub fn mul_coef_merge(nodes: &[u64], count: u64, lhs: u64, rhs: u64) -> PatternR
 }
 
 // `(c + x) + d -> x + (c + d)` and `(x + c) + d -> x + (c + d)`; `d + (c + x)` stays.
-pub fn add_coef_merge(nodes: &[u64], count: u64, lhs: u64, rhs: u64) -> PatternResult
+fn add_coef_merge(nodes: &[u64], count: u64, lhs: u64, rhs: u64) -> PatternResult
     requires { ⌜ Both (now nodes) count lhs rhs ⌝ }
     ensures { λ r. ⌜ Decides (now (nodes .entry)) count (λ l ns. P.addCoefMerge l ns lhs rhs) r ⌝ }
 {
@@ -122,7 +122,7 @@ pub fn add_coef_merge(nodes: &[u64], count: u64, lhs: u64, rhs: u64) -> PatternR
 }
 
 // The merge of an operator of two operands.
-pub fn merge(nodes: &[u64], count: u64, kind: u64, lhs: u64, rhs: u64) -> PatternResult
+pub(crate) fn merge(nodes: &[u64], count: u64, kind: u64, lhs: u64, rhs: u64) -> PatternResult
     requires { ⌜ Both (now nodes) count lhs rhs ⌝ }
     ensures { λ r. ⌜ Decides (now (nodes .entry)) count (λ l ns. P.merges l ns kind lhs rhs) r ⌝ }
 {

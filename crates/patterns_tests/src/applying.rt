@@ -1,29 +1,18 @@
-// A store for a case, and try_apply on it.
+// try_apply on a case's store.
 ghost use mathlib.Core.Path.{_≡_};
 ghost use mathlib.Core.Bool.{true};
 ghost use Rattle.patterns_tests.specs.Ready.{Ready};
-use crate::printing::answer;
-use crate::printing::nodes_from;
-use crate::printing::text;
+use crate::showing::answer;
+use crate::showing::nodes_from;
 use arena::DagArena;
 use arena::MOST_CHILDREN;
-use builder::FreshStore;
-use builder::fresh;
 use patterns::try_apply;
+use printing::text;
 use store::Answer;
 use store::Built;
 use store::audit;
 
 const NO_ID: u64 = 0xffff_ffff;
-
-// A fresh store's counts.
-pub(crate) fn open(nodes: &[u64], slots: &mut [u32]) -> DagArena {
-    let opened = fresh(nodes, slots);
-    match opened {
-        FreshStore::Store(arena) => arena,
-        FreshStore::Refused(_) => DagArena { count: 0, size: 0 },
-    }
-}
 
 // The id that was built.
 pub(crate) fn id_of(built: Built) -> u64 {

@@ -1,11 +1,11 @@
 // An operator over two leaves.
 use crate::applying::apply;
 use crate::applying::id_of;
-use crate::applying::open;
-use crate::printing::bits;
-use crate::printing::sign;
-use crate::printing::text;
+use crate::showing::sign;
 use arena::DagArena;
+use printing::bits;
+use printing::open;
+use printing::text;
 use store::Built;
 
 // The symbol of x.

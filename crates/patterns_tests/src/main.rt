@@ -10,7 +10,7 @@ mod merges;
 mod negations;
 mod numbers;
 mod places;
-mod printing;
+mod showing;
 
 fn main() {
     identities::sums();

@@ -2,7 +2,6 @@
 // operator with flags 3.
 use crate::applying::apply;
 use crate::applying::id_of;
-use crate::applying::open;
 use crate::formulas::SLOTS;
 use crate::formulas::SYMBOL;
 use crate::formulas::WORDS;
@@ -20,9 +19,7 @@ use crate::numbers::TENTH;
 use crate::numbers::THREE;
 use crate::numbers::TWO;
 use crate::numbers::ZERO;
-use crate::printing::bits;
-use crate::printing::sign;
-use crate::printing::text;
+use crate::showing::sign;
 use arena::DagArena;
 use arena::kind::ADD;
 use arena::kind::MUL;
@@ -30,6 +27,9 @@ use arena::kind::SUB;
 use builder::constant;
 use builder::operator;
 use builder::variable;
+use printing::bits;
+use printing::open;
+use printing::text;
 use store::Built;
 
 // The operator codes of Add and Mul.

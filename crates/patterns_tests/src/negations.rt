@@ -1,6 +1,5 @@
 // Double negation, and kinds and numbers of children that have no pattern.
 use crate::applying::apply;
-use crate::applying::open;
 use crate::formulas::Leaf;
 use crate::formulas::SLOTS;
 use crate::formulas::WORDS;
@@ -9,8 +8,6 @@ use crate::formulas::print;
 use crate::numbers::ONE;
 use crate::numbers::TWO;
 use crate::numbers::ZERO;
-use crate::printing::number;
-use crate::printing::text;
 use arena::kind::ADD;
 use arena::kind::CONSTANT;
 use arena::kind::CONTROL;
@@ -21,6 +18,9 @@ use arena::kind::SUB;
 use arena::kind::VARIABLE;
 use builder::constant;
 use builder::neg;
+use printing::number;
+use printing::open;
+use printing::text;
 
 // Neg over a leaf, over its Neg, and over the Neg of that.
 fn negations_of(leaf: Leaf) {

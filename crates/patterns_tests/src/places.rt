@@ -1,18 +1,17 @@
 // Merges that 21 or 22 stops: what was interned before stays. An old node is found also in a full store.
 use crate::applying::apply;
-use crate::applying::open;
 use crate::formulas::SLOTS;
 use crate::merges::Inner;
 use crate::merges::build;
 use crate::numbers::FOUR;
 use crate::numbers::THREE;
 use crate::numbers::TWO;
-use crate::printing::text;
-use arena::DagArena;
 use arena::kind::MUL;
 use builder::constant;
 use builder::mul;
-use builder::variable;
+use printing::open;
+use printing::text;
+use printing::variables;
 use store::Built;
 
 // 2.0 * x
@@ -62,24 +61,6 @@ pub(crate) fn both_found() {
     let found = mul(&mut nodes, &mut slots, four.arena, 3, 0);
     text(b"both found:");
     apply(&mut nodes, &mut slots, found.arena, MUL, 2, 1, 2);
-}
-
-// Variables with the symbols from one to before another.
-fn variables(
-    nodes: &mut [u64],
-    slots: &mut [u32],
-    from: DagArena,
-    first: u32,
-    end: u32,
-) -> DagArena {
-    let mut arena = from;
-    let mut symbol = first;
-    while symbol < end {
-        let built = variable(nodes, slots, arena, symbol);
-        arena = built.arena;
-        symbol += 1;
-    }
-    arena
 }
 
 // A table of 64 slots holds 44 nodes: with 43 the merged constant stays.

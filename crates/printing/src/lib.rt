@@ -1,11 +1,15 @@
-// What the store's test programs print, and what they share.
+// What test programs print, and what they share.
 use arena::DagArena;
+use arena::DagNode;
 use builder::FreshStore;
 use builder::fresh;
 use builder::variable;
 use libc::STDOUT_FILENO;
 use store::Answer;
 use store::Built;
+
+// The hex digits of a payload.
+const PAYLOAD_DIGITS: usize = 16;
 
 pub fn text(t: &[u8]) {
     io::write_all(STDOUT_FILENO, t);
@@ -18,6 +22,36 @@ pub fn number(n: u64) {
 
 pub fn wide(x: u32) -> u64 {
     x as u64
+}
+
+// The bits of a constant, or a payload.
+pub fn bits(b: u64) {
+    io::print_hex(STDOUT_FILENO, b, PAYLOAD_DIGITS);
+}
+
+fn children(node: DagNode) {
+    let places = node.children;
+    if 0 < node.arity {
+        number(places[0]);
+    }
+    if 1 < node.arity {
+        number(places[1]);
+    }
+    if 2 < node.arity {
+        number(places[2]);
+    }
+    if 3 < node.arity {
+        number(places[3]);
+    }
+}
+
+// What a line of 01's listing says of a node after its id.
+pub fn after_id(node: DagNode) {
+    number(node.kind);
+    text(b" ");
+    bits(node.payload);
+    number(node.flags);
+    children(node);
 }
 
 // An answer: an id, or `refused` and the number.

@@ -1,7 +1,7 @@
 -- Four child places agree exactly if the children in them do.
 use Prim.Native.Nat.{ℕ, _≤_, _<_}
 use mathlib.Core.Path.{_≡_, refl, sym, ap, ap₂, _∙_, subst}
-use mathlib.Core.Bool.{Bool, true, false, _&&_}
+use mathlib.Core.Bool.{Bool, true, false, _&&_, and-true}
 use mathlib.Core.List.{List, [], _∷_}
 use lib.ListN.{length, getD, take}
 use lib.Seq.{getD-take, ext-getD}
@@ -13,20 +13,9 @@ use Rattle.definitions.specs.Limits.{mostChildren}
 use Rattle.definitions.specs.Node.{sameChildren}
 use Rattle.definitions.proofs.Intern.{sameChildren-eq}
 use Rattle.store.specs.Lookup.{Places}
+use Rattle.patterns.proofs.KindLaws.{four-places}
 
 -- ---- the test, place by place
-
-four : (l : List ℕ) → length l ≡ mostChildren → l ≡ getD l 0 0 ∷ getD l 1 0 ∷ getD l 2 0 ∷ getD l 3 0 ∷ []
-four [] e = absurd (omega arith)
-four (a ∷ []) e = absurd (omega arith)
-four (a ∷ b ∷ []) e = absurd (omega arith)
-four (a ∷ b ∷ c ∷ []) e = absurd (omega arith)
-four (a ∷ b ∷ c ∷ d ∷ []) e = refl
-four (a ∷ b ∷ c ∷ d ∷ x ∷ l) e = absurd (omega arith)
-
-and-true : (x : Bool) → x && true ≡ x
-and-true true = refl
-and-true false = refl
 
 module _ (a b : List ℕ) (p : length a ≡ mostChildren) (q : length b ≡ mostChildren) where
   abbrev test : ℕ → Bool
@@ -34,7 +23,7 @@ module _ (a b : List ℕ) (p : length a ≡ mostChildren) (q : length b ≡ most
 
   tests : sameChildren a b ≡ test 0 && (test 1 && (test 2 && test 3))
   tests =
-      ap₂ sameChildren (four a p) (four b q)
+      ap₂ sameChildren (four-places a p) (four-places b q)
       ∙ ap (λ (x : Bool). test 0 && (test 1 && (test 2 && x))) (and-true (test 3))
 
   pub differ-0 : (getD a 0 0 ≡ getD b 0 0 → ⊥) → false ≡ sameChildren a b

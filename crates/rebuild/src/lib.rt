@@ -6,19 +6,16 @@ ghost use Rattle.definitions.specs.Walk.{rebuiltFlags, rebuilt, rebuildOrMatch}
 ghost use Rattle.store.specs.View.{nodesIn, lent, Builds};
 ghost use Rattle.rebuild.specs.Memory.{memory};
 ghost use Rattle.rebuild.specs.Rebuild.{Rebuildable, newChildren, Finishes};
-use arena::ASSOCIATIVE;
-use arena::COMMUTATIVE;
 use arena::DagArena;
 use arena::MOST_CHILDREN;
 use arena::kind::ADD;
 use arena::kind::MUL;
+use patterns::ADD_AND_MUL_FLAGS;
 use patterns::Matched;
 use store::Answer;
 use store::Built;
 
 // 01: "`add` and `mul` give flags 3, other constructors 0".
-const ADD_OR_MUL_FLAGS: u64 = COMMUTATIVE + ASSOCIATIVE;
-
 const OTHER_FLAGS: u64 = 0;
 
 // How many children the constructors `add` and `mul` take.
@@ -32,10 +29,10 @@ fn rebuilt_flags(kind: u64, arity: u64) -> u64
         return OTHER_FLAGS;
     }
     if kind == ADD {
-        return ADD_OR_MUL_FLAGS;
+        return ADD_AND_MUL_FLAGS;
     }
     if kind == MUL {
-        return ADD_OR_MUL_FLAGS;
+        return ADD_AND_MUL_FLAGS;
     }
     OTHER_FLAGS
 }

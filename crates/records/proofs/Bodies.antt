@@ -13,7 +13,7 @@ use Rattle.definitions.specs.Sheet as Sheet
 use Rattle.definitions.specs.Sheet.{bigEndian, operands, withOperands, sized, variableBody, constantBody, operatorBody, functionBody, controlBody, simplifyBody, pruneBody, body}
 use Rattle.records.specs.declared.Body.{Body}
 use Rattle.records.specs.declared.Body.the-variants.{Variable, Constant, Operator, Function, Control, Simplify, Prune, Malformed}
-use Rattle.records.specs.Reading.{part, operandFrom, operandsFrom, callOf, Within, Decodes}
+use Rattle.records.specs.Reading.{part, operandFrom, operandsFrom, callOf, OperandsInSheet, Decodes}
 use Rattle.records.proofs.Parts.{part-length, part-cons, part-take, part-drop, part-getD}
 use Rattle.records.proofs.Operands.{part-two, operands-odd, operands-even}
 
@@ -84,7 +84,7 @@ module _ (s : List ℕ) (at n : ℕ) (h : at + n ≤ length s) (f : List ℕ →
   half : (n % 2 ≡ 0 → ⊥) → Decodes s call Malformed
   half o = malformed s call (e ∙ ap (withOperands f) (operands-odd s at n h o))
 
-  whole : n % 2 ≡ 0 → (b : Body) → callOf s b ≡ some (f (operandsFrom s at (n / 2))) → Within (length s) b → Decodes s call b
+  whole : n % 2 ≡ 0 → (b : Body) → callOf s b ≡ some (f (operandsFrom s at (n / 2))) → OperandsInSheet (length s) b → Decodes s call b
   whole o b c w = record { is = c ∙ sym (e ∙ ap (withOperands f) (operands-even s at n h o)); within = w }
 
 -- 03 operator(1), flags(1), operands

@@ -1,7 +1,7 @@
 -- A record whole: its length and its body; and how a sheet starts.
 use Prim.Native.Nat.{ℕ, zero, suc, _+_, _-_, _≤_, _<_}
 use mathlib.Core.Path.{_≡_, refl, sym, ap, ap₂, _∙_, subst}
-use mathlib.Core.Bool.{Bool, true, false, _&&_, cond}
+use mathlib.Core.Bool.{Bool, true, false, _&&_, cond, and-false}
 use mathlib.Core.List.{List, [], _∷_}
 use mathlib.Core.Option.{Option, none, some}
 use lib.ListN.{length, getD, take, drop, length-drop}
@@ -18,7 +18,7 @@ use Rattle.definitions.specs.Sheet.{bigEndian, cut, recordCall, body, Ran, ran,
 use Rattle.records.specs.declared.Body.{Body}
 use Rattle.records.specs.declared.Cursor.{Cursor}
 use Rattle.records.specs.declared.Opened.the-variants.{Records, Refused}
-use Rattle.records.specs.Reading.{part, operandFrom, callOf, withRest, Decodes, isSheet, Opens}
+use Rattle.records.specs.Reading.{part, operandFrom, callOf, withRest, Decodes, isSheet, OpensSheet}
 use Rattle.records.proofs.Operands.{part-two}
 
 drop-two : (s : List ℕ) (at : ℕ) → at + 2 ≤ length s → drop at s ≡ getD s at 0 ∷ getD s (at + 1) 0 ∷ drop (at + 2) s
@@ -73,26 +73,22 @@ unfolding sheet
 a-sheet [] e l m = absurd (let z : _≡_ {A = ℕ} 0 1 = cc in omega arith)
 a-sheet (v ∷ bs) e l m = ap (λ (b : Bool). cond b (records mostRecords l [] m bs) (ran [] (some (badSheet, 0)) m)) (sym e)
 
-and-false : (b : Bool) → (b && false) ≡ false
-and-false true = refl
-and-false false = refl
-
-refused : (s : List ℕ) → isSheet s ≡ false → Opens s Refused
+refused : (s : List ℕ) → isSheet s ≡ false → OpensSheet s Refused
 refused s e = record { is = no-sheet s e; tells = e }
 
-pub open-empty : (s : List ℕ) → length s ≡ 0 → Opens s Refused
+pub open-empty : (s : List ℕ) → length s ≡ 0 → OpensSheet s Refused
 open-empty [] e = refused [] refl
 open-empty (v ∷ bs) e = absurd (omega arith)
 
-pub open-long : (s : List ℕ) → mostSheetBytes < length s → Opens s Refused
+pub open-long : (s : List ℕ) → mostSheetBytes < length s → OpensSheet s Refused
 open-long [] h = absurd (omega arith)
 open-long (v ∷ bs) h = refused (v ∷ bs) (ap (λ (b : Bool). eqb v 1 && b) (lt-leb (length (v ∷ bs)) mostSheetBytes h) ∙ and-false (eqb v 1))
 
-pub open-byte : (s : List ℕ) → (getD s 0 0 ≡ 1 → ⊥) → Opens s Refused
+pub open-byte : (s : List ℕ) → (getD s 0 0 ≡ 1 → ⊥) → OpensSheet s Refused
 open-byte [] h = refused [] refl
 open-byte (v ∷ bs) h = refused (v ∷ bs) (ap (λ (b : Bool). b && leb (length (v ∷ bs)) mostSheetBytes) (ne-eqb v 1 h))
 
-pub open-right : (s : List ℕ) (c : Cursor) → c .at ≡ 1 → 0 < length s → length s ≤ mostSheetBytes → getD s 0 0 ≡ 1 → Opens s (Records c)
+pub open-right : (s : List ℕ) (c : Cursor) → c .at ≡ 1 → 0 < length s → length s ≤ mostSheetBytes → getD s 0 0 ≡ 1 → OpensSheet s (Records c)
 open-right [] c a p q e = absurd (omega arith)
 open-right (v ∷ bs) c a p q e =
     let t : isSheet (v ∷ bs) ≡ true = ap₂ (λ (x y : Bool). x && y) (eq-eqb v 1 e) (le-leb (length (v ∷ bs)) mostSheetBytes q) in

@@ -47,34 +47,34 @@ callOf s (Prune o threshold) = some (prune o threshold)
 callOf s Malformed = none
 
 -- the operands of a body stand in the sheet
-abbrev pub Within : ℕ → Body → Type 0
-Within long (Variable n) = Unit {0}
-Within long (Constant b) = Unit {0}
-Within long (Operator o f first count) = first + count * 2 ≤ long
-Within long (Function n first count) = first + count * 2 ≤ long
-Within long (Control o first count) = first + count * 2 ≤ long
-Within long (Simplify o depth budget) = Unit {0}
-Within long (Prune o threshold) = Unit {0}
-Within long Malformed = Unit {0}
+abbrev pub OperandsInSheet : ℕ → Body → Type 0
+OperandsInSheet long (Variable n) = Unit {0}
+OperandsInSheet long (Constant b) = Unit {0}
+OperandsInSheet long (Operator o f first count) = first + count * 2 ≤ long
+OperandsInSheet long (Function n first count) = first + count * 2 ≤ long
+OperandsInSheet long (Control o first count) = first + count * 2 ≤ long
+OperandsInSheet long (Simplify o depth budget) = Unit {0}
+OperandsInSheet long (Prune o threshold) = Unit {0}
+OperandsInSheet long Malformed = Unit {0}
 
 -- a body of the sheet is this call, or none
 pub record Decodes (s : List ℕ) (call : Option Call) (r : Body) : Type 0 where
   pub is : callOf s r ≡ call
-  pub within : Within (length s) r
+  pub within : OperandsInSheet (length s) r
 
 abbrev pub withRest : Option Call → List ℕ → Option (Call × List ℕ)
 withRest none rest = none
 withRest (some c) rest = some (c, rest)
 
 -- the record at a place: its call, and the bytes after it
-pub record Reads (s : List ℕ) (at : ℕ) (r : Record) : Type 0 where
+pub record ReadsRecord (s : List ℕ) (at : ℕ) (r : Record) : Type 0 where
   pub is : withRest (callOf s (r .body)) (drop (r .next .at) s) ≡ recordCall (cut (drop at s))
-  pub within : Within (length s) (r .body)
+  pub within : OperandsInSheet (length s) (r .body)
 
 -- how a sheet goes on from its start
-abbrev pub opened : Lent → State → List ℕ → Opened → Ran
-opened l m s (Records c) = records mostRecords l [] m (drop (c .at) s)
-opened l m s Refused = ran [] (some (badSheet, 0)) m
+abbrev pub afterOpening : Lent → State → List ℕ → Opened → Ran
+afterOpening l m s (Records c) = records mostRecords l [] m (drop (c .at) s)
+afterOpening l m s Refused = ran [] (some (badSheet, 0)) m
 
 -- whether bytes are a sheet, as refusal 1 has it
 abbrev pub isSheet : List ℕ → Bool
@@ -85,6 +85,6 @@ abbrev pub isOpened : Opened → Bool
 isOpened (Records c) = true
 isOpened Refused = false
 
-pub record Opens (s : List ℕ) (r : Opened) : Type 0 where
-  pub is : (l : Lent) (m : State) → opened l m s r ≡ sheet l m s
+pub record OpensSheet (s : List ℕ) (r : Opened) : Type 0 where
+  pub is : (l : Lent) (m : State) → afterOpening l m s r ≡ sheet l m s
   pub tells : isSheet s ≡ isOpened r

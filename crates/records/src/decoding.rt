@@ -136,7 +136,7 @@ fn prune_body(sheet: &[u8], at: usize, length: usize) -> Body
 }
 
 // The body that the bytes from a place on are.
-pub fn decode(sheet: &[u8], at: usize, length: usize) -> Body
+pub(crate) fn decode(sheet: &[u8], at: usize, length: usize) -> Body
     requires { ⌜ at + length ≤ lib.ListN.length (now sheet) ⌝ }
     ensures { λ r. ⌜ Decodes (now (sheet .entry)) (Sheet.body (part (now (sheet .entry)) at length)) r ⌝ }
 {

@@ -3,16 +3,16 @@ mod decoding;
 mod number;
 
 pub use number::operand;
-ghost use Rattle.records.specs.Reading.{Opens, Reads};
+ghost use Rattle.records.specs.Reading.{OpensSheet, ReadsRecord};
 use decoding::decode;
 use number::number;
 
 // 01, refusal 1: "sheet empty, over 16,384 bytes, or first byte not 1".
 pub const MOST_SHEET_BYTES: usize = 16_384;
 
-pub const FIRST_BYTE: u8 = 1;
+const FIRST_BYTE: u8 = 1;
 // "length (2 bytes), body".
-pub const LENGTH_BYTES: usize = 2;
+const LENGTH_BYTES: usize = 2;
 
 // A place in a sheet's bytes.
 pub struct Cursor {
@@ -66,7 +66,7 @@ pub struct Record {
 
 // The start of a sheet.
 pub fn open(sheet: &[u8]) -> Opened
-    ensures { λ r. ⌜ Opens (now (sheet .entry)) r ⌝ }
+    ensures { λ r. ⌜ OpensSheet (now (sheet .entry)) r ⌝ }
 {
     if sheet.len() == 0 {
         return Opened::Refused;
@@ -82,7 +82,7 @@ pub fn open(sheet: &[u8]) -> Opened
 
 // The record at a cursor.
 pub fn read(sheet: &[u8], cursor: Cursor) -> Record
-    ensures { λ r. ⌜ Reads (now (sheet .entry)) (cursor .at) r ⌝ }
+    ensures { λ r. ⌜ ReadsRecord (now (sheet .entry)) (cursor .at) r ⌝ }
 {
     let at = cursor.at;
     if sheet.len() < at {

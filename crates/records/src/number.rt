@@ -5,7 +5,7 @@ ghost use lib.ListN.{length};
 ghost use Rattle.records.specs.Reading.{Number, operandFrom};
 
 // "operands are indices (2 bytes) of earlier records".
-pub const OPERAND_BYTES: usize = 2;
+pub(crate) const OPERAND_BYTES: usize = 2;
 // How far a byte shifts the digits before it.
 const BYTE_BASE: u64 = 256;
 
@@ -16,7 +16,7 @@ fn wide(byte: u8) -> u64
 }
 
 // The number that so many bytes from a place on are.
-pub fn number(sheet: &[u8], at: usize, width: usize) -> u64
+pub(crate) fn number(sheet: &[u8], at: usize, width: usize) -> u64
     requires { ⌜ (width ≤ 8) × (at + width ≤ length (now sheet)) ⌝ }
     ensures { λ r. ⌜ Number (now (sheet .entry)) at width r ⌝ }
 {

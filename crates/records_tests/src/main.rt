@@ -1,182 +1,10 @@
 // Reads sheets and prints what stands in them, a line a sheet: its records in order, then `.` at the end, `?` at a
 // malformed record, or `refused` where it is no sheet. The file `stdout` has the lines that 01 asks for.
-use libc::STDOUT_FILENO;
-use records::Body;
-use records::Cursor;
-use records::Opened;
+mod bodies;
+mod sheets;
 
-const MOST_BYTES: usize = 16_384;
-
-const MOST_RECORDS: u64 = 1_024;
-// Operands are printed up to this many; of more, the last.
-const FEW: usize = 4;
-
-// Where the next record is, if there may be one.
-enum Next {
-    At(usize),
-    Nothing,
-}
-
-fn print_number(n: u64) {
-    io::write_all(STDOUT_FILENO, b" ");
-    io::print_decimal(STDOUT_FILENO, n);
-}
-
-fn print_operand(sheet: &[u8], first: usize, k: usize) {
-    if k < sheet.len() {
-        if first < sheet.len() - k {
-            if k < sheet.len() - k - first {
-                if 1 < sheet.len() - k - first - k {
-                    print_number(records::operand(sheet, first, k) as u64);
-                }
-            }
-        }
-    }
-}
-
-fn print_operands(sheet: &[u8], first: usize, count: usize) {
-    print_number(count as u64);
-    io::write_all(STDOUT_FILENO, b":");
-    if FEW < count {
-        print_operand(sheet, first, count - 1);
-        return;
-    }
-    for k in 0..count {
-        print_operand(sheet, first, k);
-    }
-}
-
-fn print_body(sheet: &[u8], body: Body) {
-    match body {
-        Body::Variable(symbol) => {
-            io::write_all(STDOUT_FILENO, b"variable");
-            print_number(symbol as u64);
-        }
-        Body::Constant(bits) => {
-            io::write_all(STDOUT_FILENO, b"constant");
-            print_number(bits);
-        }
-        Body::Operator {
-            code,
-            flags,
-            first,
-            count,
-        } => {
-            io::write_all(STDOUT_FILENO, b"operator");
-            print_number(code as u64);
-            print_number(flags as u64);
-            print_operands(sheet, first, count);
-        }
-        Body::Function {
-            number,
-            first,
-            count,
-        } => {
-            io::write_all(STDOUT_FILENO, b"function");
-            print_number(number as u64);
-            print_operands(sheet, first, count);
-        }
-        Body::Control { code, first, count } => {
-            io::write_all(STDOUT_FILENO, b"control");
-            print_number(code as u64);
-            print_operands(sheet, first, count);
-        }
-        Body::Simplify {
-            operand,
-            depth,
-            budget,
-        } => {
-            io::write_all(STDOUT_FILENO, b"simplify");
-            print_number(operand as u64);
-            print_number(depth as u64);
-            print_number(budget as u64);
-        }
-        Body::Prune { operand, threshold } => {
-            io::write_all(STDOUT_FILENO, b"prune");
-            print_number(operand as u64);
-            print_number(threshold);
-        }
-        Body::Malformed => {
-            io::write_all(STDOUT_FILENO, b"?\n");
-        }
-    }
-}
-
-fn is_malformed(body: Body) -> bool {
-    match body {
-        Body::Variable(_) => false,
-        Body::Constant(_) => false,
-        Body::Operator {
-            code: _,
-            flags: _,
-            first: _,
-            count: _,
-        } => false,
-        Body::Function {
-            number: _,
-            first: _,
-            count: _,
-        } => false,
-        Body::Control {
-            code: _,
-            first: _,
-            count: _,
-        } => false,
-        Body::Simplify {
-            operand: _,
-            depth: _,
-            budget: _,
-        } => false,
-        Body::Prune {
-            operand: _,
-            threshold: _,
-        } => false,
-        Body::Malformed => true,
-    }
-}
-
-// Prints the record at a place, and says where the next one is.
-fn print_record(sheet: &[u8], at: usize) -> Next {
-    let record = records::read(sheet, Cursor { at });
-    let body = record.body;
-    let next = record.next;
-    print_body(sheet, body);
-    if is_malformed(body) {
-        return Next::Nothing;
-    }
-    io::write_all(STDOUT_FILENO, b"; ");
-    Next::At(next.at)
-}
-
-fn print_records(sheet: &[u8], start: usize) {
-    let mut at = start;
-    let mut left = MOST_RECORDS;
-    while left > 0 {
-        left -= 1;
-        if sheet.len() <= at {
-            io::write_all(STDOUT_FILENO, b".\n");
-            return;
-        }
-        let next = print_record(sheet, at);
-        let Next::At(place) = next else {
-            return;
-        };
-        at = place;
-    }
-}
-
-fn print_sheet(sheet: &[u8]) {
-    let opened = records::open(sheet);
-    match opened {
-        Opened::Records(cursor) => {
-            let at = cursor.at;
-            print_records(sheet, at);
-        }
-        Opened::Refused => {
-            io::write_all(STDOUT_FILENO, b"refused\n");
-        }
-    }
-}
+use records::MOST_SHEET_BYTES;
+use sheets::print_sheet;
 
 // The example of 01, and an operand, symbol, function number, budget and threshold whose bytes all differ.
 fn whole_records() {
@@ -227,7 +55,7 @@ fn wrong_bodies() {
 
 // A function with 8,188 operands in the longest sheet, the last of them 0x0203, and a byte more than that.
 fn huge() {
-    let mut sheet = [0u8; MOST_BYTES];
+    let mut sheet = [0u8; MOST_SHEET_BYTES];
     sheet[0] = 1;
     sheet[1] = 0x3f;
     sheet[2] = 0xfd;
@@ -240,7 +68,7 @@ fn huge() {
     print_sheet(&sheet);
     sheet[2] = 0xfe;
     print_sheet(&sheet);
-    let mut longer = [0u8; MOST_BYTES + 1];
+    let mut longer = [0u8; MOST_SHEET_BYTES + 1];
     longer[0] = 1;
     print_sheet(&longer);
 }

@@ -1,7 +1,7 @@
 -- Ids that no node has, brought down to the count, change no call.
 use Prim.Native.Nat.{ℕ, zero, suc, _+_, _*_, _≤_, _<_}
 use mathlib.Core.Path.{_≡_, refl, sym, ap, ap₂, _∙_, subst}
-use mathlib.Core.Bool.{Bool, true, false, _&&_, _||_, cond}
+use mathlib.Core.Bool.{Bool, true, false, _&&_, _||_, cond, and-false}
 use mathlib.Core.List.{List, [], _∷_, map}
 use lib.ListN.{length, getD, length-map}
 use lib.Dec.{leb, ltb, eqb}
@@ -15,10 +15,6 @@ use Rattle.definitions.specs.Walk.{standard, walkRoot}
 use Rattle.definitions.specs.Threshold.{given}
 use Rattle.definitions.specs.Machine as M
 use Rattle.sheet.specs.Running.{idOf, idBelow}
-
-and-false : (b : Bool) → (b && false) ≡ false
-and-false true = refl
-and-false false = refl
 
 module _ (ids : List ℕ) (done count : ℕ) where
   clamp-same : (d b : Bool) (i : ℕ) → ltb i count ≡ b → ltb (cond d (cond b i count) count) count ≡ ltb (cond d i count) count

@@ -22,7 +22,7 @@ use Rattle.store.proofs.Staying.{stays-refl, stays-trans}
 use Rattle.store.proofs.Viewing.{plain-length}
 use Rattle.arena.specs.declared.DagArena.{DagArena}
 use Rattle.records.specs.declared.Record.{Record}
-use Rattle.records.specs.Reading.{callOf, withRest, Reads}
+use Rattle.records.specs.Reading.{callOf, withRest, ReadsRecord}
 use Rattle.listing_lines.specs.declared.Outcome.{Outcome}
 use Rattle.listing_lines.specs.declared.Outcome.the-variants.{Ok, Empty, Spent, Refused as RefusedAt}
 use Rattle.listing_lines.specs.Outcome.{answeredAs, outcomeOf}
@@ -165,7 +165,7 @@ module _ (s : List ℕ) (plain : Sheet.Ran) (m : Memory) (p : Progress) (m′ : 
         (sym (records-full l al st (drop (p .at) s) left) ∙ ap (λ (k : ℕ). Sheet.records k l al st (drop (p .at) s)) (sym z) ∙ d .goes)
         (refused-at tooManyRecords) refl (d .stays)
 
-    module _ (r : Record) (x : Reads s (p .at) r) (room : p .done < mostRecords) where
+    module _ (r : Record) (x : ReadsRecord s (p .at) r) (room : p .done < mostRecords) where
       abbrev k : ℕ
       k = mostRecords - (p .done + 1)
 

@@ -21,11 +21,11 @@ use Rattle.store.proofs.Staying.{stays-refl}
 use Rattle.store.proofs.Sizes.{grown-is}
 use Rattle.builder.specs.declared.opening.FreshStore.{FreshStore}
 use Rattle.builder.specs.declared.opening.FreshStore.the-variants.{Store, Refused as RefusedStore}
-use Rattle.builder.specs.Opens.{freshAnswer, freshSlots, Opens as OpensStore}
+use Rattle.builder.specs.Opens.{freshAnswer, freshSlots, Opens}
 use Rattle.records.specs.declared.Cursor.{Cursor}
 use Rattle.records.specs.declared.Opened.{Opened}
 use Rattle.records.specs.declared.Opened.the-variants.{Records, Refused as RefusedSheet}
-use Rattle.records.specs.Reading.{opened, isSheet, isOpened, Opens}
+use Rattle.records.specs.Reading.{afterOpening, isSheet, isOpened, OpensSheet}
 use Rattle.listing_lines.specs.declared.Outcome.{Outcome}
 use Rattle.listing_lines.specs.declared.Outcome.the-variants.{Refused as RefusedAt}
 use Rattle.listing_lines.proofs.Lines.{listing-of-memory}
@@ -70,16 +70,16 @@ module _ (s : List ℕ) (m : Memory) (h : model .Sound m) where
   }
 
   -- 1
-  pub runs-refused : (r : Opened) → r ≡ RefusedSheet → Opens s r → Runs s m (RefusedAt badSheet 0) m
+  pub runs-refused : (r : Opened) → r ≡ RefusedSheet → OpensSheet s r → Runs s m (RefusedAt badSheet 0) m
   runs-refused r e x =
       runs (RefusedAt badSheet 0) m
-      (finish (Sheet.sheet (model .lent m) (model .view m) s) m m (RefusedAt badSheet 0) [] (some (badSheet, 0)) (model .view m) (ap (opened (model .lent m) (model .view m) s) (sym e) ∙ x .is (model .lent m) (model .view m)) refl refl (stays-refl m h))
+      (finish (Sheet.sheet (model .lent m) (model .view m) s) m m (RefusedAt badSheet 0) [] (some (badSheet, 0)) (model .view m) (ap (afterOpening (model .lent m) (model .view m) s) (sym e) ∙ x .is (model .lent m) (model .view m)) refl refl (stays-refl m h))
       (λ _. refl)
 
   -- the records of a sheet that starts well
-  pub runs-records : (r : Opened) (c : Cursor) → r ≡ Records c → Opens s r → (o : Outcome) (m′ : Memory) → Finishes (Sheet.records mostRecords (model .lent m) [] (model .view m) (drop (c .at) s)) m o m′ → Runs s m o m′
+  pub runs-records : (r : Opened) (c : Cursor) → r ≡ Records c → OpensSheet s r → (o : Outcome) (m′ : Memory) → Finishes (Sheet.records mostRecords (model .lent m) [] (model .view m) (drop (c .at) s)) m o m′ → Runs s m o m′
   runs-records r c e x o m′ f =
-      runs o m′ (subst (λ (plain : Sheet.Ran). Finishes plain m o m′) (ap (opened (model .lent m) (model .view m) s) (sym e) ∙ x .is (model .lent m) (model .view m)) f)
+      runs o m′ (subst (λ (plain : Sheet.Ran). Finishes plain m o m′) (ap (afterOpening (model .lent m) (model .view m) s) (sym e) ∙ x .is (model .lent m) (model .view m)) f)
       (λ n. absurd (let t : false ≡ true = sym n ∙ x .tells ∙ ap isOpened e in let z : _≡_ {A = ℕ} 0 1 = cc in omega arith))
 
 -- ---- on a fresh store
@@ -90,7 +90,7 @@ no-nodes words = record {
   apart = λ i j h. absurd (omega arith);
 }
 
-module _ (s words slots slots₁ : List ℕ) (x : FreshStore) (k : OpensStore words slots x slots₁) where
+module _ (s words slots slots₁ : List ℕ) (x : FreshStore) (k : Opens words slots x slots₁) where
   -- under 64 slots
   pub fresh-refused : (number : ℕ) → x ≡ RefusedStore number → (r : Ran) → r ≡ refusedAtStart number noStore → RunsFresh s words slots r words slots₁
   fresh-refused number e r f = go (M.freshRefused (lent words slots)) refl

@@ -17,7 +17,7 @@ use refusals::NOT_SOUND;
 use running::run_records;
 
 // 01, refusal 3: "record 1,024 reached".
-pub const MOST_RECORDS: usize = 1_024;
+pub(crate) const MOST_RECORDS: usize = 1_024;
 
 // What a sheet's first line says, and the counts of the store after it.
 pub struct Ran {

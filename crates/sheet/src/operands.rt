@@ -10,7 +10,7 @@ use crate::MOST_RECORDS;
 use arena::MOST_CHILDREN;
 
 // The id of an operand. One that is no earlier record gets the count, an id that no node has, so that the call refuses it.
-pub fn operand_id(ids: &[u64; MOST_RECORDS], done: usize, count: u64, operand: usize) -> u32
+pub(crate) fn operand_id(ids: &[u64; MOST_RECORDS], done: usize, count: u64, operand: usize) -> u32
     requires { ⌜ (length (now ids) ≡ mostRecords) × (done ≤ mostRecords) × (count ≤ mostNodes) ⌝ }
     ensures { λ r. ⌜ r ≡ idBelow (now (ids .entry)) done count operand ⌝ }
 {
@@ -25,7 +25,7 @@ pub fn operand_id(ids: &[u64; MOST_RECORDS], done: usize, count: u64, operand: u
 }
 
 // The ids of the operands from a place on, of which there are at most as many as a node has children.
-pub fn operand_ids(
+pub(crate) fn operand_ids(
     sheet: &[u8],
     first: usize,
     operands: usize,

@@ -5,7 +5,7 @@ ghost use lib.ListN.{length};
 ghost use Rattle.definitions.specs.Limits.{mostRecords};
 ghost use Rattle.store.specs.Sound.{Sound};
 ghost use Rattle.store.specs.Memory.{memory};
-ghost use Rattle.records.specs.Reading.{Within};
+ghost use Rattle.records.specs.Reading.{OperandsInSheet};
 ghost use Rattle.definitions.specs.Machine as M;
 ghost use Rattle.sheet.specs.Running.{Performs, PerformsBody, idOf};
 use crate::MOST_RECORDS;
@@ -22,13 +22,13 @@ use arena::kind::VARIABLE;
 use records::Body;
 
 // A record's id, and whether its budget ran out; or the number of a refusal.
-pub enum Answer {
+pub(crate) enum Answer {
     Answered { id: u64, spent: bool },
     Refused(u64),
 }
 
 // An answer, and the counts of the store after it.
-pub struct Performed {
+pub(crate) struct Performed {
     pub answer: Answer,
     pub arena: DagArena,
 }
@@ -103,7 +103,7 @@ fn prune(
 }
 
 // What a record's body asks for, done: "2, 5, 6, 4, 7, 23, 21, 22".
-pub fn perform(
+pub(crate) fn perform(
     sheet: &[u8],
     body: Body,
     ids: &[u64; MOST_RECORDS],
@@ -112,7 +112,7 @@ pub fn perform(
     slots: &mut [u32],
     arena: DagArena,
 ) -> Performed
-    requires { ⌜ Within (length (now sheet)) body × (length (now ids) ≡ mostRecords) × (done ≤ mostRecords) × Sound (now nodes) (now slots) arena ⌝ }
+    requires { ⌜ OperandsInSheet (length (now sheet)) body × (length (now ids) ≡ mostRecords) × (done ≤ mostRecords) × Sound (now nodes) (now slots) arena ⌝ }
     ensures { λ r. ⌜ PerformsBody (now (sheet .entry)) body (now (ids .entry)) done (memory (now (nodes .entry)) (now (slots .entry)) arena) (r .answer) (memory (now (nodes .exit)) (now (slots .exit)) (r .arena)) ⌝ }
 {
     match body {

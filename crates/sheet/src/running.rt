@@ -19,7 +19,7 @@ use records::Cursor;
 
 // How far a sheet is done: the number of records, where the next one starts, the last answer's id and whether its budget ran out,
 // and the counts of the store.
-pub struct Progress {
+pub(crate) struct Progress {
     pub done: usize,
     pub at: usize,
     pub id: u64,
@@ -28,7 +28,7 @@ pub struct Progress {
 }
 
 // One more record done, or the number of the refusal that cuts the sheet short.
-pub enum Turn {
+pub(crate) enum Turn {
     More(Progress),
     Refused { number: u64, arena: DagArena },
 }
@@ -91,7 +91,7 @@ fn finished(progress: Progress) -> Outcome
 }
 
 // All records from a place on, in a sound store.
-pub fn run_records(
+pub(crate) fn run_records(
     sheet: &[u8],
     start: usize,
     nodes: &mut [u64],

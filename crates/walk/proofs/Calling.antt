@@ -24,7 +24,7 @@ use Rattle.walk.specs.declared.Outcome as Outcomes
 use Rattle.walk.specs.declared.Answer.the-variants.{Refused}
 use Rattle.rebuild.specs.Memory.{Memory, memory, Sound, nodesOf, lentOf, Keeps}
 use Rattle.walk.specs.Answers.{meaning}
-use Rattle.walk.specs.Turns.{Starts, Startable, Runs}
+use Rattle.walk.specs.Turns.{Starts, Startable, WalksRoot}
 use Rattle.walk.proofs.Refusing.{refused-full}
 
 -- a refusal that changes nothing is neither 21 nor 22
@@ -86,7 +86,7 @@ module _ (m : Memory) (root depth budget : ℕ) where
           untouched badOperand
           (sym (shallow ∙ ap (λ (b : Bool). cond b walked (outcome (refused badOperand) (nodesOf m))) (le-ltb root (length (nodesOf m)) (omega (arith, plain-length (m .words) (m .arena .count))))))
 
-      answered : root < m .arena .count → (m′ : Memory) (r : Outcomes.Outcome) → Runs m root depth budget m′ r → Leaves (simplify root depth budget) m (meaning (r .answer)) m′
+      answered : root < m .arena .count → (m′ : Memory) (r : Outcomes.Outcome) → WalksRoot m root depth budget m′ r → Leaves (simplify root depth budget) m (meaning (r .answer)) m′
       answered g m′ r x =
           called (meaning (r .answer)) m′
           (x .plainly ∙ sym (shallow ∙ ap (λ (b : Bool). cond b walked (outcome (refused badOperand) (nodesOf m))) (lt-ltb root (length (nodesOf m)) (omega (arith, plain-length (m .words) (m .arena .count))))))
@@ -111,9 +111,9 @@ module _ (m : Memory) (root depth budget : ℕ) where
           };
         }
 
-        pub ran : (m′ : Memory) (r : Outcomes.Outcome) → Runs (memory (m .words) (m .slots) (w .progress .arena)) root (w .limit) budget m′ r
+        pub ran : (m′ : Memory) (r : Outcomes.Outcome) → WalksRoot (memory (m .words) (m .slots) (w .progress .arena)) root (w .limit) budget m′ r
             → Leaves (simplify root depth budget) m (meaning (r .answer)) m′
         ran m′ r x =
             answered g m′ r
-            (subst (λ (a : DagArena). Runs (memory (m .words) (m .slots) a) root depth budget m′ r) (s .arena-is)
-            (subst (λ (limit : ℕ). Runs (memory (m .words) (m .slots) (w .progress .arena)) root limit budget m′ r) (s .limit-is) x))
+            (subst (λ (a : DagArena). WalksRoot (memory (m .words) (m .slots) a) root depth budget m′ r) (s .arena-is)
+            (subst (λ (limit : ℕ). WalksRoot (memory (m .words) (m .slots) (w .progress .arena)) root limit budget m′ r) (s .limit-is) x))

@@ -25,7 +25,7 @@ use Rattle.walk.specs.declared.Answer.{Answer}
 use Rattle.walk.specs.declared.Answer.the-variants.{Simplified, Spent, Refused}
 use Rattle.rebuild.specs.Memory.{Memory, memory, Sound, nodesOf, lentOf, Keeps}
 use Rattle.walk.specs.Stack.{Stack, stack, framesOf, valuesOf, framesIn, valuesIn, Valid, Whole, Invariant}
-use Rattle.walk.specs.Turns.{Ready, turned, turnOf, Turns, stackOf, memoryOf, Starts, Startable, Ends, Runs}
+use Rattle.walk.specs.Turns.{Ready, turned, turnOf, Turns, stackOf, memoryOf, Starts, Startable, Ends, WalksRoot}
 use Rattle.walk.proofs.Stacks as S
 
 -- ---- the plain walk, a turn at a time
@@ -105,11 +105,11 @@ module _ (m : Memory) (root limit budget : ℕ) where
       unfolding next
       goes-on e = record { kept = kept-on; going = e; invariant = t .goes e; within = omega arith; same = walked Going e }
 
-      pub stops : (number : ℕ) → status′ ≡ Stopped number → Runs m root limit budget after (record { answer = Refused number; arena = after .arena })
+      pub stops : (number : ℕ) → status′ ≡ Stopped number → WalksRoot m root limit budget after (record { answer = Refused number; arena = after .arena })
       unfolding next
       stops number e = record { plainly = ap (M.walkedAs root) (walked (Stopped number) e); kept = kept-on }
 
-    finishes : k .frames ≡ 0 → Runs m root limit budget here (record { answer = Simplified (getD (k .values) 0 0) steps; arena = here .arena })
+    finishes : k .frames ≡ 0 → WalksRoot m root limit budget here (record { answer = Simplified (getD (k .values) 0 0) steps; arena = here .arena })
     finishes z =
         let none : framesIn k ≡ [] = ap (framesOf (k .ids) (k .cursors)) z in
         let v : Valid (nodesOf here) [] (valuesIn k) = subst (λ (x : List Frame). Valid (nodesOf here) x (valuesIn k)) none (R .invariant .valid) in
@@ -123,7 +123,7 @@ module _ (m : Memory) (root limit budget : ℕ) where
           kept = R .kept;
         }
 
-    spends : budget ≤ steps → (k .frames ≡ 0 → ⊥) → Runs m root limit budget here (record { answer = Spent root steps; arena = here .arena })
+    spends : budget ≤ steps → (k .frames ≡ 0 → ⊥) → WalksRoot m root limit budget here (record { answer = Spent root steps; arena = here .arena })
     spends b h = record {
       plainly =
           ap (M.walkedAs root)
@@ -133,13 +133,13 @@ module _ (m : Memory) (root limit budget : ℕ) where
 
     -- no turn is left to do
     pub ends : (budget ≤ steps) ⊎ (k .frames ≡ 0) → (r : Answer) → Ends (k .frames) (getD (k .values) 0 0) root steps r
-        → Runs m root limit budget here (record { answer = r; arena = here .arena })
+        → WalksRoot m root limit budget here (record { answer = r; arena = here .arena })
     ends over r e = by (ℕ-discrete (k .frames) 0)
       where
-        by : Dec (k .frames ≡ 0) → Runs m root limit budget here (record { answer = r; arena = here .arena })
-        by (yes z) = subst (λ (x : Answer). Runs m root limit budget here (record { answer = x; arena = here .arena })) (sym (e .finished z)) (finishes z)
+        by : Dec (k .frames ≡ 0) → WalksRoot m root limit budget here (record { answer = r; arena = here .arena })
+        by (yes z) = subst (λ (x : Answer). WalksRoot m root limit budget here (record { answer = x; arena = here .arena })) (sym (e .finished z)) (finishes z)
         by (no n) =
-            subst (λ (x : Answer). Runs m root limit budget here (record { answer = x; arena = here .arena })) (sym (e .spent n))
+            subst (λ (x : Answer). WalksRoot m root limit budget here (record { answer = x; arena = here .arena })) (sym (e .spent n))
             (spends (⊎-elim (λ b. b) (λ z. absurd (n z)) over) n)
 
 -- ---- the first state

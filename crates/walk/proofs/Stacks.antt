@@ -1,7 +1,7 @@
 -- The walk's arrays as lists, and what keeps them valid.
 use Prim.Native.Nat.{ℕ, zero, suc, _+_, _-_, _*_, _≤_, _<_}
 use mathlib.Core.Path.{_≡_, refl, sym, ap, ap₂, _∙_, subst}
-use mathlib.Core.List.{List, [], _∷_, _++_, append-assoc}
+use mathlib.Core.List.{List, [], _∷_, _++_, append-assoc, append-nil}
 use mathlib.Core.Logic.{_⊎_, inl, inr}
 use lib.ListN.{length, getD, take, drop, set, length-drop}
 use lib.Seq.{getD-set-same, getD-set-other, take-suc, getD-drop, getD-take, ext-getD, length-take-le}
@@ -67,10 +67,6 @@ values-reversed vs from (suc n) acc l =
     ∙ values-reversed vs from n (getD vs (from + n) 0 ∷ acc) (omega arith)
     ∙ sym (ap (λ (x : List ℕ). x ++ acc) (take-suc (drop from vs) n 0 (rw length-drop (omega arith))) ∙ append-assoc (take n (drop from vs)) (getD (drop from vs) n 0 ∷ []) acc
     ∙ ap (λ (x : ℕ). take n (drop from vs) ++ (x ∷ acc)) (getD-drop from vs n 0))
-
-append-nil : (l : List ℕ) → l ++ [] ≡ l
-append-nil [] = refl
-append-nil (x ∷ l) = ap (λ (r : List ℕ). x ∷ r) (append-nil l)
 
 pub gathered : (vs : List ℕ) (from n : ℕ) (places : List ℕ) → from + n ≤ length vs → n ≤ mostChildren → Gathered vs from n places
     → take n places ≡ reverseOnto (take n (valuesOf vs (from + n))) []

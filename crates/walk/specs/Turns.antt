@@ -107,6 +107,6 @@ pub record Ends (frames result root steps : ℕ) (r : Answer) : Type 0 where
   pub spent : (frames ≡ 0 → ⊥) → r ≡ Spent root steps
 
 -- the whole walk of a root, with the budget
-pub record Runs (m : Memory) (root limit budget : ℕ) (m′ : Memory) (r : Outcome) : Type 0 where
+pub record WalksRoot (m : Memory) (root limit budget : ℕ) (m′ : Memory) (r : Outcome) : Type 0 where
   pub plainly : M.outcome (meaning (r .answer)) (nodesOf m′) ≡ M.walkedAs root (walkRoot standard (lentOf m) limit budget (nodesOf m) root)
   pub kept : Keeps m m′

@@ -5,7 +5,7 @@ ghost use Rattle.store.specs.Memory.{memory, Leaves};
 ghost use Rattle.rebuild.specs.Memory.{Sound};
 ghost use Rattle.walk.specs.Answers.{meaning};
 
-pub mod refusals;
+mod refusals;
 mod run;
 pub mod state;
 mod turn;

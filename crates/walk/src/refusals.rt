@@ -1,6 +1,6 @@
 // 01: "id not below the count".
-pub const BAD_OPERAND: u64 = 4;
+pub(crate) const BAD_OPERAND: u64 = 4;
 // 01: "depth value not listed".
-pub const BAD_CODE: u64 = 5;
+pub(crate) const BAD_CODE: u64 = 5;
 // 01: "store .. not sound".
-pub const NOT_SOUND: u64 = 20;
+pub(crate) const NOT_SOUND: u64 = 20;

@@ -1,6 +1,6 @@
 // The walk with its budget.
 ghost use Rattle.rebuild.specs.Memory.{memory};
-ghost use Rattle.walk.specs.Turns.{Startable, Ends, Runs, memoryOf};
+ghost use Rattle.walk.specs.Turns.{Startable, Ends, WalksRoot, memoryOf};
 use crate::Answer;
 use crate::Outcome;
 use crate::state::Status;
@@ -19,9 +19,15 @@ fn ending(frames: usize, result: u64, root: u64, steps: u64) -> Answer
 }
 
 // Turns until no frame is left, a budget of them at most.
-pub fn run(nodes: &mut [u64], slots: &mut [u32], walk: Walk, root: u64, budget: u64) -> Outcome
+pub(crate) fn run(
+    nodes: &mut [u64],
+    slots: &mut [u32],
+    walk: Walk,
+    root: u64,
+    budget: u64,
+) -> Outcome
     requires { ⌜ Startable (memoryOf (now nodes) (now slots) walk) root walk ⌝ }
-    ensures { λ r. ⌜ Runs (memoryOf (now (nodes .entry)) (now (slots .entry)) walk) root (walk .limit) budget (memory (now (nodes .exit)) (now (slots .exit)) (r .arena)) r ⌝ }
+    ensures { λ r. ⌜ WalksRoot (memoryOf (now (nodes .entry)) (now (slots .entry)) walk) root (walk .limit) budget (memory (now (nodes .exit)) (now (slots .exit)) (r .arena)) r ⌝ }
 {
     let mut ids = walk.ids;
     let mut cursors = walk.cursors;

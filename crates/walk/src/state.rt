@@ -10,7 +10,7 @@ pub const MOST_FRAMES: usize = 256;
 pub const MOST_VALUES: usize = 1_024;
 
 // 01: "Depth limit 0 to 255".
-pub const MOST_DEPTH: u32 = 255;
+pub(crate) const MOST_DEPTH: u32 = 255;
 
 // Whether a walk goes on, or the refusal that stopped it.
 pub enum Status {

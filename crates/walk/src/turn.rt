@@ -81,7 +81,7 @@ fn descend(
 }
 
 // A turn at the top frame.
-pub fn turn(
+pub(crate) fn turn(
     nodes: &mut [u64],
     slots: &mut [u32],
     ids: &mut [u64; MOST_FRAMES],

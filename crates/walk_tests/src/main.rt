@@ -6,10 +6,10 @@ mod deep;
 mod full;
 mod identities;
 mod merging;
-mod printing;
 mod scripts;
 mod shapes;
 mod sharing;
+mod showing;
 
 fn main() {
     budgets::listing();

@@ -1,8 +1,9 @@
 // Scripts of calls: records of eight characters with a blank between, where `.` stands for nothing.
 ghost use Prim.Native.Nat.{_<_, _≤_};
-use crate::printing;
+use crate::showing;
 use arena::DagArena;
 use builder::FreshStore;
+use printing::text;
 use store::Built;
 
 // The number of characters of a record.
@@ -178,15 +179,15 @@ fn simplify(
 ) -> DagArena {
     let outcome = walk::simplify(nodes, slots, arena, root, depth, budget);
     let answer = outcome.answer;
-    printing::answer(answer);
+    showing::answer(answer);
     outcome.arena
 }
 
 fn list(nodes: &[u64], slots: &[u32], arena: DagArena, from: u32, to: u32) {
     if from == to {
-        return printing::listing(nodes, slots, arena, from, ALL);
+        return showing::listing(nodes, slots, arena, from, ALL);
     }
-    printing::listing(nodes, slots, arena, from, to)
+    showing::listing(nodes, slots, arena, from, to)
 }
 
 fn set_first_word(nodes: &mut [u64], word: u64) {
@@ -257,8 +258,8 @@ fn perform_all(nodes: &mut [u64], slots: &mut [u32], arena: DagArena, script: &[
 
 // A script from a fresh store, under a name.
 pub(crate) fn run(name: &[u8], nodes: &mut [u64], slots: &mut [u32], script: &[u8]) {
-    printing::text(name);
-    printing::text(b":\n");
+    text(name);
+    text(b":\n");
     let opened = builder::fresh(nodes, slots);
     if let FreshStore::Store(arena) = opened {
         perform_all(nodes, slots, arena, script);

@@ -3,43 +3,33 @@ use borrow.Author.Needs.{needs}
 use Rattle.history.proofs.replay.Statement.{statement}
 use Rattle.history.proofs.replay.Tie as tie
 
--- src/lib.rt:64:11
 fresh-requires : tie.Need-fresh-requires
 fresh-requires c κs = search needs
 
--- src/lib.rt:65:29
 enum-known-number : tie.Need-enum-known-number
 enum-known-number c = search needs
 
--- src/lib.rt:66:27
 enum-known-arena : tie.Need-enum-known-arena
 enum-known-arena c = search needs
 
--- src/lib.rt:66:52
 replay-from-requires : tie.Need-replay-from-requires
 replay-from-requires c κs = search needs
 
--- src/lib.rt:61:1
 same-length : tie.Need-same-length
 same-length c = search needs
 
--- src/lib.rt:61:1
 same-length-2 : tie.Need-same-length-2
 same-length-2 c = search needs
 
--- src/lib.rt:61:1
 returns : tie.Need-returns
 returns c = replays-refused _ _ _ _ _ _ (c .before .before .before .before .before .fresh .ensures) (c .before .number .given .1)
 
--- src/lib.rt:61:1
 same-length-3 : tie.Need-same-length-3
 same-length-3 c = search needs
 
--- src/lib.rt:61:1
 same-length-4 : tie.Need-same-length-4
 same-length-4 c = search needs
 
--- src/lib.rt:61:1
 returns-2 : tie.Need-returns-2
 returns-2 c = replays-done _ _ _ _ _ _ _ _ _ (c .before .before .before .before .before .before .before .before .before .before .before .before .fresh .ensures) (c .before .before .before .before .before .before .before .before .arena .given .1) (c .before .before .before .before .before .before .before .before .before .before .before .before .fresh .kept .1 .0) (c .before .before .before .before .replay-from .ensures)
 

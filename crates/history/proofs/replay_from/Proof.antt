@@ -14,59 +14,45 @@ Inv-loop nodes₀ slots₀ calls last₀ run₀ at₀ nodes slots last run at = 
 abbrev μ-loop : tie.MeasureT-loop
 μ-loop nodes₀ slots₀ calls last₀ run₀ at₀ nodes slots last run at = length calls - at
 
--- src/lib.rt:75:5
 loop-holds : tie.Need-loop-holds Inv-loop μ-loop
 loop-holds c = (omega arith, refl, refl, none-run _ _ _ refl)
 
--- src/lib.rt:76:13
 next-call-requires : tie.Need-next-call-requires Inv-loop μ-loop
 next-call-requires c κs = c .before .loop .inv .0
 
--- src/lib.rt:77:26
 enum-known-next : tie.Need-enum-known-next Inv-loop μ-loop
 enum-known-next c = search needs
 
--- src/lib.rt:78:13
 enum-told : tie.Need-enum-told Inv-loop μ-loop
 enum-told c = search needs
 
--- src/lib.rt:78:13
 same-length : tie.Need-same-length Inv-loop μ-loop
 same-length c = c .before .before .before .before .loop .inv .1
 
--- src/lib.rt:78:13
 same-length-2 : tie.Need-same-length-2 Inv-loop μ-loop
 same-length-2 c = c .before .before .before .before .loop .inv .2
 
--- src/lib.rt:78:13
 returns : tie.Need-returns Inv-loop μ-loop
 returns c = all-run _ _ _ _ (c .before .before .before .before .loop .inv .0) (c .before .before .next-call .ensures .stops (c .enum-told .given .1)) (c .before .before .before .before .loop .inv .3)
 
--- src/lib.rt:85:9
 call-at-requires : tie.Need-call-at-requires Inv-loop μ-loop
 call-at-requires c κs = let w = c .before .before .before .before .before .before .next-call .ensures .finds _ (c .before .before .before .before .next .given .1) in (w .header, w .fits, w .known)
 
--- src/lib.rt:86:9
 add-run : tie.Need-add-run Inv-loop μ-loop
 add-run c = let w = c .before .before .before .before .before .before .before .before .before .before .before .next-call .ensures .finds _ (c .before .before .before .before .before .before .before .before .before .next .given .1) in let h = w .header in let k = w .fits in let few = c .before .before .before .before .before .before .before .before .before .before .before .before .before .loop .inv .3 .few in omega arith
 
--- src/lib.rt:75:5
 loop-less : tie.Need-loop-less Inv-loop μ-loop
 loop-less c = let w = c .before .before .before .before .before .before .before .before .before .before .before .next-call .ensures .finds _ (c .before .before .before .before .before .before .before .before .before .next .given .1) in let h = w .header in let k = w .fits in omega arith
 
--- src/lib.rt:75:5
 loop-again : tie.Need-loop-again Inv-loop μ-loop
 loop-again c = let w = c .before .before .before .before .before .before .before .before .before .before .before .next-call .ensures .finds _ (c .before .before .before .before .before .before .before .before .before .next .given .1) in (w .fits, c .before .before .before .before .call-at .kept .0 ∙ c .before .before .before .before .before .before .before .before .before .before .before .before .before .loop .inv .1, c .before .before .before .before .call-at .kept .1 .0 ∙ c .before .before .before .before .before .before .before .before .before .before .before .before .before .loop .inv .2, one-more _ _ _ _ _ _ _ _ _ w (c .before .before .before .before .before .before .before .before .before .before .before .before .before .loop .inv .3) (c .before .before .before .before .call-at .ensures))
 
--- src/lib.rt:66:1
 same-length-3 : tie.Need-same-length-3 Inv-loop μ-loop
 same-length-3 c = c .before .loop .inv .1
 
--- src/lib.rt:66:1
 same-length-4 : tie.Need-same-length-4 Inv-loop μ-loop
 same-length-4 c = c .before .loop .inv .2
 
--- src/lib.rt:66:1
 returns-2 : tie.Need-returns-2 Inv-loop μ-loop
 returns-2 c = all-run-at-end _ _ _ _ (c .before .loop .inv .0) (omega arith) (c .before .loop .inv .3)
 

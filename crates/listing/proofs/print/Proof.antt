@@ -1,7 +1,5 @@
--- imports
 use mathlib.Core.Path.{sym}
 use lib.Seq.{length-take-le}
--- end imports
 use borrow.Author.Needs.{needs}
 use Rattle.listing.proofs.print.Statement.{statement}
 use Rattle.listing.proofs.print.Tie as tie
@@ -10,23 +8,18 @@ use Rattle.listing.proofs.print.Lts as lts
 use Rattle.io.proofs.write_all.Reads as write-all-reads
 use Rattle.listing_bytes.proofs.list.Reads as list-reads
 
--- src/main.rt:10:9
 list-requires : tie.Need-list-requires
 list-requires c κs = search needs
 
--- src/main.rt:13:34
 array-share-prefix-bytes : tie.Need-array-share-prefix-bytes
 array-share-prefix-bytes c = search needs
 
--- src/main.rt:13:34
 slice-aggregate-write-all : tie.Need-slice-aggregate-write-all
 slice-aggregate-write-all c = sym (length-take-le _ _ (c .before .before .list .ensures .within))
 
--- src/main.rt:13:5
 write-all-requires : tie.Need-write-all-requires
 write-all-requires c κs = search needs
 
--- src/main.rt:9:1
 returns : tie.Need-returns
 returns c = search needs
 

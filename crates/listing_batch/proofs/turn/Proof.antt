@@ -8,39 +8,30 @@ use Rattle.listing_batch.proofs.turn.Lts as lts
 use Rattle.listing_batch.proofs.answer_sheet.Reads as answer-sheet-reads
 use Rattle.listing_batch.proofs.next_frame.Reads as next-frame-reads
 
--- src/main.rt:65:9
 next-frame-requires : tie.Need-next-frame-requires
 next-frame-requires c κs = search needs
 
--- src/main.rt:67:23
 enum-told : tie.Need-enum-told
 enum-told c = search needs
 
--- src/main.rt:68:23
 enum-known-frame : tie.Need-enum-known-frame
 enum-known-frame c = search needs
 
--- src/main.rt:70:17
 returns : tie.Need-returns
 returns c = search needs
 
--- src/main.rt:73:26
 array-borrow-prefix-sheet : tie.Need-array-borrow-prefix-sheet
 array-borrow-prefix-sheet c = search needs
 
--- src/main.rt:73:26
 slice-aggregate-answer-sheet : tie.Need-slice-aggregate-answer-sheet
 slice-aggregate-answer-sheet c = sym (length-take-le _ _ (array-borrow-prefix-sheet (c .before)))
 
--- src/main.rt:73:13
 answer-sheet-requires : tie.Need-answer-sheet-requires
 answer-sheet-requires c κs = search needs
 
--- src/main.rt:64:1
 returns-2 : tie.Need-returns-2
 returns-2 c = search needs
 
--- src/main.rt:64:1
 returns-3 : tie.Need-returns-3
 returns-3 c = search needs
 

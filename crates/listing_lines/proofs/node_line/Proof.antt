@@ -1,8 +1,6 @@
--- imports
 use borrow.Author.Tests.{not-true, not-false}
 use Rattle.listing_lines.proofs.Asking.{lists-unsound, lists-unknown, lists-found}
 use native.Mathlib.Omega.{arith}
--- end imports
 use borrow.Author.Needs.{needs}
 use Rattle.listing_lines.proofs.node_line.Statement.{statement}
 use Rattle.listing_lines.proofs.node_line.Tie as tie
@@ -12,31 +10,24 @@ use Rattle.listing_lines.proofs.node.node_line_sound.Reads as node-line
 use Rattle.listing_lines.proofs.refused.Reads as refused-reads
 use Rattle.store.proofs.audit.Reads as audit-reads
 
--- src/lib.rt:72:9
 audit-requires : tie.Need-audit-requires
 audit-requires c κs = search needs
 
--- src/lib.rt:73:9
 refused-requires : tie.Need-refused-requires
 refused-requires c κs = search needs
 
--- src/lib.rt:73:9
 returns : tie.Need-returns
 returns c = lists-unsound _ _ _ (c .refused .ensures) (c .before .before .audit .ensures .no (not-true _ (c .before .if1 .taken)))
 
--- src/lib.rt:76:9
 refused-requires-2 : tie.Need-refused-requires-2
 refused-requires-2 c κs = search needs
 
--- src/lib.rt:76:9
 returns-2 : tie.Need-returns-2
 returns-2 c = lists-unknown _ _ (c .before .before .before .before .audit .ensures .yes (not-false _ (c .before .before .before .if1 .left))) _ (c .refused2 .ensures) (c .before .if2 .taken)
 
--- src/lib.rt:78:9
 node-line-sound-requires : tie.Need-node-line-sound-requires
 node-line-sound-requires c κs = record { below = omega (arith, c .if2 .left); nodes = (c .before .before .before .audit .ensures .yes (not-false _ (c .before .before .if1 .left))) .nodes }
 
--- src/lib.rt:69:1
 returns-3 : tie.Need-returns-3
 returns-3 c = lists-found _ _ (c .before .before .before .before .audit .ensures .yes (not-false _ (c .before .before .before .if1 .left))) (omega (arith, c .before .if2 .left)) _ (c .node-line-sound .ensures)
 

@@ -1,9 +1,7 @@
--- imports
 use mathlib.Core.Path.{_≡_, sym}
 use lib.ListN.{length}
 use lib.Seq.{length-take-le}
 use native.Mathlib.Omega.{arith}
--- end imports
 use borrow.Author.Needs.{needs}
 use Rattle.listing_tests.proofs.print_line.Statement.{statement}
 use Rattle.listing_tests.proofs.print_line.Tie as tie
@@ -11,23 +9,18 @@ use Rattle.listing_tests.proofs.print_line.Reads as reads
 use Rattle.listing_tests.proofs.print_line.Lts as lts
 use Rattle.io.proofs.write_all.Reads as write-all-reads
 
--- src/main.rt:20:9
 returns : tie.Need-returns
 returns c = search needs
 
--- src/main.rt:22:34
 array-share-prefix-bytes : tie.Need-array-share-prefix-bytes
 array-share-prefix-bytes c = let l : length (c .before .before .args .line .bytes) ≡ 192 = search needs in omega (arith, c .if1 .left)
 
--- src/main.rt:22:34
 slice-aggregate-write-all : tie.Need-slice-aggregate-write-all
 slice-aggregate-write-all c = sym (length-take-le _ _ (array-share-prefix-bytes (c .before)))
 
--- src/main.rt:22:5
 write-all-requires : tie.Need-write-all-requires
 write-all-requires c κs = search needs
 
--- src/main.rt:16:1
 returns-2 : tie.Need-returns-2
 returns-2 c = search needs
 

@@ -7,23 +7,18 @@ use Rattle.records.proofs.open.Tie as tie
 use Rattle.records.proofs.open.Reads as reads
 use Rattle.records.proofs.open.Lts as lts
 
--- src/lib.rt:72:9
 returns : tie.Need-returns
 returns c = open-empty _ (c .if1 .taken)
 
--- src/lib.rt:75:9
 returns-2 : tie.Need-returns-2
 returns-2 c = open-long _ (c .if2 .taken)
 
--- src/lib.rt:77:8
 shared-slice-read-if3 : tie.Need-shared-slice-read-if3
 shared-slice-read-if3 c = search needs
 
--- src/lib.rt:78:9
 returns-3 : tie.Need-returns-3
 returns-3 c = open-byte _ (c .if3 .taken)
 
--- src/lib.rt:68:1
 returns-4 : tie.Need-returns-4
 returns-4 c = open-right _ _ refl (omega arith) (c .before .before .if2 .left) (c .if3 .left)
 

@@ -10,43 +10,33 @@ use Rattle.records.proofs.read.Lts as lts
 use Rattle.records.proofs.decoding.decode.Reads as decode-reads
 use Rattle.records.proofs.number.number.Reads as number-reads
 
--- src/lib.rt:89:9
 returns : tie.Need-returns
 returns c = let a = c .before .before .args in record { is = sym (W.record-short (now (a .sheet)) (a .cursor .at) (omega arith)); within = tt }
 
--- src/lib.rt:94:8
 sub-if2 : tie.Need-sub-if2
 sub-if2 c = search needs
 
--- src/lib.rt:95:9
 returns-2 : tie.Need-returns-2
 returns-2 c = let a = c .before .before .before .args in record { is = sym (W.record-short (now (a .sheet)) (a .cursor .at) (omega arith)); within = tt }
 
--- src/lib.rt:100:18
 number-requires : tie.Need-number-requires
 number-requires c κs = search needs
 
--- src/lib.rt:101:17
 add-first : tie.Need-add-first
 add-first c = search needs
 
--- src/lib.rt:102:8
 sub-if3 : tie.Need-sub-if3
 sub-if3 c = search needs
 
--- src/lib.rt:103:9
 returns-3 : tie.Need-returns-3
 returns-3 c = let a = c .before .before .before .before .before .args in record { is = sym (W.record-long (now (a .sheet)) (a .cursor .at) _ (omega arith) (c .before .number .ensures .is) (c .if3 .taken)); within = tt }
 
--- src/lib.rt:108:9
 decode-requires : tie.Need-decode-requires
 decode-requires c κs = search needs
 
--- src/lib.rt:112:17
 add-t7 : tie.Need-add-t7
 add-t7 c = search needs
 
--- src/lib.rt:84:1
 returns-4 : tie.Need-returns-4
 returns-4 c =
     let a = c .before .before .before .before .before .before .args in

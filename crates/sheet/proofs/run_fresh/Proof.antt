@@ -1,6 +1,4 @@
--- imports
 use Rattle.sheet.proofs.Whole.{fresh-refused, fresh-ran}
--- end imports
 use borrow.Author.Needs.{needs}
 use Rattle.sheet.proofs.run_fresh.Statement.{statement}
 use Rattle.sheet.proofs.run_fresh.Tie as tie
@@ -10,47 +8,36 @@ use Rattle.builder.proofs.fresh.Reads as fresh-reads
 use Rattle.sheet.proofs.refused.Reads as refused-reads
 use Rattle.sheet.proofs.run.Reads as run-reads
 
--- src/lib.rt:57:9
 fresh-requires : tie.Need-fresh-requires
 fresh-requires c κs = search needs
 
--- src/lib.rt:59:29
 enum-known-fresh : tie.Need-enum-known-fresh
 enum-known-fresh c = search needs
 
--- src/lib.rt:64:13
 refused-requires : tie.Need-refused-requires
 refused-requires c κs = search needs
 
--- src/lib.rt:66:27
 enum-known-fresh-2 : tie.Need-enum-known-fresh-2
 enum-known-fresh-2 c = search needs
 
--- src/lib.rt:66:37
 run-requires : tie.Need-run-requires
 run-requires c κs = search needs
 
--- src/lib.rt:54:1
 same-length : tie.Need-same-length
 same-length c = search needs
 
--- src/lib.rt:54:1
 same-length-2 : tie.Need-same-length-2
 same-length-2 c = search needs
 
--- src/lib.rt:54:1
 returns : tie.Need-returns
 returns c = fresh-refused _ _ _ _ _ (c .before .before .before .before .before .before .fresh .ensures) _ (c .before .before .fresh2 .given .1) _ (c .refused .ensures)
 
--- src/lib.rt:54:1
 same-length-3 : tie.Need-same-length-3
 same-length-3 c = search needs
 
--- src/lib.rt:54:1
 same-length-4 : tie.Need-same-length-4
 same-length-4 c = search needs
 
--- src/lib.rt:54:1
 returns-2 : tie.Need-returns-2
 returns-2 c = fresh-ran _ _ _ _ _ (c .before .before .before .before .before .before .before .before .before .before .before .before .fresh .ensures) _ (c .before .before .before .before .before .before .before .before .fresh3 .given .1) _ _ _ (c .before .before .before .before .run .ensures)
 

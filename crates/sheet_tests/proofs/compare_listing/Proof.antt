@@ -8,39 +8,30 @@ use Rattle.sheet_tests.proofs.compare_listing.Lts as lts
 use Rattle.sheet_tests.proofs.compare_with.Reads as compare-with-reads
 use Rattle.sheet_tests.proofs.read_listing_length.Reads as read-listing-length-reads
 
--- src/main.rt:93:9
 read-listing-length-requires : tie.Need-read-listing-length-requires
 read-listing-length-requires c κs = search needs
 
--- src/main.rt:95:24
 enum-told : tie.Need-enum-told
 enum-told c = search needs
 
--- src/main.rt:96:20
 enum-known-length : tie.Need-enum-known-length
 enum-known-length c = search needs
 
--- src/main.rt:98:17
 returns : tie.Need-returns
 returns c = search needs
 
--- src/main.rt:101:32
 array-borrow-prefix-expected : tie.Need-array-borrow-prefix-expected
 array-borrow-prefix-expected c = search needs
 
--- src/main.rt:101:32
 slice-aggregate-compare-with : tie.Need-slice-aggregate-compare-with
 slice-aggregate-compare-with c = sym (length-take-le _ _ (array-borrow-prefix-expected (c .before)))
 
--- src/main.rt:101:13
 compare-with-requires : tie.Need-compare-with-requires
 compare-with-requires c κs = search needs
 
--- src/main.rt:92:1
 returns-2 : tie.Need-returns-2
 returns-2 c = search needs
 
--- src/main.rt:92:1
 returns-3 : tie.Need-returns-3
 returns-3 c = search needs
 

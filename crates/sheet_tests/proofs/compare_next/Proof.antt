@@ -8,39 +8,30 @@ use Rattle.sheet_tests.proofs.compare_next.Lts as lts
 use Rattle.sheet_tests.proofs.compare_sheet.Reads as compare-sheet-reads
 use Rattle.sheet_tests.proofs.read_pair.Reads as read-pair-reads
 
--- src/main.rt:115:9
 read-pair-requires : tie.Need-read-pair-requires
 read-pair-requires c κs = search needs
 
--- src/main.rt:117:24
 enum-told : tie.Need-enum-told
 enum-told c = search needs
 
--- src/main.rt:118:20
 enum-known-length : tie.Need-enum-known-length
 enum-known-length c = search needs
 
--- src/main.rt:120:17
 returns : tie.Need-returns
 returns c = search needs
 
--- src/main.rt:123:33
 array-borrow-prefix-sheet : tie.Need-array-borrow-prefix-sheet
 array-borrow-prefix-sheet c = search needs
 
--- src/main.rt:123:33
 slice-aggregate-compare-sheet : tie.Need-slice-aggregate-compare-sheet
 slice-aggregate-compare-sheet c = sym (length-take-le _ _ (array-borrow-prefix-sheet (c .before)))
 
--- src/main.rt:123:13
 compare-sheet-requires : tie.Need-compare-sheet-requires
 compare-sheet-requires c κs = search needs
 
--- src/main.rt:114:1
 returns-2 : tie.Need-returns-2
 returns-2 c = search needs
 
--- src/main.rt:114:1
 returns-3 : tie.Need-returns-3
 returns-3 c = search needs
 

@@ -9,47 +9,36 @@ use Rattle.io.proofs.read_full.Reads as read-full-reads
 use Rattle.listing_bytes.proofs.list.Reads as list-reads
 use Rattle.sheet_tests.proofs.is_same.Reads as is-same-reads
 
--- src/main.rt:80:8
 read-full-requires : tie.Need-read-full-requires
 read-full-requires c κs = search needs
 
--- src/main.rt:81:9
 same-length : tie.Need-same-length
 same-length c = search needs
 
--- src/main.rt:81:9
 returns : tie.Need-returns
 returns c = search needs
 
--- src/main.rt:83:9
 list-requires : tie.Need-list-requires
 list-requires c κs = search needs
 
--- src/main.rt:86:16
 array-share-prefix-bytes : tie.Need-array-share-prefix-bytes
 array-share-prefix-bytes c = search needs
 
--- src/main.rt:86:16
 slice-aggregate-is-same : tie.Need-slice-aggregate-is-same
 slice-aggregate-is-same c = sym (length-take-le _ _ (array-share-prefix-bytes (c .before)))
 
--- src/main.rt:86:8
 is-same-requires : tie.Need-is-same-requires
 is-same-requires c κs = search needs
 
--- src/main.rt:87:9
 same-length-2 : tie.Need-same-length-2
 same-length-2 c = search needs
 
--- src/main.rt:87:9
 returns-2 : tie.Need-returns-2
 returns-2 c = search needs
 
--- src/main.rt:79:1
 same-length-3 : tie.Need-same-length-3
 same-length-3 c = search needs
 
--- src/main.rt:79:1
 returns-3 : tie.Need-returns-3
 returns-3 c = search needs
 

@@ -14,59 +14,45 @@ Inv-loop file sheets₀ differences₀ sheets differences = differences ≤ shee
 abbrev μ-loop : tie.MeasureT-loop
 μ-loop file sheets₀ differences₀ sheets differences = 1000000 - sheets
 
--- src/main.rt:141:5
 loop-holds : tie.Need-loop-holds Inv-loop μ-loop
 loop-holds c = search needs
 
--- src/main.rt:142:13
 compare-next-requires : tie.Need-compare-next-requires Inv-loop μ-loop
 compare-next-requires c κs = search needs
 
--- src/main.rt:145:17
 enum-told : tie.Need-enum-told Inv-loop μ-loop
 enum-told c = search needs
 
--- src/main.rt:148:17
 enum-told-2 : tie.Need-enum-told-2 Inv-loop μ-loop
 enum-told-2 c = search needs
 
--- src/main.rt:148:17
 add-sheets : tie.Need-add-sheets Inv-loop μ-loop
 add-sheets c = search needs
 
--- src/main.rt:141:5
 loop-less : tie.Need-loop-less Inv-loop μ-loop
 loop-less c = search needs
 
--- src/main.rt:141:5
 loop-again : tie.Need-loop-again Inv-loop μ-loop
 loop-again c = search needs
 
--- src/main.rt:151:17
 enum-told-3 : tie.Need-enum-told-3 Inv-loop μ-loop
 enum-told-3 c = search needs
 
--- src/main.rt:151:17
 add-sheets-2 : tie.Need-add-sheets-2 Inv-loop μ-loop
 add-sheets-2 c = search needs
 
--- src/main.rt:152:17
 add-differences : tie.Need-add-differences Inv-loop μ-loop
 add-differences c = search needs
 
--- src/main.rt:141:5
 loop-less-2 : tie.Need-loop-less-2 Inv-loop μ-loop
 loop-less-2 c = search needs
 
--- src/main.rt:141:5
 loop-again-2 : tie.Need-loop-again-2 Inv-loop μ-loop
 loop-again-2 c = search needs
 
--- src/main.rt:156:5
 print-counts-requires : tie.Need-print-counts-requires Inv-loop μ-loop
 print-counts-requires c κs = search needs
 
--- src/main.rt:138:1
 returns : tie.Need-returns Inv-loop μ-loop
 returns c = search needs
 

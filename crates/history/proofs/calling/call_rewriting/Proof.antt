@@ -1,8 +1,8 @@
 use mathlib.Core.Path.{refl, sym, ap}
 use mathlib.Core.Option.{some}
 use Rattle.definitions.specs.Machine as M
-use Rattle.history.specs.Encoding.{callOf}
-use Rattle.history.proofs.Codes.{runs, last-rewriting}
+use Rattle.history.specs.Encoding.{callOfCode}
+use Rattle.history.proofs.CodeCalls.{runs, last-rewriting}
 use borrow.Author.Needs.{needs}
 use Rattle.history.proofs.calling.call_rewriting.Statement.{statement}
 use Rattle.history.proofs.calling.call_rewriting.Tie as tie
@@ -23,7 +23,7 @@ same-length-2 : tie.Need-same-length-2
 same-length-2 c = search needs
 
 returns : tie.Need-returns
-unfolding callOf
+unfolding callOfCode
 returns c = runs _ 15 _ _ _ _ _ _ _ _ _ _ _ _ (c .before .before .before .before .before .before .before .before .before .if1 .taken) (c .before .before .before .before .before .simplify .ensures) (c .simplified .ensures) (ap (λ n. some (M.simplify (c .before .before .before .before .before .before .before .before .before .before .before .before .before .args .a) (c .before .before .before .before .before .before .before .before .before .before .before .before .before .args .b) n)) (sym (c .before .before .before .before .before .before .wide .ensures)))
 
 wide-requires-2 : tie.Need-wide-requires-2
@@ -42,7 +42,7 @@ same-length-4 : tie.Need-same-length-4
 same-length-4 c = search needs
 
 returns-2 : tie.Need-returns-2
-unfolding callOf
+unfolding callOfCode
 returns-2 c = runs _ 16 _ _ _ _ _ _ _ _ _ _ _ _ (c .before .before .before .before .before .before .before .before .before .if2 .taken) (c .before .before .before .before .before .prune .ensures) (c .pruned .ensures) (ap (λ n. some (M.prune (c .before .before .before .before .before .before .before .before .before .before .before .before .before .before .args .a) n)) (sym (c .before .before .before .before .before .before .wide2 .ensures)))
 
 prune-by-setting-requires : tie.Need-prune-by-setting-requires
@@ -58,7 +58,7 @@ same-length-6 : tie.Need-same-length-6
 same-length-6 c = search needs
 
 returns-3 : tie.Need-returns-3
-unfolding callOf
+unfolding callOfCode
 returns-3 c = runs _ 17 _ _ _ _ _ _ _ _ _ _ _ _ (last-rewriting _ (c .before .before .before .before .before .before .before .before .before .before .before .before .before .pre .0) (c .before .before .before .before .before .before .before .before .before .before .before .before .before .pre .1) (c .before .before .before .before .before .before .before .before .before .if1 .left) (c .before .before .before .before .before .before .before .before .if2 .left)) (c .before .before .before .before .before .prune-by-setting .ensures) (c .pruned2 .ensures) refl
 
 pub call-rewriting-spec : {M : Type 1} → statement M

@@ -1,135 +1,105 @@
 use mathlib.Core.Path.{refl}
 use native.Mathlib.Omega.{arith}
-use Rattle.history.specs.Encoding.{callOf}
-use Rattle.history.proofs.Codes.{runs}
+use Rattle.history.specs.Encoding.{callOfCode}
+use Rattle.history.proofs.CodeCalls.{runs}
 use borrow.Author.Needs.{needs}
 use Rattle.history.proofs.calling.call_with_operands.Statement.{statement}
 use Rattle.history.proofs.calling.call_with_operands.Tie as tie
 
--- src/calling.rt:64:23
 operator-requires : tie.Need-operator-requires
 operator-requires c κs = search needs
 
--- src/calling.rt:64:9
 stored-requires : tie.Need-stored-requires
 stored-requires c κs = search needs
 
--- src/calling.rt:64:9
 same-length : tie.Need-same-length
 same-length c = search needs
 
--- src/calling.rt:64:9
 same-length-2 : tie.Need-same-length-2
 same-length-2 c = search needs
 
--- src/calling.rt:64:9
 returns : tie.Need-returns
-unfolding callOf
+unfolding callOfCode
 returns c = runs _ 9 _ _ _ _ _ _ _ _ _ _ _ _ (c .before .before .before .before .before .before .before .before .if1 .taken) (c .before .before .before .before .before .operator .ensures) (c .stored .ensures) refl
 
--- src/calling.rt:67:23
 function-requires : tie.Need-function-requires
 function-requires c κs = search needs
 
--- src/calling.rt:67:9
 stored-requires-2 : tie.Need-stored-requires-2
 stored-requires-2 c κs = search needs
 
--- src/calling.rt:67:9
 same-length-3 : tie.Need-same-length-3
 same-length-3 c = search needs
 
--- src/calling.rt:67:9
 same-length-4 : tie.Need-same-length-4
 same-length-4 c = search needs
 
--- src/calling.rt:67:9
 returns-2 : tie.Need-returns-2
-unfolding callOf
+unfolding callOfCode
 returns-2 c = runs _ 10 _ _ _ _ _ _ _ _ _ _ _ _ (c .before .before .before .before .before .before .before .before .if2 .taken) (c .before .before .before .before .before .function .ensures) (c .stored2 .ensures) refl
 
--- src/calling.rt:70:23
 select-requires : tie.Need-select-requires
 select-requires c κs = search needs
 
--- src/calling.rt:70:9
 stored-requires-3 : tie.Need-stored-requires-3
 stored-requires-3 c κs = search needs
 
--- src/calling.rt:70:9
 same-length-5 : tie.Need-same-length-5
 same-length-5 c = search needs
 
--- src/calling.rt:70:9
 same-length-6 : tie.Need-same-length-6
 same-length-6 c = search needs
 
--- src/calling.rt:70:9
 returns-3 : tie.Need-returns-3
-unfolding callOf
+unfolding callOfCode
 returns-3 c = runs _ 11 _ _ _ _ _ _ _ _ _ _ _ _ (c .before .before .before .before .before .before .before .before .if3 .taken) (c .before .before .before .before .before .select .ensures) (c .stored3 .ensures) refl
 
--- src/calling.rt:73:23
 if-else-requires : tie.Need-if-else-requires
 if-else-requires c κs = search needs
 
--- src/calling.rt:73:9
 stored-requires-4 : tie.Need-stored-requires-4
 stored-requires-4 c κs = search needs
 
--- src/calling.rt:73:9
 same-length-7 : tie.Need-same-length-7
 same-length-7 c = search needs
 
--- src/calling.rt:73:9
 same-length-8 : tie.Need-same-length-8
 same-length-8 c = search needs
 
--- src/calling.rt:73:9
 returns-4 : tie.Need-returns-4
-unfolding callOf
+unfolding callOfCode
 returns-4 c = runs _ 12 _ _ _ _ _ _ _ _ _ _ _ _ (c .before .before .before .before .before .before .before .before .if4 .taken) (c .before .before .before .before .before .if-else .ensures) (c .stored4 .ensures) refl
 
--- src/calling.rt:76:23
 for-loop-requires : tie.Need-for-loop-requires
 for-loop-requires c κs = search needs
 
--- src/calling.rt:76:9
 stored-requires-5 : tie.Need-stored-requires-5
 stored-requires-5 c κs = search needs
 
--- src/calling.rt:76:9
 same-length-9 : tie.Need-same-length-9
 same-length-9 c = search needs
 
--- src/calling.rt:76:9
 same-length-10 : tie.Need-same-length-10
 same-length-10 c = search needs
 
--- src/calling.rt:76:9
 returns-5 : tie.Need-returns-5
-unfolding callOf
+unfolding callOfCode
 returns-5 c = runs _ 13 _ _ _ _ _ _ _ _ _ _ _ _ (c .before .before .before .before .before .before .before .before .if5 .taken) (c .before .before .before .before .before .for-loop .ensures) (c .stored5 .ensures) refl
 
--- src/calling.rt:78:12
 control-requires : tie.Need-control-requires
 control-requires c κs = search needs
 
--- src/calling.rt:78:5
 stored-requires-6 : tie.Need-stored-requires-6
 stored-requires-6 c κs = search needs
 
--- src/calling.rt:59:1
 same-length-11 : tie.Need-same-length-11
 same-length-11 c = search needs
 
--- src/calling.rt:59:1
 same-length-12 : tie.Need-same-length-12
 same-length-12 c = search needs
 
--- src/calling.rt:59:1
 returns-6 : tie.Need-returns-6
-unfolding callOf
+unfolding callOfCode
 returns-6 c = runs (c .before .before .before .before .before .before .before .before .before .before .before .before .before .before .before .before .args .code) 14 _ _ _ _ _ _ _ _ _ _ _ _ (let h = c .before .before .before .before .before .before .before .before .before .before .before .before .before .before .before .before .pre in omega arith) (c .before .before .before .before .before .control .ensures) (c .stored6 .ensures) refl
 
 pub call-with-operands-spec : {M : Type 1} → statement M

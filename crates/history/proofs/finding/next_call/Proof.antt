@@ -7,59 +7,45 @@ use borrow.Author.Needs.{needs}
 use Rattle.history.proofs.finding.next_call.Statement.{statement}
 use Rattle.history.proofs.finding.next_call.Tie as tie
 
--- src/finding.rt:31:16
 sub-left : tie.Need-sub-left
 sub-left c = search needs
 
--- src/finding.rt:33:9
 returns : tie.Need-returns
 returns c = stops-at _ _ (short-header _ _ (c .before .before .pre) (c .if1 .taken))
 
--- src/finding.rt:35:22
 add-many : tie.Need-add-many
 add-many c = search needs
 
--- src/finding.rt:35:16
 mul-many : tie.Need-mul-many
 mul-many c = search needs
 
--- src/finding.rt:35:16
 shared-slice-read-many : tie.Need-shared-slice-read-many
 shared-slice-read-many c = search needs
 
--- src/finding.rt:35:16
 cast-many : tie.Need-cast-many
 cast-many c = omega (arith, c .shared-slice-known2 .given (c .before .before .before .args .at + 5))
 
--- src/finding.rt:37:9
 returns-2 : tie.Need-returns-2
 returns-2 c = stops-at _ _ (short-operands _ _ (c .before .before .before .before .pre) (c .before .before .if1 .left) (c .if2 .taken))
 
--- src/finding.rt:39:18
 mul-is-known : tie.Need-mul-is-known
 mul-is-known c = search needs
 
--- src/finding.rt:39:18
 shared-slice-read-is-known : tie.Need-shared-slice-read-is-known
 shared-slice-read-is-known c = search needs
 
--- src/finding.rt:39:9
 is-known-requires : tie.Need-is-known-requires
 is-known-requires c κs = search needs
 
--- src/finding.rt:40:9
 returns-3 : tie.Need-returns-3
 returns-3 c = stops-at _ _ (unknown-code _ _ (c .before .before .before .before .before .before .before .pre) (c .before .before .before .before .before .if1 .left) (c .before .before .before .if2 .left) (sym (c .before .is-known .ensures) ∙ not-true _ (c .if3 .taken)))
 
--- src/finding.rt:43:14
 add-t5 : tie.Need-add-t5
 add-t5 c = search needs
 
--- src/finding.rt:43:14
 add-t7 : tie.Need-add-t7
 add-t7 c = search needs
 
--- src/finding.rt:27:1
 returns-4 : tie.Need-returns-4
 returns-4 c = whole-call _ _ (c .before .before .before .before .before .before .before .pre) (c .before .before .before .before .before .if1 .left) (c .before .before .before .if2 .left) (sym (c .before .is-known .ensures) ∙ not-false _ (c .if3 .left))
 

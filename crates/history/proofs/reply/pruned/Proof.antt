@@ -5,19 +5,15 @@ use borrow.Author.Needs.{needs}
 use Rattle.history.proofs.reply.pruned.Statement.{statement}
 use Rattle.history.proofs.reply.pruned.Tie as tie
 
--- src/reply.rt:51:34
 enum-known-answer : tie.Need-enum-known-answer
 enum-known-answer c = search needs
 
--- src/reply.rt:55:33
 enum-known-answer-2 : tie.Need-enum-known-answer-2
 enum-known-answer-2 c = search needs
 
--- src/reply.rt:45:1
 returns : tie.Need-returns
 returns c = (ap some (sym (ap meaning (c .before .answer .given .1))), refl)
 
--- src/reply.rt:45:1
 returns-2 : tie.Need-returns-2
 returns-2 c = (ap some (sym (ap meaning (c .before .answer2 .given .1))), refl)
 

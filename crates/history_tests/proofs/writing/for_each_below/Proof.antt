@@ -12,31 +12,24 @@ Inv-loop calls₀ at code many end₀ n₀ calls end n = (n ≤ many) × (length
 abbrev μ-loop : tie.MeasureT-loop
 μ-loop calls₀ at code many end₀ n₀ calls end n = many - n
 
--- src/writing.rt:61:5
 loop-holds : tie.Need-loop-holds Inv-loop μ-loop
 loop-holds c = (omega arith, refl)
 
--- src/writing.rt:62:9
 header-requires : tie.Need-header-requires Inv-loop μ-loop
 header-requires c κs = search needs
 
--- src/writing.rt:63:9
 add-n : tie.Need-add-n Inv-loop μ-loop
 add-n c = search needs
 
--- src/writing.rt:61:5
 loop-less : tie.Need-loop-less Inv-loop μ-loop
 loop-less c = search needs
 
--- src/writing.rt:61:5
 loop-again : tie.Need-loop-again Inv-loop μ-loop
 loop-again c = search needs
 
--- src/writing.rt:58:1
 same-length : tie.Need-same-length Inv-loop μ-loop
 same-length c = search needs
 
--- src/writing.rt:58:1
 returns : tie.Need-returns Inv-loop μ-loop
 returns c = search needs
 

@@ -1,4 +1,3 @@
--- imports
 use Prim.Native.Nat.{ℕ, _+_, _*_, _-_, _≤_}
 use mathlib.Core.Path.{_≡_, refl}
 use lib.ListN.{length, take}
@@ -6,7 +5,6 @@ use native.Mathlib.Omega.{arith}
 use borrow.Author.Needs.{needs}
 use Rattle.listing_lines.specs.Line.{lineBytes}
 use Rattle.listing_lines.proofs.Gathering.{Gathered, gathered-first, gathered-more, gathered-all, first-is}
--- end imports
 use Rattle.listing_lines.proofs.all.all_lines.Statement.{statement}
 use Rattle.listing_lines.proofs.all.all_lines.Tie as tie
 use Rattle.listing_lines.proofs.all.all_lines.Reads as reads
@@ -21,43 +19,33 @@ Inv-loop nodes count out₀ at₀ id₀ out at id = (length out ≡ length out�
 abbrev μ-loop : tie.MeasureT-loop
 μ-loop nodes count out₀ at₀ id₀ out at id = count - id
 
--- src/all.rt:42:35
 first-line-requires : tie.Need-first-line-requires Inv-loop μ-loop
 first-line-requires c κs = search needs
 
--- src/all.rt:42:9
 put-line-requires : tie.Need-put-line-requires Inv-loop μ-loop
 put-line-requires c κs = (c .first-line .ensures .within, search needs)
 
--- src/all.rt:44:5
 loop-holds : tie.Need-loop-holds Inv-loop μ-loop
 loop-holds c = (refl, search needs, gathered-first _ _ (c .before .before .before .first-line .ensures) _ _ _ (c .before .before .put-line .ensures) _ _)
 
--- src/all.rt:45:32
 node-line-sound-requires : tie.Need-node-line-sound-requires Inv-loop μ-loop
 node-line-sound-requires c κs = record { below = omega (arith, c .before .loop-test); nodes = c .before .before .before .before .before .before .before .before .before .before .pre .0 }
 
--- src/all.rt:45:9
 put-line-requires-2 : tie.Need-put-line-requires-2 Inv-loop μ-loop
 put-line-requires-2 c κs = (c .node-line-sound .ensures .within, let g = c .before .before .before .loop .inv .2 .place in let r = c .before .before .before .loop .inv .1 in omega arith)
 
--- src/all.rt:46:9
 add-id : tie.Need-add-id Inv-loop μ-loop
 add-id c = search needs
 
--- src/all.rt:44:5
 loop-less : tie.Need-loop-less Inv-loop μ-loop
 loop-less c = search needs
 
--- src/all.rt:44:5
 loop-again : tie.Need-loop-again Inv-loop μ-loop
 loop-again c = (search needs, search needs, gathered-more _ _ _ _ _ _ (c .before .before .before .before .before .before .loop .inv .2) (omega arith) _ (c .before .before .before .node-line-sound .ensures) _ _ (c .before .before .put-line2 .ensures))
 
--- src/all.rt:38:1
 same-length : tie.Need-same-length Inv-loop μ-loop
 same-length c = let l = c .before .loop .inv .0 in search needs
 
--- src/all.rt:38:1
 returns : tie.Need-returns Inv-loop μ-loop
 returns c = gathered-all _ _ _ _ _ _ (c .before .loop .inv .2) (omega arith) (c .before .loop .inv .1) _ (first-is _ _ (c .before .before .before .before .before .first-line .ensures) _ _ _ (c .before .before .before .before .put-line .ensures))
 

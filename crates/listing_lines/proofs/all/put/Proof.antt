@@ -15,43 +15,33 @@ Inv-loop out₀ at more i₀ out i = Copied (length out₀) (take at out₀) mor
 abbrev μ-loop : tie.MeasureT-loop
 μ-loop out₀ at more i₀ out i = length more - i
 
--- src/all.rt:20:5
 loop-holds : tie.Need-loop-holds Inv-loop μ-loop
 loop-holds c = copied-none _ _ _ _ refl
 
--- src/all.rt:21:23
 shared-slice-read-out : tie.Need-shared-slice-read-out Inv-loop μ-loop
 shared-slice-read-out c = search needs
 
--- src/all.rt:21:13
 add-out : tie.Need-add-out Inv-loop μ-loop
 add-out c = search needs
 
--- src/all.rt:21:9
 slice-write-out : tie.Need-slice-write-out Inv-loop μ-loop
 slice-write-out c = let l = c .before .before .loop .inv .long in omega arith
 
--- src/all.rt:22:9
 add-i : tie.Need-add-i Inv-loop μ-loop
 add-i c = search needs
 
--- src/all.rt:20:5
 loop-less : tie.Need-loop-less Inv-loop μ-loop
 loop-less c = search needs
 
--- src/all.rt:20:5
 loop-again : tie.Need-loop-again Inv-loop μ-loop
 loop-again c = copied-more _ _ _ _ _ _ (c .before .before .loop .inv) (omega arith) (omega arith)
 
--- src/all.rt:24:5
 add-result : tie.Need-add-result Inv-loop μ-loop
 add-result c = let v = c .before .loop .inv in let w = v .within in omega arith
 
--- src/all.rt:15:1
 same-length : tie.Need-same-length Inv-loop μ-loop
 same-length c = let v = c .before .loop .inv in let l = v .long in search needs
 
--- src/all.rt:15:1
 returns : tie.Need-returns Inv-loop μ-loop
 returns c =
     let v = c .before .loop .inv in

@@ -1,9 +1,7 @@
--- imports
 use mathlib.Core.Path.{_≡_, sym}
 use lib.ListN.{length, take}
 use lib.Seq.{length-take-le}
 use native.Mathlib.Omega.{arith}
--- end imports
 use borrow.Author.Needs.{needs}
 use Rattle.listing_lines.proofs.all.put_line.Statement.{statement}
 use Rattle.listing_lines.proofs.all.put_line.Tie as tie
@@ -11,23 +9,18 @@ use Rattle.listing_lines.proofs.all.put_line.Reads as reads
 use Rattle.listing_lines.proofs.all.put_line.Lts as lts
 use Rattle.listing_lines.proofs.all.put.Reads as put-reads
 
--- src/all.rt:33:18
 array-share-prefix-bytes : tie.Need-array-share-prefix-bytes
 array-share-prefix-bytes c = let l : length (c .before .before .before .args .line .bytes) ≡ 192 = search needs in omega (arith, c .before .before .before .pre .0)
 
--- src/all.rt:33:18
 slice-aggregate-put : tie.Need-slice-aggregate-put
 slice-aggregate-put c = let l : length (c .before .before .before .before .args .line .bytes) ≡ 192 = search needs in sym (length-take-le _ _ (omega (arith, c .before .before .before .before .pre .0)))
 
--- src/all.rt:33:5
 put-requires : tie.Need-put-requires
 put-requires c κs = let l : length (c .before .before .before .before .args .line .bytes) ≡ 192 = search needs in let e : length (take (c .before .before .before .before .args .line .length) (c .before .before .before .before .args .line .bytes)) ≡ c .before .before .before .before .args .line .length = length-take-le _ _ (omega (arith, c .before .before .before .before .pre .0)) in omega (arith, c .before .before .before .before .pre .0, c .before .before .before .before .pre .1)
 
--- src/all.rt:27:1
 same-length : tie.Need-same-length
 same-length c = search needs
 
--- src/all.rt:27:1
 returns : tie.Need-returns
 returns c = search needs
 

@@ -13,43 +13,33 @@ Inv-loop n bytes₀ first₀ rest₀ bytes first rest = DecimalLeft n bytes firs
 abbrev μ-loop : tie.MeasureT-loop
 μ-loop n bytes₀ first₀ rest₀ bytes first rest = rest
 
--- src/digits.rt:44:5
 loop-holds : tie.Need-loop-holds Inv-loop μ-loop
 loop-holds c = decimal-none _ _ (omega arith) refl refl
 
--- src/digits.rt:45:9
 sub-first : tie.Need-sub-first Inv-loop μ-loop
 sub-first c = let d = c .before .loop .inv in omega arith
 
--- src/digits.rt:46:24
 digit-requires : tie.Need-digit-requires Inv-loop μ-loop
 digit-requires c κs = omega arith
 
--- src/digits.rt:46:9
 array-write-bytes : tie.Need-array-write-bytes Inv-loop μ-loop
 array-write-bytes c = let d = c .before .before .loop .inv in let l = d .long in omega arith
 
--- src/digits.rt:44:5
 loop-less : tie.Need-loop-less Inv-loop μ-loop
 loop-less c = omega arith
 
--- src/digits.rt:44:5
 loop-again : tie.Need-loop-again Inv-loop μ-loop
 loop-again c = decimal-more _ _ _ _ _ (c .before .before .loop .inv) (omega arith) (c .digit .ensures)
 
--- src/digits.rt:49:5
 sub-first-2 : tie.Need-sub-first-2 Inv-loop μ-loop
 sub-first-2 c = let d = c .before .loop .inv in omega arith
 
--- src/digits.rt:50:20
 digit-requires-2 : tie.Need-digit-requires-2 Inv-loop μ-loop
 digit-requires-2 c κs = omega arith
 
--- src/digits.rt:50:5
 array-write-bytes-2 : tie.Need-array-write-bytes-2 Inv-loop μ-loop
 array-write-bytes-2 c = let d = c .before .before .loop .inv in let l = d .long in omega arith
 
--- src/digits.rt:38:1
 returns : tie.Need-returns Inv-loop μ-loop
 returns c =
     let d = c .before .before .loop .inv in

@@ -6,27 +6,21 @@ use Rattle.listing_lines.proofs.digits.digit.Tie as tie
 use Rattle.listing_lines.proofs.digits.digit.Reads as reads
 use Rattle.listing_lines.proofs.digits.digit.Lts as lts
 
--- src/digits.rt:31:16
 cast-result : tie.Need-cast-result
 cast-result c = search needs
 
--- src/digits.rt:31:9
 add-result : tie.Need-add-result
 add-result c = search needs
 
--- src/digits.rt:33:26
 cast-result-2 : tie.Need-cast-result-2
 cast-result-2 c = search needs
 
--- src/digits.rt:33:9
 add-result-2 : tie.Need-add-result-2
 add-result-2 c = search needs
 
--- src/digits.rt:26:1
 returns : tie.Need-returns
 returns c = sym (digit-low _ (c .if1 .taken))
 
--- src/digits.rt:26:1
 returns-2 : tie.Need-returns-2
 returns-2 c = sym (digit-high _ (c .if1 .left))
 

@@ -7,15 +7,12 @@ use Rattle.listing_lines.proofs.digits.with_decimal.Lts as lts
 use Rattle.listing_lines.proofs.digits.decimal_digits.Reads as decimal-digits-reads
 use Rattle.listing_lines.proofs.digits.with_digits.Reads as with-digits-reads
 
--- src/digits.rt:87:23
 decimal-digits-requires : tie.Need-decimal-digits-requires
 decimal-digits-requires c κs = search needs
 
--- src/digits.rt:87:5
 with-digits-requires : tie.Need-with-digits-requires
 with-digits-requires c κs = search needs
 
--- src/digits.rt:83:1
 returns : tie.Need-returns
 returns c = extends-as _ _ (c .before .decimal-digits .ensures .is) (c .with-digits .ensures)
 

@@ -9,23 +9,18 @@ use Rattle.listing_lines.proofs.digits.with_digits.Reads as reads
 use Rattle.listing_lines.proofs.digits.with_digits.Lts as lts
 use Rattle.listing_lines.proofs.line.with_bytes.Reads as with-bytes-reads
 
--- src/digits.rt:77:22
 sub-with-bytes : tie.Need-sub-with-bytes
 sub-with-bytes c = search needs
 
--- src/digits.rt:77:22
 part-with-bytes-start : tie.Need-part-with-bytes-start
 part-with-bytes-start c = search needs
 
--- src/digits.rt:77:22
 part-with-bytes-end : tie.Need-part-with-bytes-end
 part-with-bytes-end c = let l : length (c .before .before .args .digits .bytes) ≡ 20 = search needs in omega arith
 
--- src/digits.rt:77:5
 with-bytes-requires : tie.Need-with-bytes-requires
 with-bytes-requires c κs = search needs
 
--- src/digits.rt:71:1
 returns : tie.Need-returns
 returns c =
     let d = c .before .before .before .before .args .digits in

@@ -7,19 +7,15 @@ use Rattle.listing_lines.proofs.digits.with_number.Lts as lts
 use Rattle.listing_lines.proofs.digits.with_decimal.Reads as with-decimal-reads
 use Rattle.listing_lines.proofs.line.with_bytes.Reads as with-bytes-reads
 
--- src/digits.rt:95:35
 slice-aggregate-with-bytes : tie.Need-slice-aggregate-with-bytes
 slice-aggregate-with-bytes c = search needs
 
--- src/digits.rt:95:18
 with-bytes-requires : tie.Need-with-bytes-requires
 with-bytes-requires c κs = search needs
 
--- src/digits.rt:95:5
 with-decimal-requires : tie.Need-with-decimal-requires
 with-decimal-requires c κs = search needs
 
--- src/digits.rt:91:1
 returns : tie.Need-returns
 returns c = extends-trans (c .before .with-bytes .ensures) (c .with-decimal .ensures)
 

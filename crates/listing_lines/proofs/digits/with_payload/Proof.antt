@@ -8,23 +8,18 @@ use Rattle.listing_lines.proofs.digits.hex_digits.Reads as hex-digits-r
 use Rattle.listing_lines.proofs.digits.with_digits.Reads as with-digits-reads
 use Rattle.listing_lines.proofs.line.with_bytes.Reads as with-bytes-reads
 
--- src/digits.rt:103:34
 slice-aggregate-with-bytes : tie.Need-slice-aggregate-with-bytes
 slice-aggregate-with-bytes c = search needs
 
--- src/digits.rt:103:17
 with-bytes-requires : tie.Need-with-bytes-requires
 with-bytes-requires c κs = search needs
 
--- src/digits.rt:103:41
 hex-digits-requires : tie.Need-hex-digits-requires
 hex-digits-requires c κs = search needs
 
--- src/digits.rt:103:5
 with-digits-requires : tie.Need-with-digits-requires
 with-digits-requires c κs = search needs
 
--- src/digits.rt:99:1
 returns : tie.Need-returns
 returns c = extends-trans (c .before .before .with-bytes .ensures) (extends-as _ _ (c .before .hex-digits .ensures .is) (c .with-digits .ensures))
 

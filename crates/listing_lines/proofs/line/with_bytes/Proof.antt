@@ -16,39 +16,30 @@ Inv-loop more bytes₀ start i₀ bytes i = Copied lineBytes (take start bytes�
 abbrev μ-loop : tie.MeasureT-loop
 μ-loop more bytes₀ start i₀ bytes i = length more - i
 
--- src/line.rt:33:5
 loop-holds : tie.Need-loop-holds Inv-loop μ-loop
 loop-holds c = let l : length (c .before .args .line .bytes) ≡ 192 = search needs in copied-none _ _ _ _ l
 
--- src/line.rt:34:28
 shared-slice-read-bytes : tie.Need-shared-slice-read-bytes Inv-loop μ-loop
 shared-slice-read-bytes c = search needs
 
--- src/line.rt:34:15
 add-bytes : tie.Need-add-bytes Inv-loop μ-loop
 add-bytes c = omega arith
 
--- src/line.rt:34:9
 array-write-bytes : tie.Need-array-write-bytes Inv-loop μ-loop
 array-write-bytes c = let l = c .before .before .loop .inv .long in omega arith
 
--- src/line.rt:35:9
 add-i : tie.Need-add-i Inv-loop μ-loop
 add-i c = search needs
 
--- src/line.rt:33:5
 loop-less : tie.Need-loop-less Inv-loop μ-loop
 loop-less c = search needs
 
--- src/line.rt:33:5
 loop-again : tie.Need-loop-again Inv-loop μ-loop
 loop-again c = copied-more _ _ _ _ _ _ (c .before .before .loop .inv) (omega arith) (omega arith)
 
--- src/line.rt:39:17
 add-t13 : tie.Need-add-t13 Inv-loop μ-loop
 add-t13 c = omega arith
 
--- src/line.rt:26:1
 returns : tie.Need-returns Inv-loop μ-loop
 returns c =
     let v = c .before .loop .inv in

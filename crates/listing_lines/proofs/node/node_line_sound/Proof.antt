@@ -14,51 +14,39 @@ use Rattle.listing_lines.proofs.node.with_children.Reads as with-childr
 use Rattle.store.proofs.kind.Reads as kind-reads
 use Rattle.store.proofs.payload.Reads as payload-reads
 
--- src/lib.rt:83:30
 new-requires : tie.Need-new-requires
 new-requires c κs = search needs
 
--- src/lib.rt:83:9
 with-decimal-requires : tie.Need-with-decimal-requires
 with-decimal-requires c κs = search needs
 
--- src/lib.rt:84:38
 kind-requires : tie.Need-kind-requires
 kind-requires c κs = search needs
 
--- src/lib.rt:84:9
 with-number-requires : tie.Need-with-number-requires
 with-number-requires c κs = search needs
 
--- src/lib.rt:85:44
 payload-requires : tie.Need-payload-requires
 payload-requires c κs = search needs
 
--- src/lib.rt:85:9
 with-payload-requires : tie.Need-with-payload-requires
 with-payload-requires c κs = search needs
 
--- src/lib.rt:86:43
 all-flags-requires : tie.Need-all-flags-requires
 all-flags-requires c κs = search needs
 
--- src/lib.rt:86:9
 with-number-requires-2 : tie.Need-with-number-requires-2
 with-number-requires-2 c κs = search needs
 
--- src/lib.rt:87:9
 with-children-requires : tie.Need-with-children-requires
 with-children-requires c κs = search needs
 
--- src/lib.rt:88:23
 slice-aggregate-with-bytes : tie.Need-slice-aggregate-with-bytes
 slice-aggregate-with-bytes c = search needs
 
--- src/lib.rt:88:5
 with-bytes-requires : tie.Need-with-bytes-requires
 with-bytes-requires c κs = search needs
 
--- src/lib.rt:79:1
 returns : tie.Need-returns
 returns c =
     node-line _ _ _ _ _ (c .before .before .before .before .before .before .before .before .before .before .new .ensures) (c .before .before .before .before .before .before .before .before .before .with-decimal .ensures) (c .before .before .before .before .before .before .before .with-number .ensures) (c .before .before .before .before .before .with-payload .ensures) (c .before .before .before .with-number2 .ensures) (c .before .before .with-children .ensures) (c .with-bytes .ensures)

@@ -18,23 +18,19 @@ Inv-loop nodes count id arity longer₀ place₀ longer place = Listed longer₀
 abbrev μ-loop : tie.MeasureT-loop
 μ-loop nodes count id arity longer₀ place₀ longer place = arity - place
 
--- src/lib.rt:68:17
 arity-requires : tie.Need-arity-requires Inv-loop μ-loop
 arity-requires c κs = c .before .pre .1
 
--- src/lib.rt:71:5
 loop-holds : tie.Need-loop-holds Inv-loop μ-loop
 loop-holds c =
     let few = R.few _ _ _ (c .before .before .pre .1) in
     listed-none _ _ few
 
--- src/lib.rt:72:38
 child-requires : tie.Need-child-requires Inv-loop μ-loop
 child-requires c κs =
     let e = c .before .before .arity .ensures in
     (omega arith, c .before .before .before .before .pre .1)
 
--- src/lib.rt:72:9
 with-number-requires : tie.Need-with-number-requires Inv-loop μ-loop
 with-number-requires c κs =
     let e = c .before .before .before .arity .ensures in
@@ -43,21 +39,17 @@ with-number-requires c κs =
     let long = v .extends .long in
     omega arith
 
--- src/lib.rt:73:9
 add-place : tie.Need-add-place Inv-loop μ-loop
 add-place c = omega arith
 
--- src/lib.rt:71:5
 loop-less : tie.Need-loop-less Inv-loop μ-loop
 loop-less c = omega arith
 
--- src/lib.rt:71:5
 loop-again : tie.Need-loop-again Inv-loop μ-loop
 loop-again c =
     let e = c .before .before .before .before .arity .ensures in
     listed-more _ _ _ _ (c .before .before .before .loop .inv) (omega arith) _ (c .before .child .ensures) _ (c .with-number .ensures)
 
--- src/lib.rt:64:1
 returns : tie.Need-returns Inv-loop μ-loop
 returns c =
     let e = c .before .before .arity .ensures in

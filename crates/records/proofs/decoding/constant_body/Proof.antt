@@ -8,15 +8,12 @@ use Rattle.records.proofs.decoding.constant_body.Reads as reads
 use Rattle.records.proofs.decoding.constant_body.Lts as lts
 use Rattle.records.proofs.number.number.Reads as number-reads
 
--- src/decoding.rt:40:9
 returns : tie.Need-returns
 returns c = B.constant-wrong _ _ _ (c .before .before .pre) (c .if1 .taken)
 
--- src/decoding.rt:42:20
 number-requires : tie.Need-number-requires
 number-requires c κs = search needs
 
--- src/decoding.rt:35:1
 returns-2 : tie.Need-returns-2
 returns-2 c = B.constant-whole _ _ _ (c .before .before .before .pre) (c .before .if1 .left) _ (c .number .ensures .is)
 

@@ -8,23 +8,18 @@ use Rattle.records.proofs.decoding.control_body.Tie as tie
 use Rattle.records.proofs.decoding.control_body.Reads as reads
 use Rattle.records.proofs.decoding.control_body.Lts as lts
 
--- src/decoding.rt:90:9
 returns : tie.Need-returns
 returns c = let a = c .before .args in B.control-short (now (a .sheet)) (a .at) (a .length) (c .if1 .taken)
 
--- src/decoding.rt:94:9
 returns-2 : tie.Need-returns-2
 returns-2 c = B.control-half _ _ _ (c .before .before .pre) (c .before .if1 .left) (c .if2 .taken)
 
--- src/decoding.rt:97:15
 shared-slice-read-t8 : tie.Need-shared-slice-read-t8
 shared-slice-read-t8 c = search needs
 
--- src/decoding.rt:98:16
 add-t6 : tie.Need-add-t6
 add-t6 c = search needs
 
--- src/decoding.rt:85:1
 returns-3 : tie.Need-returns-3
 returns-3 c = B.control-whole _ _ _ (c .before .before .before .pre) (c .before .before .if1 .left) (c .before .if2 .left)
 

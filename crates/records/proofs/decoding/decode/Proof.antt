@@ -15,79 +15,60 @@ use Rattle.records.proofs.decoding.prune_body.Reads as prune-body-reads
 use Rattle.records.proofs.decoding.simplify_body.Reads as simplify-body-reads
 use Rattle.records.proofs.decoding.variable_body.Reads as variable-body-reads
 
--- src/decoding.rt:141:9
 returns : tie.Need-returns
 returns c = let a = c .before .before .args in B.body-empty (now (a .sheet)) (a .at) (a .length) (c .if1 .taken)
 
--- src/decoding.rt:143:17
 add-first : tie.Need-add-first
 add-first c = search needs
 
--- src/decoding.rt:144:16
 sub-left : tie.Need-sub-left
 sub-left c = search needs
 
--- src/decoding.rt:145:11
 shared-slice-read-match : tie.Need-shared-slice-read-match
 shared-slice-read-match c = search needs
 
--- src/decoding.rt:146:21
 variable-body-requires : tie.Need-variable-body-requires
 variable-body-requires c κs = search needs
 
--- src/decoding.rt:147:21
 constant-body-requires : tie.Need-constant-body-requires
 constant-body-requires c κs = search needs
 
--- src/decoding.rt:148:21
 operator-body-requires : tie.Need-operator-body-requires
 operator-body-requires c κs = search needs
 
--- src/decoding.rt:149:21
 function-body-requires : tie.Need-function-body-requires
 function-body-requires c κs = search needs
 
--- src/decoding.rt:150:20
 control-body-requires : tie.Need-control-body-requires
 control-body-requires c κs = search needs
 
--- src/decoding.rt:151:21
 simplify-body-requires : tie.Need-simplify-body-requires
 simplify-body-requires c κs = search needs
 
--- src/decoding.rt:152:18
 prune-body-requires : tie.Need-prune-body-requires
 prune-body-requires c κs = search needs
 
--- src/decoding.rt:136:1
 returns-2 : tie.Need-returns-2
 returns-2 c = B.body-known _ _ _ (c .before .before .before .before .before .pre) (omega arith) 1 (c .before .match .keys1) _ (c .variable-body .ensures)
 
--- src/decoding.rt:136:1
 returns-3 : tie.Need-returns-3
 returns-3 c = B.body-known _ _ _ (c .before .before .before .before .before .pre) (omega arith) 2 (c .before .match .keys2) _ (c .constant-body .ensures)
 
--- src/decoding.rt:136:1
 returns-4 : tie.Need-returns-4
 returns-4 c = B.body-known _ _ _ (c .before .before .before .before .before .pre) (omega arith) 3 (c .before .match .keys3) _ (c .operator-body .ensures)
 
--- src/decoding.rt:136:1
 returns-5 : tie.Need-returns-5
 returns-5 c = B.body-known _ _ _ (c .before .before .before .before .before .pre) (omega arith) 4 (c .before .match .keys4) _ (c .function-body .ensures)
 
--- src/decoding.rt:136:1
 returns-6 : tie.Need-returns-6
 returns-6 c = B.body-known _ _ _ (c .before .before .before .before .before .pre) (omega arith) 5 (c .before .match .keys5) _ (c .control-body .ensures)
 
--- src/decoding.rt:136:1
 returns-7 : tie.Need-returns-7
 returns-7 c = B.body-known _ _ _ (c .before .before .before .before .before .pre) (omega arith) 6 (c .before .match .keys6) _ (c .simplify-body .ensures)
 
--- src/decoding.rt:136:1
 returns-8 : tie.Need-returns-8
 returns-8 c = B.body-known _ _ _ (c .before .before .before .before .before .pre) (omega arith) 7 (c .before .match .keys7) _ (c .prune-body .ensures)
 
--- src/decoding.rt:136:1
 returns-9 : tie.Need-returns-9
 returns-9 c = B.body-unknown _ _ _ (c .before .before .before .before .pre) (omega arith) (c .match .rest .0 .0 .0 .0 .0 .0 .1) (c .match .rest .0 .0 .0 .0 .0 .1) (c .match .rest .0 .0 .0 .0 .1) (c .match .rest .0 .0 .0 .1) (c .match .rest .0 .0 .1) (c .match .rest .0 .1) (c .match .rest .1)
 

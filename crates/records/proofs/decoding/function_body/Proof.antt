@@ -8,27 +8,21 @@ use Rattle.records.proofs.decoding.function_body.Reads as reads
 use Rattle.records.proofs.decoding.function_body.Lts as lts
 use Rattle.records.proofs.number.number.Reads as number-reads
 
--- src/decoding.rt:71:9
 returns : tie.Need-returns
 returns c = B.function-short _ _ _ (c .before .before .pre) (c .if1 .taken)
 
--- src/decoding.rt:75:9
 returns-2 : tie.Need-returns-2
 returns-2 c = B.function-half _ _ _ (c .before .before .before .pre) (c .before .if1 .left) (c .if2 .taken)
 
--- src/decoding.rt:78:17
 number-requires : tie.Need-number-requires
 number-requires c κs = search needs
 
--- src/decoding.rt:78:17
 cast-t8 : tie.Need-cast-t8
 cast-t8 c = search needs
 
--- src/decoding.rt:79:16
 add-t6 : tie.Need-add-t6
 add-t6 c = search needs
 
--- src/decoding.rt:66:1
 returns-3 : tie.Need-returns-3
 returns-3 c = B.function-whole _ _ _ (c .before .before .before .before .pre) (c .before .before .if1 .left) (c .before .if2 .left) _ (c .number .ensures .is)
 

@@ -7,31 +7,24 @@ use Rattle.records.proofs.decoding.operator_body.Tie as tie
 use Rattle.records.proofs.decoding.operator_body.Reads as reads
 use Rattle.records.proofs.decoding.operator_body.Lts as lts
 
--- src/decoding.rt:51:9
 returns : tie.Need-returns
 returns c = B.operator-short _ _ _ (c .before .pre) (c .if1 .taken)
 
--- src/decoding.rt:55:9
 returns-2 : tie.Need-returns-2
 returns-2 c = B.operator-half _ _ _ (c .before .before .pre) (c .before .if1 .left) (c .if2 .taken)
 
--- src/decoding.rt:58:15
 shared-slice-read-t8 : tie.Need-shared-slice-read-t8
 shared-slice-read-t8 c = search needs
 
--- src/decoding.rt:59:22
 add-t6 : tie.Need-add-t6
 add-t6 c = search needs
 
--- src/decoding.rt:59:16
 shared-slice-read-t10 : tie.Need-shared-slice-read-t10
 shared-slice-read-t10 c = search needs
 
--- src/decoding.rt:60:16
 add-t11 : tie.Need-add-t11
 add-t11 c = search needs
 
--- src/decoding.rt:46:1
 returns-3 : tie.Need-returns-3
 returns-3 c = B.operator-whole _ _ _ (c .before .before .before .before .pre) (c .before .before .before .if1 .left) (c .before .before .if2 .left)
 

@@ -8,27 +8,21 @@ use Rattle.records.proofs.decoding.prune_body.Reads as reads
 use Rattle.records.proofs.decoding.prune_body.Lts as lts
 use Rattle.records.proofs.number.number.Reads as number-reads
 
--- src/decoding.rt:124:18
 add-if1 : tie.Need-add-if1
 add-if1 c = search needs
 
--- src/decoding.rt:125:9
 returns : tie.Need-returns
 returns c = B.prune-wrong _ _ _ (c .before .before .pre) (c .if1 .taken)
 
--- src/decoding.rt:127:19
 number-requires : tie.Need-number-requires
 number-requires c κs = search needs
 
--- src/decoding.rt:128:35
 add-number : tie.Need-add-number
 add-number c = search needs
 
--- src/decoding.rt:128:9
 number-requires-2 : tie.Need-number-requires-2
 number-requires-2 c κs = search needs
 
--- src/decoding.rt:120:1
 returns-2 : tie.Need-returns-2
 returns-2 c = B.prune-whole _ _ _ (c .before .before .before .before .pre) (c .before .before .if1 .left) _ _ (c .before .number .ensures .is) (c .number2 .ensures .is)
 

@@ -8,19 +8,15 @@ use Rattle.records.proofs.decoding.variable_body.Reads as reads
 use Rattle.records.proofs.decoding.variable_body.Lts as lts
 use Rattle.records.proofs.number.number.Reads as number-reads
 
--- src/decoding.rt:30:9
 returns : tie.Need-returns
 returns c = B.variable-wrong _ _ _ (c .before .before .pre) (c .if1 .taken)
 
--- src/decoding.rt:32:20
 number-requires : tie.Need-number-requires
 number-requires c κs = search needs
 
--- src/decoding.rt:32:20
 cast-t6 : tie.Need-cast-t6
 cast-t6 c = search needs
 
--- src/decoding.rt:25:1
 returns-2 : tie.Need-returns-2
 returns-2 c = B.variable-whole _ _ _ (c .before .before .before .pre) (c .before .if1 .left) _ (c .number .ensures .is)
 

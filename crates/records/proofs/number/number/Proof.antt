@@ -17,27 +17,21 @@ Inv-loop sheet at width value₀ i₀ value i = (i ≤ width) × Number sheet at
 abbrev μ-loop : tie.MeasureT-loop
 μ-loop sheet at width value₀ i₀ value i = width - i
 
--- src/number.rt:25:5
 loop-holds : tie.Need-loop-holds Inv-loop μ-loop
 loop-holds c = (search needs, number-none _ _)
 
--- src/number.rt:26:17
 mul-value : tie.Need-mul-value Inv-loop μ-loop
 mul-value c = let h : c .before .loop .value * 256 + 255 < 18446744073709551616 = number-room _ _ _ _ (c .before .loop .inv .1) (omega arith) in omega arith
 
--- src/number.rt:26:48
 add-wide : tie.Need-add-wide Inv-loop μ-loop
 add-wide c = search needs
 
--- src/number.rt:26:42
 shared-slice-read-wide : tie.Need-shared-slice-read-wide Inv-loop μ-loop
 shared-slice-read-wide c = search needs
 
--- src/number.rt:26:37
 wide-requires : tie.Need-wide-requires Inv-loop μ-loop
 wide-requires c κs = search needs
 
--- src/number.rt:26:17
 add-value : tie.Need-add-value Inv-loop μ-loop
 add-value c =
     let l = c .before .before .before .loop in
@@ -45,15 +39,12 @@ add-value c =
     let e = c .wide .ensures in
     omega (arith, c .before .shared-slice-known2 .given (c .before .before .before .before .before .args .at + l .i))
 
--- src/number.rt:27:9
 add-i : tie.Need-add-i Inv-loop μ-loop
 add-i c = search needs
 
--- src/number.rt:25:5
 loop-less : tie.Need-loop-less Inv-loop μ-loop
 loop-less c = search needs
 
--- src/number.rt:25:5
 loop-again : tie.Need-loop-again Inv-loop μ-loop
 loop-again c =
     let l = c .before .before .before .loop in
@@ -61,7 +52,6 @@ loop-again c =
     let b = c .before .shared-slice-known2 .given (a .at + l .i) in
     (search needs, subst (λ (x : ℕ). Number (now (a .sheet)) (a .at) (l .i + 1) (l .value * 256 + x)) (sym (c .wide .ensures)) (number-more _ _ _ _ (l .inv .1) (omega arith) (omega arith)))
 
--- src/number.rt:19:1
 returns : tie.Need-returns Inv-loop μ-loop
 returns c =
     let l = c .before .loop in

@@ -6,35 +6,27 @@ use Rattle.sheet.proofs.operands.operand_id.Tie as tie
 use Rattle.sheet.proofs.operands.operand_id.Reads as reads
 use Rattle.sheet.proofs.operands.operand_id.Lts as lts
 
--- src/operands.rt:18:16
 cast-result : tie.Need-cast-result
 cast-result c = search needs
 
--- src/operands.rt:18:9
 returns : tie.Need-returns
 returns c = let a = c .before .args in id-late (now (a .ids)) (a .done) (a .count) (a .operand) (c .if1 .taken)
 
--- src/operands.rt:20:14
 mul-id : tie.Need-mul-id
 mul-id c = search needs
 
--- src/operands.rt:20:14
 element-copy-out-id : tie.Need-element-copy-out-id
 element-copy-out-id c = search needs
 
--- src/operands.rt:22:16
 cast-result-2 : tie.Need-cast-result-2
 cast-result-2 c = search needs
 
--- src/operands.rt:22:9
 returns-2 : tie.Need-returns-2
 returns-2 c = let a = c .before .before .before .args in id-high (now (a .ids)) (a .done) (a .count) (a .operand) (c .before .before .if1 .left) (c .if2 .taken)
 
--- src/operands.rt:24:5
 cast-result-3 : tie.Need-cast-result-3
 cast-result-3 c = search needs
 
--- src/operands.rt:13:1
 returns-3 : tie.Need-returns-3
 returns-3 c = let a = c .before .before .before .args in id-noted (now (a .ids)) (a .done) (a .count) (a .operand) (c .before .before .if1 .left) (c .if2 .left)
 

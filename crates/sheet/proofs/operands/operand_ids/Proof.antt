@@ -1,4 +1,3 @@
--- imports
 use Prim.Native.Nat.{ℕ, _-_}
 use mathlib.Core.Path.{_≡_, refl, subst}
 use mathlib.Core.List.{map}
@@ -8,7 +7,6 @@ use denote.Ref.{now}
 use Rattle.records.specs.Reading.{operandsFrom}
 use Rattle.sheet.specs.Running.{idBelow}
 use Rattle.sheet.proofs.Filling.{Filled, filled-none, filled-more}
--- end imports
 use Rattle.sheet.proofs.operands.operand_ids.Statement.{statement}
 use Rattle.sheet.proofs.operands.operand_ids.Tie as tie
 use Rattle.sheet.proofs.operands.operand_ids.Reads as reads
@@ -22,39 +20,30 @@ Inv-loop sheet first operands ids done count children₀ k₀ children k = Fille
 abbrev μ-loop : tie.MeasureT-loop
 μ-loop sheet first operands ids done count children₀ k₀ children k = operands - k
 
--- src/operands.rt:40:5
 loop-holds : tie.Need-loop-holds Inv-loop μ-loop
 loop-holds c = filled-none _ _ _ _ _ refl
 
--- src/operands.rt:41:13
 operand-requires : tie.Need-operand-requires Inv-loop μ-loop
 operand-requires c κs = omega arith
 
--- src/operands.rt:42:23
 operand-id-requires : tie.Need-operand-id-requires Inv-loop μ-loop
 operand-id-requires c κs = (c .before .before .before .before .pre .2, c .before .before .before .before .pre .3, c .before .before .before .before .pre .4)
 
--- src/operands.rt:42:9
 mul-children : tie.Need-mul-children Inv-loop μ-loop
 mul-children c = let d = c .before .before .before .loop .inv in let l = d .long in omega arith
 
--- src/operands.rt:42:9
 array-write-children : tie.Need-array-write-children Inv-loop μ-loop
 array-write-children c = let d = c .before .before .before .loop .inv in let l = d .long in omega arith
 
--- src/operands.rt:43:9
 add-k : tie.Need-add-k Inv-loop μ-loop
 add-k c = omega arith
 
--- src/operands.rt:40:5
 loop-less : tie.Need-loop-less Inv-loop μ-loop
 loop-less c = omega arith
 
--- src/operands.rt:40:5
 loop-again : tie.Need-loop-again Inv-loop μ-loop
 loop-again c = filled-more _ _ _ _ _ _ (c .before .before .before .loop .inv) (omega arith) (omega arith) _ _ (c .before .operand .ensures) (c .operand-id .ensures)
 
--- src/operands.rt:27:1
 returns : tie.Need-returns Inv-loop μ-loop
 returns c =
     let a = c .before .before .before .args in

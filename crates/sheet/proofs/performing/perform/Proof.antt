@@ -1,4 +1,3 @@
--- imports
 use mathlib.Core.Path.{sym, ap, subst}
 use lib.ListN.{length}
 use native.Mathlib.Omega.{arith}
@@ -6,9 +5,8 @@ use denote.Ref.{now}
 use Rattle.store.specs.Memory.{memory}
 use Rattle.builder.proofs.Codes.{asked-variable, asked-constant, asked-function}
 use Rattle.records.specs.declared.Body.{Body}
-use Rattle.records.specs.Reading.{callOf, Within}
+use Rattle.records.specs.Reading.{callOf, OperandsInSheet}
 use Rattle.sheet.proofs.Calls as C
--- end imports
 use borrow.Author.Needs.{needs}
 use Rattle.sheet.proofs.performing.perform.Statement.{statement}
 use Rattle.sheet.proofs.performing.perform.Tie as tie
@@ -20,181 +18,140 @@ use Rattle.sheet.proofs.building.operator_request.Reads as operator-req
 use Rattle.sheet.proofs.performing.prune.Reads as prune-reads
 use Rattle.sheet.proofs.performing.simplify.Reads as simplify-reads
 
--- src/performing.rt:119:24
 enum-known-body : tie.Need-enum-known-body
 enum-known-body c = search needs
 
--- src/performing.rt:123:26
 cast-t29 : tie.Need-cast-t29
 cast-t29 c = search needs
 
--- src/performing.rt:126:13
 build-requires : tie.Need-build-requires
 build-requires c κs = (omega arith, c .before .before .before .before .before .before .before .before .pre .1, c .before .before .before .before .before .before .before .before .pre .2, asked-variable _ (search needs), c .before .before .before .before .before .before .before .before .pre .3)
 
--- src/performing.rt:128:24
 enum-known-body-2 : tie.Need-enum-known-body-2
 enum-known-body-2 c = search needs
 
--- src/performing.rt:135:13
 build-requires-2 : tie.Need-build-requires-2
 build-requires-2 c κs = (omega arith, c .before .before .before .before .before .before .before .before .pre .1, c .before .before .before .before .before .before .before .before .pre .2, asked-constant _, c .before .before .before .before .before .before .before .before .pre .3)
 
--- src/performing.rt:138:13
 enum-known-body-3 : tie.Need-enum-known-body-3
 enum-known-body-3 c = search needs
 
--- src/performing.rt:142:73
 operator-request-requires : tie.Need-operator-request-requires
 operator-request-requires c κs = search needs
 
--- src/performing.rt:142:14
 build-requires-3 : tie.Need-build-requires-3
-build-requires-3 c κs = (subst (λ (b : Body). Within (length (now (c .before .before .before .before .before .before .before .before .before .args .sheet))) b) (c .before .before .before .before .body3 .given .1) (c .before .before .before .before .before .before .before .before .before .pre .0), c .before .before .before .before .before .before .before .before .before .pre .1, c .before .before .before .before .before .before .before .before .before .pre .2, C.operator-asked _ _ _ (c .operator-request .ensures), c .before .before .before .before .before .before .before .before .before .pre .3)
+build-requires-3 c κs = (subst (λ (b : Body). OperandsInSheet (length (now (c .before .before .before .before .before .before .before .before .before .args .sheet))) b) (c .before .before .before .before .body3 .given .1) (c .before .before .before .before .before .before .before .before .before .pre .0), c .before .before .before .before .before .before .before .before .before .pre .1, c .before .before .before .before .before .before .before .before .before .pre .2, C.operator-asked _ _ _ (c .operator-request .ensures), c .before .before .before .before .before .before .before .before .before .pre .3)
 
--- src/performing.rt:144:13
 enum-known-body-4 : tie.Need-enum-known-body-4
 enum-known-body-4 c = search needs
 
--- src/performing.rt:151:26
 cast-t43 : tie.Need-cast-t43
 cast-t43 c = search needs
 
--- src/performing.rt:154:13
 build-requires-4 : tie.Need-build-requires-4
-build-requires-4 c κs = (subst (λ (b : Body). Within (length (now (c .before .before .before .before .before .before .before .before .args .sheet))) b) (c .before .before .before .body4 .given .1) (c .before .before .before .before .before .before .before .before .pre .0), c .before .before .before .before .before .before .before .before .pre .1, c .before .before .before .before .before .before .before .before .pre .2, asked-function _ (search needs), c .before .before .before .before .before .before .before .before .pre .3)
+build-requires-4 c κs = (subst (λ (b : Body). OperandsInSheet (length (now (c .before .before .before .before .before .before .before .before .args .sheet))) b) (c .before .before .before .body4 .given .1) (c .before .before .before .before .before .before .before .before .pre .0), c .before .before .before .before .before .before .before .before .pre .1, c .before .before .before .before .before .before .before .before .pre .2, asked-function _ (search needs), c .before .before .before .before .before .before .before .before .pre .3)
 
--- src/performing.rt:156:25
 enum-known-body-5 : tie.Need-enum-known-body-5
 enum-known-body-5 c = search needs
 
--- src/performing.rt:157:72
 control-request-requires : tie.Need-control-request-requires
 control-request-requires c κs = search needs
 
--- src/performing.rt:157:13
 build-requires-5 : tie.Need-build-requires-5
-build-requires-5 c κs = (subst (λ (b : Body). Within (length (now (c .before .before .before .before .before .before .before .before .before .args .sheet))) b) (c .before .before .before .before .body5 .given .1) (c .before .before .before .before .before .before .before .before .before .pre .0), c .before .before .before .before .before .before .before .before .before .pre .1, c .before .before .before .before .before .before .before .before .before .pre .2, C.control-asked _ _ (c .control-request .ensures), c .before .before .before .before .before .before .before .before .before .pre .3)
+build-requires-5 c κs = (subst (λ (b : Body). OperandsInSheet (length (now (c .before .before .before .before .before .before .before .before .before .args .sheet))) b) (c .before .before .before .before .body5 .given .1) (c .before .before .before .before .before .before .before .before .before .pre .0), c .before .before .before .before .before .before .before .before .before .pre .1, c .before .before .before .before .before .before .before .before .before .pre .2, C.control-asked _ _ (c .control-request .ensures), c .before .before .before .before .before .before .before .before .before .pre .3)
 
--- src/performing.rt:160:13
 enum-known-body-6 : tie.Need-enum-known-body-6
 enum-known-body-6 c = search needs
 
--- src/performing.rt:163:14
 simplify-requires : tie.Need-simplify-requires
 simplify-requires c κs = (c .before .before .before .before .before .before .before .before .pre .1, c .before .before .before .before .before .before .before .before .pre .2, c .before .before .before .before .before .before .before .before .pre .3)
 
--- src/performing.rt:164:23
 enum-known-body-7 : tie.Need-enum-known-body-7
 enum-known-body-7 c = search needs
 
--- src/performing.rt:164:47
 prune-requires : tie.Need-prune-requires
 prune-requires c κs = (c .before .before .before .before .before .before .before .before .pre .1, c .before .before .before .before .before .before .before .before .pre .2, c .before .before .before .before .before .before .before .before .pre .3)
 
--- src/performing.rt:166:21
 enum-told : tie.Need-enum-told
 enum-told c = search needs
 
--- src/performing.rt:106:1
 same-length : tie.Need-same-length
 same-length c = search needs
 
--- src/performing.rt:106:1
 same-length-2 : tie.Need-same-length-2
 same-length-2 c = search needs
 
--- src/performing.rt:106:1
 returns : tie.Need-returns
 returns c =
     let a = c .before .before .before .before .before .before .before .before .before .before .before .before .before .args in
     C.variable-body (now (a .sheet)) (a .body) (now (a .ids)) (a .done) (memory (now (a .nodes)) (now (a .slots)) (a .arena)) _ _ _ (c .before .before .before .before .before .before .before .before .body .given .1) (c .before .before .before .before .build .ensures)
 
--- src/performing.rt:106:1
 same-length-3 : tie.Need-same-length-3
 same-length-3 c = search needs
 
--- src/performing.rt:106:1
 same-length-4 : tie.Need-same-length-4
 same-length-4 c = search needs
 
--- src/performing.rt:106:1
 returns-2 : tie.Need-returns-2
 returns-2 c =
     let a = c .before .before .before .before .before .before .before .before .before .before .before .before .before .args in
     C.constant-body (now (a .sheet)) (a .body) (now (a .ids)) (a .done) (memory (now (a .nodes)) (now (a .slots)) (a .arena)) _ _ _ (c .before .before .before .before .before .before .before .before .body2 .given .1) (c .before .before .before .before .build2 .ensures)
 
--- src/performing.rt:106:1
 same-length-5 : tie.Need-same-length-5
 same-length-5 c = search needs
 
--- src/performing.rt:106:1
 same-length-6 : tie.Need-same-length-6
 same-length-6 c = search needs
 
--- src/performing.rt:106:1
 returns-3 : tie.Need-returns-3
 returns-3 c =
     let a = c .before .before .before .before .before .before .before .before .before .before .before .before .before .before .args in
     C.operator-body (now (a .sheet)) (a .body) (now (a .ids)) (a .done) (memory (now (a .nodes)) (now (a .slots)) (a .arena)) _ _ _ _ _ _ _ (c .before .before .before .before .before .operator-request .ensures) (c .before .before .before .before .before .before .before .before .before .body3 .given .1) (c .before .before .before .before .build3 .ensures)
 
--- src/performing.rt:106:1
 same-length-7 : tie.Need-same-length-7
 same-length-7 c = search needs
 
--- src/performing.rt:106:1
 same-length-8 : tie.Need-same-length-8
 same-length-8 c = search needs
 
--- src/performing.rt:106:1
 returns-4 : tie.Need-returns-4
 returns-4 c =
     let a = c .before .before .before .before .before .before .before .before .before .before .before .before .before .args in
     C.function-body (now (a .sheet)) (a .body) (now (a .ids)) (a .done) (memory (now (a .nodes)) (now (a .slots)) (a .arena)) _ _ _ _ _ (c .before .before .before .before .before .before .before .before .body4 .given .1) (c .before .before .before .before .build4 .ensures)
 
--- src/performing.rt:106:1
 same-length-9 : tie.Need-same-length-9
 same-length-9 c = search needs
 
--- src/performing.rt:106:1
 same-length-10 : tie.Need-same-length-10
 same-length-10 c = search needs
 
--- src/performing.rt:106:1
 returns-5 : tie.Need-returns-5
 returns-5 c =
     let a = c .before .before .before .before .before .before .before .before .before .before .before .before .before .before .args in
     C.control-body (now (a .sheet)) (a .body) (now (a .ids)) (a .done) (memory (now (a .nodes)) (now (a .slots)) (a .arena)) _ _ _ _ _ _ (c .before .before .before .before .before .control-request .ensures) (c .before .before .before .before .before .before .before .before .before .body5 .given .1) (c .before .before .before .before .build5 .ensures)
 
--- src/performing.rt:106:1
 same-length-11 : tie.Need-same-length-11
 same-length-11 c = search needs
 
--- src/performing.rt:106:1
 same-length-12 : tie.Need-same-length-12
 same-length-12 c = search needs
 
--- src/performing.rt:106:1
 returns-6 : tie.Need-returns-6
 returns-6 c =
     let a = c .before .before .before .before .before .before .before .before .before .before .before .before .before .args in
     C.simplify-body (now (a .sheet)) (a .body) (now (a .ids)) (a .done) (memory (now (a .nodes)) (now (a .slots)) (a .arena)) _ _ _ _ _ (c .before .before .before .before .before .before .before .before .body6 .given .1) (c .before .before .before .before .simplify .ensures)
 
--- src/performing.rt:106:1
 same-length-13 : tie.Need-same-length-13
 same-length-13 c = search needs
 
--- src/performing.rt:106:1
 same-length-14 : tie.Need-same-length-14
 same-length-14 c = search needs
 
--- src/performing.rt:106:1
 returns-7 : tie.Need-returns-7
 returns-7 c =
     let a = c .before .before .before .before .before .before .before .before .before .before .before .before .before .args in
     C.prune-body (now (a .sheet)) (a .body) (now (a .ids)) (a .done) (memory (now (a .nodes)) (now (a .slots)) (a .arena)) _ _ _ _ (c .before .before .before .before .before .before .before .before .body7 .given .1) (c .before .before .before .before .prune .ensures)
 
--- src/performing.rt:106:1
 returns-8 : tie.Need-returns-8
 returns-8 c =
     let a = c .before .before .before .before .before .args in

@@ -1,8 +1,6 @@
--- imports
 use denote.Ref.{now}
 use Rattle.store.specs.Memory.{memory}
 use Rattle.sheet.proofs.Calls.{pruned}
--- end imports
 use borrow.Author.Needs.{needs}
 use Rattle.sheet.proofs.performing.prune.Statement.{statement}
 use Rattle.sheet.proofs.performing.prune.Tie as tie
@@ -11,45 +9,35 @@ use Rattle.sheet.proofs.performing.prune.Lts as lts
 use Rattle.pruner.proofs.prune_sound.Reads as prune-sound-reads
 use Rattle.sheet.proofs.operands.operand_id.Reads as operand-id-reads
 
--- src/performing.rt:85:9
 operand-id-requires : tie.Need-operand-id-requires
 operand-id-requires c κs = (c .before .before .pre .0, c .before .before .pre .1, c .before .before .pre .2 .nodes .formed .many)
 
--- src/performing.rt:87:9
 prune-sound-requires : tie.Need-prune-sound-requires
 prune-sound-requires c κs = c .before .before .before .before .before .pre .2
 
--- src/performing.rt:92:13
 enum-known-answer : tie.Need-enum-known-answer
 enum-known-answer c = search needs
 
--- src/performing.rt:99:33
 enum-known-answer-2 : tie.Need-enum-known-answer-2
 enum-known-answer-2 c = search needs
 
--- src/performing.rt:72:1
 same-length : tie.Need-same-length
 same-length c = search needs
 
--- src/performing.rt:72:1
 same-length-2 : tie.Need-same-length-2
 same-length-2 c = search needs
 
--- src/performing.rt:72:1
 returns : tie.Need-returns
 returns c =
     let a = c .before .before .before .before .before .before .before .before .before .before .before .before .before .before .args in
     pruned (memory (now (a .nodes)) (now (a .slots)) (a .arena)) (c .before .before .before .before .before .before .before .before .before .before .before .before .before .before .pre .2) (now (a .ids)) (a .done) (a .operand) _ (c .before .before .before .before .before .before .before .before .before .before .before .operand-id .ensures) _ (a .threshold) _ _ (c .before .answer .given .1) (c .before .before .before .before .before .before .before .before .prune-sound .ensures)
 
--- src/performing.rt:72:1
 same-length-3 : tie.Need-same-length-3
 same-length-3 c = search needs
 
--- src/performing.rt:72:1
 same-length-4 : tie.Need-same-length-4
 same-length-4 c = search needs
 
--- src/performing.rt:72:1
 returns-2 : tie.Need-returns-2
 returns-2 c =
     let a = c .before .before .before .before .before .before .before .before .before .before .before .before .before .before .args in

@@ -1,8 +1,6 @@
--- imports
 use denote.Ref.{now}
 use Rattle.store.specs.Memory.{memory}
 use Rattle.sheet.proofs.Calls.{simplified}
--- end imports
 use borrow.Author.Needs.{needs}
 use Rattle.sheet.proofs.performing.simplify.Statement.{statement}
 use Rattle.sheet.proofs.performing.simplify.Tie as tie
@@ -11,63 +9,49 @@ use Rattle.sheet.proofs.performing.simplify.Lts as lts
 use Rattle.sheet.proofs.operands.operand_id.Reads as operand-id-reads
 use Rattle.walk.proofs.simplify_sound.Reads as simplify-sound-reads
 
--- src/performing.rt:51:9
 operand-id-requires : tie.Need-operand-id-requires
 operand-id-requires c κs = (c .before .before .pre .0, c .before .before .pre .1, c .before .before .pre .2 .nodes .formed .many)
 
--- src/performing.rt:52:9
 simplify-sound-requires : tie.Need-simplify-sound-requires
 simplify-sound-requires c κs = c .before .before .before .before .before .pre .2
 
--- src/performing.rt:56:36
 enum-known-answer : tie.Need-enum-known-answer
 enum-known-answer c = search needs
 
--- src/performing.rt:60:31
 enum-known-answer-2 : tie.Need-enum-known-answer-2
 enum-known-answer-2 c = search needs
 
--- src/performing.rt:64:31
 enum-known-answer-3 : tie.Need-enum-known-answer-3
 enum-known-answer-3 c = search needs
 
--- src/performing.rt:37:1
 same-length : tie.Need-same-length
 same-length c = search needs
 
--- src/performing.rt:37:1
 same-length-2 : tie.Need-same-length-2
 same-length-2 c = search needs
 
--- src/performing.rt:37:1
 returns : tie.Need-returns
 returns c =
     let a = c .before .before .before .before .before .before .before .before .before .before .before .before .before .before .args in
     simplified (memory (now (a .nodes)) (now (a .slots)) (a .arena)) (c .before .before .before .before .before .before .before .before .before .before .before .before .before .before .pre .2) (now (a .ids)) (a .done) (a .operand) _ (c .before .before .before .before .before .before .before .before .before .before .before .operand-id .ensures) _ (a .depth) (a .budget) _ _ (c .before .answer .given .1) (c .before .before .before .before .before .before .before .before .simplify-sound .ensures)
 
--- src/performing.rt:37:1
 same-length-3 : tie.Need-same-length-3
 same-length-3 c = search needs
 
--- src/performing.rt:37:1
 same-length-4 : tie.Need-same-length-4
 same-length-4 c = search needs
 
--- src/performing.rt:37:1
 returns-2 : tie.Need-returns-2
 returns-2 c =
     let a = c .before .before .before .before .before .before .before .before .before .before .before .before .before .before .args in
     simplified (memory (now (a .nodes)) (now (a .slots)) (a .arena)) (c .before .before .before .before .before .before .before .before .before .before .before .before .before .before .pre .2) (now (a .ids)) (a .done) (a .operand) _ (c .before .before .before .before .before .before .before .before .before .before .before .operand-id .ensures) _ (a .depth) (a .budget) _ _ (c .before .answer2 .given .1) (c .before .before .before .before .before .before .before .before .simplify-sound .ensures)
 
--- src/performing.rt:37:1
 same-length-5 : tie.Need-same-length-5
 same-length-5 c = search needs
 
--- src/performing.rt:37:1
 same-length-6 : tie.Need-same-length-6
 same-length-6 c = search needs
 
--- src/performing.rt:37:1
 returns-3 : tie.Need-returns-3
 returns-3 c =
     let a = c .before .before .before .before .before .before .before .before .before .before .before .before .before .before .args in

@@ -1,4 +1,3 @@
--- imports
 use Prim.Native.Nat.{ℕ, _-_}
 use mathlib.Core.Path.{_≡_, refl, _∙_}
 use mathlib.Core.List.{[]}
@@ -10,7 +9,6 @@ use Rattle.definitions.specs.Sheet as Sheet
 use Rattle.store.specs.Memory.{memory, model}
 use Rattle.sheet.specs.Running.{Doing}
 use Rattle.sheet.proofs.Onward.{doing-start, doing-end}
--- end imports
 use Rattle.sheet.proofs.running.run_records.Statement.{statement}
 use Rattle.sheet.proofs.running.run_records.Tie as tie
 use Rattle.sheet.proofs.running.run_records.Reads as reads
@@ -26,35 +24,27 @@ Inv-loop sheet start nodes₀ slots₀ ids₀ progress₀ nodes slots ids progre
 abbrev μ-loop : tie.MeasureT-loop
 μ-loop sheet start nodes₀ slots₀ ids₀ progress₀ nodes slots ids progress = mostRecords - progress .done
 
--- src/running.rt:106:5
 loop-holds : tie.Need-loop-holds Inv-loop μ-loop
 loop-holds c = (refl, refl, doing-start _ _ _ _ (c .before .before .before .pre) refl refl)
 
--- src/running.rt:107:13
 step-requires : tie.Need-step-requires Inv-loop μ-loop
 step-requires c κs = let d = c .before .before .before .before .before .loop .inv .2 in (c .before .before .before .if1 .taken, d .wide, d .few, d .stays .sound)
 
--- src/running.rt:109:29
 enum-known-turn : tie.Need-enum-known-turn Inv-loop μ-loop
 enum-known-turn c = search needs
 
--- src/running.rt:110:17
 same-length : tie.Need-same-length Inv-loop μ-loop
 same-length c = let i = c .before .before .before .before .before .before .before .before .before .before .before .before .before .loop .inv in search needs
 
--- src/running.rt:110:17
 same-length-2 : tie.Need-same-length-2 Inv-loop μ-loop
 same-length-2 c = let i = c .before .before .before .before .before .before .before .before .before .before .before .before .before .loop .inv in search needs
 
--- src/running.rt:110:17
 returns : tie.Need-returns Inv-loop μ-loop
 returns c = c .before .before .before .before .before .before .before .step .ensures .turned _ _ (c .before .before .before .before .before .before .before .before .before .before .before .before .before .loop .inv .2) .refused _ _ (c .before .turn .given .1)
 
--- src/running.rt:118:24
 enum-known-turn-2 : tie.Need-enum-known-turn-2 Inv-loop μ-loop
 enum-known-turn-2 c = search needs
 
--- src/running.rt:106:5
 loop-less : tie.Need-loop-less Inv-loop μ-loop
 loop-less c =
     let t = c .before .before .before .before .before .before .before .step .ensures .turned _ _ (c .before .before .before .before .before .before .before .before .before .before .before .before .before .loop .inv .2) .more _ (c .before .turn2 .given .1) in
@@ -62,25 +52,20 @@ loop-less c =
     let w = t .1 .few in
     omega arith
 
--- src/running.rt:106:5
 loop-again : tie.Need-loop-again Inv-loop μ-loop
 loop-again c =
     let t = c .before .before .before .before .before .before .before .step .ensures .turned _ _ (c .before .before .before .before .before .before .before .before .before .before .before .before .before .loop .inv .2) .more _ (c .before .turn2 .given .1) in
     (search needs, search needs, t .1)
 
--- src/running.rt:123:9
 finished-requires : tie.Need-finished-requires Inv-loop μ-loop
 finished-requires c κs = search needs
 
--- src/running.rt:94:1
 same-length-3 : tie.Need-same-length-3 Inv-loop μ-loop
 same-length-3 c = let i = c .before .before .before .before .loop .inv in search needs
 
--- src/running.rt:94:1
 same-length-4 : tie.Need-same-length-4 Inv-loop μ-loop
 same-length-4 c = let i = c .before .before .before .before .loop .inv in search needs
 
--- src/running.rt:94:1
 returns-2 : tie.Need-returns-2 Inv-loop μ-loop
 returns-2 c = doing-end _ _ _ _ _ _ (c .before .before .before .before .loop .inv .2) (c .before .before .if1 .left) _ (c .before .finished .ensures)
 

@@ -1,8 +1,6 @@
--- imports
 use mathlib.Core.Path.{refl}
 use native.Mathlib.Omega.{arith}
 use Rattle.sheet.proofs.Onward.{doing-full, doing-refused, doing-more, turned-more, turned-refused}
--- end imports
 use borrow.Author.Needs.{needs}
 use Rattle.sheet.proofs.running.step.Statement.{statement}
 use Rattle.sheet.proofs.running.step.Tie as tie
@@ -11,59 +9,45 @@ use Rattle.sheet.proofs.running.step.Lts as lts
 use Rattle.records.proofs.read.Reads as read-reads
 use Rattle.sheet.proofs.performing.perform.Reads as perform-reads
 
--- src/running.rt:51:9
 returns : tie.Need-returns
 returns c = record { turned = λ plain m d. turned-refused _ _ _ _ _ _ _ _ _ (doing-full _ _ _ _ _ _ d (c .before .before .before .before .before .pre .0) (c .if1 .taken)) }
 
--- src/running.rt:56:9
 read-requires : tie.Need-read-requires
 read-requires c κs = search needs
 
--- src/running.rt:59:9
 perform-requires : tie.Need-perform-requires
 perform-requires c κs = (c .before .before .before .before .read .ensures .within, c .before .before .before .before .before .before .before .before .before .before .pre .1, c .before .before .before .before .before .before .before .before .before .before .pre .2, c .before .before .before .before .before .before .before .before .before .before .pre .3)
 
--- src/running.rt:63:25
 enum-known-answer : tie.Need-enum-known-answer
 enum-known-answer c = search needs
 
--- src/running.rt:67:28
 enum-known-answer-2 : tie.Need-enum-known-answer-2
 enum-known-answer-2 c = search needs
 
--- src/running.rt:68:13
 mul-ids : tie.Need-mul-ids
 mul-ids c = search needs
 
--- src/running.rt:68:13
 element-write-ids : tie.Need-element-write-ids
 element-write-ids c = search needs
 
--- src/running.rt:70:23
 add-t26 : tie.Need-add-t26
 add-t26 c = search needs
 
--- src/running.rt:37:1
 same-length : tie.Need-same-length
 same-length c = search needs
 
--- src/running.rt:37:1
 same-length-2 : tie.Need-same-length-2
 same-length-2 c = search needs
 
--- src/running.rt:37:1
 returns-2 : tie.Need-returns-2
 returns-2 c = record { turned = λ plain m d. turned-refused _ _ _ _ _ _ _ _ _ (doing-refused _ _ _ _ _ _ d (c .before .before .before .before .before .before .before .before .before .before .before .before .before .before .before .before .before .before .before .pre .0) _ (c .before .before .before .before .before .before .before .before .before .before .before .before .before .read .ensures) (omega (arith, c .before .before .before .before .before .before .before .before .before .before .before .before .before .before .if1 .left)) _ _ _ (c .before .answer .given .1) (c .before .before .before .before .before .before .before .before .perform .ensures)) }
 
--- src/running.rt:37:1
 same-length-3 : tie.Need-same-length-3
 same-length-3 c = search needs
 
--- src/running.rt:37:1
 same-length-4 : tie.Need-same-length-4
 same-length-4 c = search needs
 
--- src/running.rt:37:1
 returns-3 : tie.Need-returns-3
 returns-3 c = record { turned = λ plain m d. turned-more _ _ _ _ _ _ _ _ refl (doing-more _ _ _ _ _ _ d (c .before .before .before .before .before .before .before .before .before .before .before .before .before .before .before .before .before .before .before .pre .0) _ (c .before .before .before .before .before .before .before .before .before .before .before .before .before .read .ensures) (omega (arith, c .before .before .before .before .before .before .before .before .before .before .before .before .before .before .if1 .left)) _ _ _ _ refl refl refl refl _ (c .before .answer2 .given .1) (c .before .before .before .before .before .before .before .before .perform .ensures)) }
 

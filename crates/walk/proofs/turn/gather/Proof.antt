@@ -3,18 +3,18 @@ use Prim.Native.Nat.{_-_}
 use native.Mathlib.Omega.{arith}
 use borrow.Author.Needs.{needs}
 use Rattle.walk.proofs.Gathering as G
-use Rattle.walk.proofs.Gathering.{Filled}
+use Rattle.walk.proofs.Gathering.{GatheredSoFar}
 use Rattle.walk.proofs.turn.gather.Statement.{statement}
 use Rattle.walk.proofs.turn.gather.Tie as tie
 
 abbrev Inv-loop : tie.InvT-loop
-Inv-loop values from arity children₀ place₀ children place = Filled values from arity children place
+Inv-loop values from arity children₀ place₀ children place = GatheredSoFar values from arity children place
 
 abbrev μ-loop : tie.MeasureT-loop
 μ-loop values from arity children₀ place₀ children place = arity - place
 
 loop-holds : tie.Need-loop-holds Inv-loop μ-loop
-loop-holds c = G.filled-none _ _ _
+loop-holds c = G.gathered-none _ _ _
 
 add-children : tie.Need-add-children Inv-loop μ-loop
 add-children c = omega arith
@@ -38,10 +38,10 @@ loop-less : tie.Need-loop-less Inv-loop μ-loop
 loop-less c = omega arith
 
 loop-again : tie.Need-loop-again Inv-loop μ-loop
-loop-again c = G.filled-next _ _ _ _ _ (c .before .before .loop .inv) (c .before .loop-test .taken) (c .before .before .before .pre .few)
+loop-again c = G.gathered-next _ _ _ _ _ (c .before .before .loop .inv) (c .before .loop-test .taken) (c .before .before .before .pre .few)
 
 returns : tie.Need-returns Inv-loop μ-loop
-returns c = G.filled-all _ _ _ _ _ (c .before .loop .inv) (c .loop-test .left)
+returns c = G.gathered-all _ _ _ _ _ (c .before .loop .inv) (c .loop-test .left)
 
 pub gather-spec : {M : Type 1} → statement M
 gather-spec =

@@ -5,13 +5,13 @@ use Rattle.definitions.specs.Refusals.{notSound, badOperand}
 use Rattle.store.specs.Memory.{Memory, model}
 use Rattle.listing_lines.specs.declared.NodeLine.{NodeLine}
 use Rattle.listing_lines.specs.declared.Found.the-variants.{Line, Refused}
-use Rattle.listing_lines.specs.Line.{Empty, Holds}
+use Rattle.listing_lines.specs.Line.{EmptyLine, Holds}
 use Rattle.listing_lines.specs.Outcome.{lineOf}
 
 -- a refusal's number, beside an empty line
 pub record Refuses (number : ℕ) (r : NodeLine) : Type 0 where
   pub answer : r .answer ≡ Refused number
-  pub line : Empty (r .line)
+  pub line : EmptyLine (r .line)
 
 -- 20, then 4, then the line
 pub record Lists (m : Memory) (id : ℕ) (r : NodeLine) : Type 0 where

@@ -1,25 +1,11 @@
-// What the tests write.
+// How answers and nodes are shown.
 use arena::DagArena;
 use arena::DagNode;
 use libc::STDOUT_FILENO;
+use printing::after_id;
+use printing::number;
+use printing::text;
 use walk::Answer;
-
-// The digits of a payload.
-const PAYLOAD_DIGITS: usize = 16;
-
-pub(crate) fn text(t: &[u8]) {
-    io::write_all(STDOUT_FILENO, t);
-}
-
-fn payload(n: u64) {
-    text(b" ");
-    io::print_hex(STDOUT_FILENO, n, PAYLOAD_DIGITS);
-}
-
-fn number(n: u64) {
-    text(b" ");
-    io::print_decimal(STDOUT_FILENO, n);
-}
 
 // An answer on a line of its own.
 pub(crate) fn answer(answer: Answer) {
@@ -42,24 +28,9 @@ pub(crate) fn answer(answer: Answer) {
     text(b"\n");
 }
 
-fn child(node: DagNode, place: usize) {
-    if place < arena::MOST_CHILDREN {
-        if (place as u64) < node.arity {
-            let children = node.children;
-            number(children[place]);
-        }
-    }
-}
-
 fn line(node: DagNode, id: u32) {
     io::print_decimal(STDOUT_FILENO, id as u64);
-    number(node.kind);
-    payload(node.payload);
-    number(node.flags);
-    child(node, 0);
-    child(node, 1);
-    child(node, 2);
-    child(node, 3);
+    after_id(node);
     text(b"\n");
 }
 

@@ -1,8 +1,8 @@
 use Prim.Native.Nat.{_-_}
 use native.Mathlib.Omega.{arith}
 use borrow.Author.Needs.{needs}
-use Rattle.patterns_tests.proofs.printing.nodes_from.Statement.{statement}
-use Rattle.patterns_tests.proofs.printing.nodes_from.Tie as tie
+use Rattle.patterns_tests.proofs.showing.nodes_from.Statement.{statement}
+use Rattle.patterns_tests.proofs.showing.nodes_from.Tie as tie
 
 abbrev Inv-loop : tie.InvT-loop
 Inv-loop nodes slots arena first id₀ id = Unit {0}

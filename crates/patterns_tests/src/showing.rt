@@ -1,6 +1,5 @@
-// How formulas, answers and nodes are printed.
+// How operators, answers and nodes are shown.
 use arena::DagArena;
-use arena::DagNode;
 use arena::MOST_NODES;
 use arena::kind::ADD;
 use arena::kind::DIV;
@@ -8,24 +7,10 @@ use arena::kind::MOD;
 use arena::kind::MUL;
 use arena::kind::POW;
 use arena::kind::SUB;
-use libc::STDOUT_FILENO;
 use patterns::Matched;
-
-const HEX_DIGITS: usize = 16;
-
-pub(crate) fn text(t: &[u8]) {
-    io::write_all(STDOUT_FILENO, t);
-}
-
-pub(crate) fn number(n: u64) {
-    text(b" ");
-    io::print_decimal(STDOUT_FILENO, n);
-}
-
-// The bits of a constant, or a payload.
-pub(crate) fn bits(b: u64) {
-    io::print_hex(STDOUT_FILENO, b, HEX_DIGITS);
-}
+use printing::after_id;
+use printing::number;
+use printing::text;
 
 // The sign of an operator of two operands.
 pub(crate) fn sign(kind: u64) {
@@ -52,22 +37,6 @@ pub(crate) fn answer(matched: Matched) {
     }
 }
 
-fn children(node: DagNode) {
-    let places = node.children;
-    if 0 < node.arity {
-        number(places[0]);
-    }
-    if 1 < node.arity {
-        number(places[1]);
-    }
-    if 2 < node.arity {
-        number(places[2]);
-    }
-    if 3 < node.arity {
-        number(places[3]);
-    }
-}
-
 // A node, as a line of 01's listing.
 fn line(nodes: &[u64], slots: &[u32], arena: DagArena, id: u64) {
     if MOST_NODES <= id {
@@ -77,11 +46,7 @@ fn line(nodes: &[u64], slots: &[u32], arena: DagArena, id: u64) {
     let node = read.node;
     text(b" |");
     number(id);
-    number(node.kind);
-    text(b" ");
-    bits(node.payload);
-    number(node.flags);
-    children(node);
+    after_id(node);
 }
 
 // The nodes of a store from an id on.

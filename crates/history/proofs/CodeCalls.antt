@@ -11,16 +11,16 @@ use Rattle.arena.specs.declared.DagArena.{DagArena}
 use Rattle.definitions.specs.Machine.{Call, Answer}
 use Rattle.store.specs.Memory.{Memory, memory, Leaves}
 use Rattle.history.specs.declared.reply.Answered.{Answered}
-use Rattle.history.specs.Calling.{replyOf, Runs}
-use Rattle.history.specs.Encoding.{firstWithOperands, firstRewriting, lastCode, callOf, known}
+use Rattle.history.specs.Calling.{replyOf, RunsCall}
+use Rattle.history.specs.Encoding.{firstWithOperands, firstRewriting, lastCode, callOfCode, known}
 
 -- a function's answer and counts, handed on as the reply of its code
 pub runs : (code k a b high low : ℕ) (operands : List ℕ) (x : Call) (m : Memory) (words slots : List ℕ) (answer : Answer) (r : Answered) (arena : DagArena)
-    → code ≡ k → Leaves x m answer (memory words slots arena) → (replyOf (r .reply) ≡ some answer) × (r .arena ≡ arena) → callOf k a b high low operands ≡ some x
-    → Runs (callOf code a b high low operands) m r (memory words slots (r .arena))
+    → code ≡ k → Leaves x m answer (memory words slots arena) → (replyOf (r .reply) ≡ some answer) × (r .arena ≡ arena) → callOfCode k a b high low operands ≡ some x
+    → RunsCall (callOfCode code a b high low operands) m r (memory words slots (r .arena))
 runs code k a b high low operands x m words slots answer r arena e h (same, kept) table = record {
   ran = x;
-  is = ap (λ n. callOf n a b high low operands) e ∙ table;
+  is = ap (λ n. callOfCode n a b high low operands) e ∙ table;
   answer = answer;
   reply = same;
   leaves = subst (λ y. Leaves x m answer (memory words slots y)) (sym kept) h;
@@ -62,8 +62,8 @@ past : (code k : ℕ) (x o : Option Call) → k < code → o ≡ none → cond (
 past code k x o h e = ap (λ t. cond t x o) (ne-eqb code k (λ q. absurd (omega arith))) ∙ e
 
 module _ (code a b high low : ℕ) (operands : List ℕ) where
-  pub known-has : known code ≡ true → HasCall (callOf code a b high low operands)
-  unfolding callOf
+  pub known-has : known code ≡ true → HasCall (callOfCode code a b high low operands)
+  unfolding callOfCode
   known-has h =
       let few = leb-true code lastCode h in
       line code 0 _ _ (omega arith) (λ n0.
@@ -85,8 +85,8 @@ module _ (code a b high low : ℕ) (operands : List ℕ) where
       line code 16 _ _ (omega arith) (λ n16.
       line code 17 _ _ (omega arith) (λ n17. absurd (omega arith)))))))))))))))))))
 
-  past-has-none : lastCode < code → callOf code a b high low operands ≡ none
-  unfolding callOf
+  past-has-none : lastCode < code → callOfCode code a b high low operands ≡ none
+  unfolding callOfCode
   past-has-none h =
       past code 0 _ _ (omega arith)
       (past code 1 _ _ (omega arith)
@@ -107,5 +107,5 @@ module _ (code a b high low : ℕ) (operands : List ℕ) where
       (past code 16 _ _ (omega arith)
       (past code 17 _ _ (omega arith) refl)))))))))))))))))
 
-  pub unknown-has-none : known code ≡ false → callOf code a b high low operands ≡ none
+  pub unknown-has-none : known code ≡ false → callOfCode code a b high low operands ≡ none
   unknown-has-none h = past-has-none (leb-false code lastCode h)

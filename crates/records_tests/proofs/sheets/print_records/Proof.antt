@@ -1,11 +1,11 @@
 use Prim.Native.Nat.{ℕ, _-_, _≤_}
 use borrow.Author.Needs.{needs}
-use Rattle.records_tests.proofs.print_records.Statement.{statement}
-use Rattle.records_tests.proofs.print_records.Tie as tie
-use Rattle.records_tests.proofs.print_records.Reads as reads
-use Rattle.records_tests.proofs.print_records.Lts as lts
+use Rattle.records_tests.proofs.sheets.print_records.Statement.{statement}
+use Rattle.records_tests.proofs.sheets.print_records.Tie as tie
+use Rattle.records_tests.proofs.sheets.print_records.Reads as reads
+use Rattle.records_tests.proofs.sheets.print_records.Lts as lts
 use Rattle.io.proofs.write_all.Reads as write-all-reads
-use Rattle.records_tests.proofs.print_record.Reads as print-record-reads
+use Rattle.records_tests.proofs.sheets.print_record.Reads as print-record-reads
 
 abbrev Inv-loop : tie.InvT-loop
 Inv-loop sheet start at₀ left₀ t7 at left = Unit {0}
@@ -13,51 +13,39 @@ Inv-loop sheet start at₀ left₀ t7 at left = Unit {0}
 abbrev μ-loop : tie.MeasureT-loop
 μ-loop sheet start at₀ left₀ t7 at left = left
 
--- src/main.rt:153:5
 loop-holds : tie.Need-loop-holds Inv-loop μ-loop
 loop-holds c = search needs
 
--- src/main.rt:154:9
 sub-left : tie.Need-sub-left Inv-loop μ-loop
 sub-left c = search needs
 
--- src/main.rt:156:42
 slice-aggregate-write-all : tie.Need-slice-aggregate-write-all Inv-loop μ-loop
 slice-aggregate-write-all c = search needs
 
--- src/main.rt:156:13
 write-all-requires : tie.Need-write-all-requires Inv-loop μ-loop
 write-all-requires c κs = search needs
 
--- src/main.rt:157:13
 returns : tie.Need-returns Inv-loop μ-loop
 returns c = search needs
 
--- src/main.rt:159:13
 print-record-requires : tie.Need-print-record-requires Inv-loop μ-loop
 print-record-requires c κs = search needs
 
--- src/main.rt:160:22
 enum-known-next : tie.Need-enum-known-next Inv-loop μ-loop
 enum-known-next c = search needs
 
--- src/main.rt:161:13
 enum-told : tie.Need-enum-told Inv-loop μ-loop
 enum-told c = search needs
 
--- src/main.rt:161:13
 returns-2 : tie.Need-returns-2 Inv-loop μ-loop
 returns-2 c = search needs
 
--- src/main.rt:153:5
 loop-less : tie.Need-loop-less Inv-loop μ-loop
 loop-less c = search needs
 
--- src/main.rt:153:5
 loop-again : tie.Need-loop-again Inv-loop μ-loop
 loop-again c = search needs
 
--- src/main.rt:150:1
 returns-3 : tie.Need-returns-3 Inv-loop μ-loop
 returns-3 c = search needs
 

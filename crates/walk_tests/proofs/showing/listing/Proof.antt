@@ -2,8 +2,8 @@
 use Prim.Native.Nat.{_-_}
 use native.Mathlib.Omega.{arith}
 use borrow.Author.Needs.{needs}
-use Rattle.walk_tests.proofs.printing.listing.Statement.{statement}
-use Rattle.walk_tests.proofs.printing.listing.Tie as tie
+use Rattle.walk_tests.proofs.showing.listing.Statement.{statement}
+use Rattle.walk_tests.proofs.showing.listing.Tie as tie
 
 abbrev Inv-loop : tie.InvT-loop
 Inv-loop nodes slots arena from to id₀ id = Unit {0}

@@ -1,12 +1,12 @@
 use Prim.Native.Nat.{ℕ, _-_, _≤_}
 use borrow.Author.Needs.{needs}
-use Rattle.records_tests.proofs.print_operands.Statement.{statement}
-use Rattle.records_tests.proofs.print_operands.Tie as tie
-use Rattle.records_tests.proofs.print_operands.Reads as reads
-use Rattle.records_tests.proofs.print_operands.Lts as lts
+use Rattle.records_tests.proofs.bodies.print_operands.Statement.{statement}
+use Rattle.records_tests.proofs.bodies.print_operands.Tie as tie
+use Rattle.records_tests.proofs.bodies.print_operands.Reads as reads
+use Rattle.records_tests.proofs.bodies.print_operands.Lts as lts
 use Rattle.io.proofs.write_all.Reads as write-all-reads
-use Rattle.records_tests.proofs.print_number.Reads as print-number-reads
-use Rattle.records_tests.proofs.print_operand.Reads as print-operand-reads
+use Rattle.records_tests.proofs.bodies.print_number.Reads as print-number-reads
+use Rattle.records_tests.proofs.bodies.print_operand.Reads as print-operand-reads
 
 abbrev Inv-loop : tie.InvT-loop
 Inv-loop sheet first count k₀ k = k ≤ count
@@ -14,51 +14,39 @@ Inv-loop sheet first count k₀ k = k ≤ count
 abbrev μ-loop : tie.MeasureT-loop
 μ-loop sheet first count k₀ k = count - k
 
--- src/main.rt:37:5
 print-number-requires : tie.Need-print-number-requires Inv-loop μ-loop
 print-number-requires c κs = search needs
 
--- src/main.rt:38:34
 slice-aggregate-write-all : tie.Need-slice-aggregate-write-all Inv-loop μ-loop
 slice-aggregate-write-all c = search needs
 
--- src/main.rt:38:5
 write-all-requires : tie.Need-write-all-requires Inv-loop μ-loop
 write-all-requires c κs = search needs
 
--- src/main.rt:40:37
 sub-print-operand : tie.Need-sub-print-operand Inv-loop μ-loop
 sub-print-operand c = search needs
 
--- src/main.rt:40:9
 print-operand-requires : tie.Need-print-operand-requires Inv-loop μ-loop
 print-operand-requires c κs = search needs
 
--- src/main.rt:41:9
 returns : tie.Need-returns Inv-loop μ-loop
 returns c = search needs
 
--- src/main.rt:43:5
 loop-holds : tie.Need-loop-holds Inv-loop μ-loop
 loop-holds c = search needs
 
--- src/main.rt:44:9
 print-operand-requires-2 : tie.Need-print-operand-requires-2 Inv-loop μ-loop
 print-operand-requires-2 c κs = search needs
 
--- src/main.rt:43:9
 add-k : tie.Need-add-k Inv-loop μ-loop
 add-k c = search needs
 
--- src/main.rt:43:5
 loop-less : tie.Need-loop-less Inv-loop μ-loop
 loop-less c = search needs
 
--- src/main.rt:43:5
 loop-again : tie.Need-loop-again Inv-loop μ-loop
 loop-again c = search needs
 
--- src/main.rt:36:1
 returns-2 : tie.Need-returns-2 Inv-loop μ-loop
 returns-2 c = search needs
 
