@@ -21,7 +21,8 @@
  * refusal, and leaves what is behind those pointers as it was. The numbers are
  * below. Of several that apply the first in this order is returned: 20, 5, 6,
  * 4, 7 or 8, 23, 21, 22; for names 20, 9, 24. What a refusal leaves in the store
- * is said at each function.
+ * is said at each function. Of sheets and listings, what is returned and what
+ * stays is said there.
  *
  * OF A CALLER nothing is asked but C's own rules: a list is a pointer to as many
  * elements as its length says, aligned for their type, all of which may be read
@@ -29,11 +30,12 @@
  * one call overlap, unless both are to const; and nothing else writes them
  * during the call. A list of length 0 may have any pointer, also a null one;
  * `count`, `size` and the pointers to answers are never null and are aligned,
- * and an array is as long as its declaration says. No content is asked for: damaged lists and counts are refused, with 20. No
- * function keeps a pointer, allocates, or touches other memory, but for its
- * stack: as compiled now, a prune takes about 40 KB of it, a name call 17 KB, a
- * simplify 13 KB and any other call under 1 KB. (What a stack takes is not among
- * the things that are proved.)
+ * and an array is as long as its declaration says. No content is asked for:
+ * damaged lists and counts are refused, with 20. No function keeps a pointer,
+ * allocates, or touches other memory, but for its stack: as compiled now, the
+ * listing of a sheet takes about 290 KB of it, a sheet 43 KB, a prune 35 KB, a
+ * name call 17 KB, a simplify 13 KB and any other call under 1 KB. (What a stack
+ * takes is not among the things that are proved.)
  */
 #ifndef CURVALIQUE_H
 #define CURVALIQUE_H
@@ -53,8 +55,24 @@ extern "C" {
 #define CURVALIQUE_ENTRY_BYTES 33
 #define CURVALIQUE_LONGEST_NAME 32
 
-/* Refusals. Numbers 1 to 3 are those of sheets. */
-#define CURVALIQUE_BAD_OPERAND 4      /* an id that is not below the count */
+/* A listing of curvalique_list_sheet has at most so many bytes. */
+#define CURVALIQUE_LISTING_BYTES 98496
+
+/* The form of a listing's first line. */
+#define CURVALIQUE_FORM_OK 0       /* "ok" and the last answer's id */
+#define CURVALIQUE_FORM_EMPTY 1    /* "ok -": there were no records */
+#define CURVALIQUE_FORM_SPENT 2    /* "spent" and the id: the last record's budget was used up */
+#define CURVALIQUE_FORM_REFUSED 3  /* "refused", a refusal's number, "at" and its record */
+
+/* What curvalique_read_listing returns of bytes that it does not read. */
+#define CURVALIQUE_WRONG_LINE 1
+#define CURVALIQUE_TOO_FEW_WORDS 2
+
+/* Refusals. */
+#define CURVALIQUE_BAD_SHEET 1        /* a sheet that is empty, over 16,384 bytes or does not begin with the byte 1 */
+#define CURVALIQUE_BAD_RECORD 2       /* a record that goes past the sheet's end, is unknown or has a wrong length */
+#define CURVALIQUE_TOO_MANY_RECORDS 3 /* bytes after 1,024 records */
+#define CURVALIQUE_BAD_OPERAND 4      /* an id that is not below the count; in a sheet, no earlier record */
 #define CURVALIQUE_BAD_CODE 5         /* an operator, flags, control or depth value that is not listed */
 #define CURVALIQUE_BAD_CHILD_COUNT 6  /* the number of children */
 #define CURVALIQUE_BAD_THRESHOLD 7    /* a threshold that is NaN or has the sign bit */
@@ -308,6 +326,75 @@ uint64_t curvalique_lookup_name(
 uint64_t curvalique_name(
     const uint8_t *entries, size_t entry_bytes, size_t count,
     uint32_t number, uint64_t *known, size_t *length, uint8_t bytes[CURVALIQUE_LONGEST_NAME]);
+
+/*
+ * ---- Sheets and listings ----
+ *
+ * A SHEET is bytes: the byte 1, then records, each of which builds a node,
+ * simplifies or prunes; 01 has their layout. They are done in order on one
+ * store, which is looked over once, and an operand is the number of an earlier
+ * record, from 0. A LISTING is text: a line that says how a sheet ended, in one
+ * of the forms above, and a line for each node of its store, by rising id: id,
+ * kind, payload in 16 capital hexadecimal digits, flags, children.
+ */
+
+/*
+ * Runs a sheet on a store. Returns 0 if every record is answered: `form` is then
+ * CURVALIQUE_FORM_OK and `id` the last answer's id, or CURVALIQUE_FORM_SPENT and
+ * `id` the root of the last record, or CURVALIQUE_FORM_EMPTY if there are no
+ * records, and `id` stays as it was; `record` stays. Else `record` is the number
+ * of the refused record, and `form` and `id` stay. Refusals: 20, then 1, both at
+ * record 0; nothing else is changed. For each record 3, 2, 5, 6, 4, 7, 23, 21,
+ * 22: the sheet ends, what earlier records built and marked stays, and the
+ * refused record leaves what its call would.
+ */
+uint64_t curvalique_run_sheet(
+    const uint8_t *sheet, size_t sheet_length,
+    uint64_t *nodes, size_t node_words, uint32_t *slots, size_t slot_count,
+    uint64_t *count, size_t *size,
+    uint64_t *form, uint64_t *id, uint64_t *record);
+
+/*
+ * The same on a fresh store in the lent lists: what `count` and `size` hold is
+ * not read. Refusals: 22 at record 0 if fewer than 64 slots are lent; `count`
+ * and `size` are then 0, which is no sound store, and nodes and slots stay.
+ * Else as there but for 20; a sheet refused with 1 leaves the fresh store.
+ */
+uint64_t curvalique_run_sheet_fresh(
+    const uint8_t *sheet, size_t sheet_length,
+    uint64_t *nodes, size_t node_words, uint32_t *slots, size_t slot_count,
+    uint64_t *count, size_t *size,
+    uint64_t *form, uint64_t *id, uint64_t *record);
+
+/*
+ * Writes the listing of a sheet on a fresh store of 512 nodes and 1,024 slots of
+ * its own, as 01's listing program prints it: the first `length` bytes of
+ * `listing`. What the bytes past them hold is not said. Refusals: none; the
+ * listing's first line has a refusal of the sheet.
+ */
+void curvalique_list_sheet(
+    const uint8_t *sheet, size_t sheet_length,
+    uint8_t listing[CURVALIQUE_LISTING_BYTES], size_t *length);
+
+/*
+ * Reads a listing back: writes the words of its nodes, ten each, with their
+ * hashes and coefficients, and no table. Returns 0 if the bytes are a listing:
+ * `count` is then the number of nodes and `form` that of the first line; with
+ * CURVALIQUE_FORM_OK or CURVALIQUE_FORM_SPENT `id` is the line's id, with
+ * CURVALIQUE_FORM_REFUSED `number` and `record` are the line's; what it does not
+ * have, and `line`, stay as they were. That no two nodes are one and that the id
+ * is below the count is not asked. Else reading ends at the first line that is
+ * wrong or whose node has no place, and all these stay. Refusals:
+ * CURVALIQUE_WRONG_LINE if the line is not as 01 has it or comes after 65,536
+ * nodes; `line` is its number, from 1, and the nodes before it are written.
+ * CURVALIQUE_TOO_FEW_WORDS if the node has no place in the lent words; as many
+ * nodes as have place are written, and `line` stays. Words past the written
+ * nodes stay.
+ */
+uint64_t curvalique_read_listing(
+    const uint8_t *bytes, size_t bytes_length, uint64_t *nodes, size_t node_words,
+    uint64_t *count, uint64_t *form, uint64_t *id, uint64_t *number, uint64_t *record,
+    uint64_t *line);
 
 #ifdef __cplusplus
 }

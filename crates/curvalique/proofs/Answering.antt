@@ -1,5 +1,5 @@
 -- From a call's record to what it says in numbers.
-use Prim.Native.Nat.{ℕ, zero, suc, _<_}
+use Prim.Native.Nat.{ℕ, zero, suc}
 use mathlib.Core.Path.{_≡_, refl, sym, ap, _∙_, subst}
 use mathlib.Core.Bool.{true, false, false≢true}
 use mathlib.Core.List.{List}
@@ -7,12 +7,12 @@ use native.Mathlib.Omega.{arith}
 use Rattle.arena.specs.declared.DagArena.{DagArena}
 use Rattle.definitions.specs.Machine as M
 use Rattle.store.specs.Memory.{Memory, memory, Leaves}
-use Rattle.curvalique.specs.Calls.{arenaOf, lentMemory, unlessRefused, Stays, numberOf, isRefused, Left}
+use Rattle.curvalique.specs.Calls.{arenaOf, lentMemory, unlessRefused, OutputsStay, SpentOrNot, numberOf, isRefused, Left, SpentLeft}
 use Rattle.curvalique.proofs.Refusals.{never-0}
 
 -- what is left is the answer, and what is returned its number
 same-answer : (c : M.Call) (m m′ : Memory) (answer : M.Answer) (r : ℕ) (left : M.Answer) (before after : List ℕ)
-    → Leaves c m answer m′ → Left answer r left before after → (unlessRefused r left ≡ answer) × Stays r before after
+    → Leaves c m answer m′ → Left answer r left before after → (unlessRefused r left ≡ answer) × OutputsStay r before after
 same-answer c m m′ (M.stored id) r left before after h l = (ap (λ (n : ℕ). unlessRefused n left) (l .number) ∙ l .answered refl, λ p. let e = l .number in absurd (omega arith))
 same-answer c m m′ (M.simplified id spent steps) r left before after h l = (ap (λ (n : ℕ). unlessRefused n left) (l .number) ∙ l .answered refl, λ p. let e = l .number in absurd (omega arith))
 same-answer c m m′ (M.pruned id kept dropped) r left before after h l = (ap (λ (n : ℕ). unlessRefused n left) (l .number) ∙ l .answered refl, λ p. let e = l .number in absurd (omega arith))
@@ -22,10 +22,27 @@ same-answer c m m′ (M.refused (suc number)) r left before after h l = (ap (λ 
 -- a call in numbers
 pub in-numbers : (c : M.Call) (m : Memory) (words slots : List ℕ) (arena : DagArena) (count size : ℕ) (answer : M.Answer) (r : ℕ) (left : M.Answer) (before after : List ℕ)
     → Leaves c m answer (memory words slots arena) → arenaOf count size ≡ arena → Left answer r left before after
-    → Leaves c m (unlessRefused r left) (lentMemory words slots count size) × Stays r before after
+    → Leaves c m (unlessRefused r left) (lentMemory words slots count size) × OutputsStay r before after
 in-numbers c m words slots arena count size answer r left before after h e l =
     let s = same-answer c m (memory words slots arena) answer r left before after h l in
     (subst (λ (a : DagArena). Leaves c m (unlessRefused r left) (memory words slots a)) (sym e) (subst (λ (a : M.Answer). Leaves c m a (memory words slots arena)) (sym (s .0)) h), s .1)
+
+-- 0 is returned of an answer alone
+pub not-refused : (c : M.Call) (m m′ : Memory) (answer : M.Answer) (r : ℕ) (left : M.Answer) (before after : List ℕ)
+    → Leaves c m answer m′ → Left answer r left before after → r ≡ 0 → isRefused answer ≡ false
+not-refused c m m′ (M.stored id) r left before after h l z = refl
+not-refused c m m′ (M.simplified id spent steps) r left before after h l z = refl
+not-refused c m m′ (M.pruned id kept dropped) r left before after h l z = refl
+not-refused c m m′ (M.refused zero) r left before after h l z = absurd (never-0 c m m′ (h .called))
+not-refused c m m′ (M.refused (suc number)) r left before after h l z = let e = l .number in absurd (omega arith)
+
+-- a simplify in numbers
+pub simplify-in-numbers : (c : M.Call) (m : Memory) (words slots : List ℕ) (arena : DagArena) (count size : ℕ) (answer : M.Answer) (r : ℕ) (left : M.Answer) (before after : List ℕ) (spent : ℕ)
+    → Leaves c m answer (memory words slots arena) → arenaOf count size ≡ arena → Left answer r left before after → SpentLeft answer spent
+    → Leaves c m (unlessRefused r left) (lentMemory words slots count size) × (OutputsStay r before after × SpentOrNot r spent)
+simplify-in-numbers c m words slots arena count size answer r left before after spent h e l s =
+    let n = in-numbers c m words slots arena count size answer r left before after h e l in
+    (n .0, (n .1, λ z. s (not-refused c m (memory words slots arena) answer r left before after h l z)))
 
 -- ---- leaving an answer
 

@@ -12,10 +12,10 @@ use Rattle.definitions.specs.Refusals.{badNameLength, noNamePlace}
 use Rattle.names.specs.declared.Answer.{Answer}
 use Rattle.names.specs.declared.Answer.the-variants.{Numbered, Unknown, Named, Refused}
 use Rattle.names.specs.declared.NameBytes.{NameBytes}
-use Rattle.names.specs.Calls.{answerOf, Called, NameCalled, plainly, bytesBeside}
+use Rattle.names.specs.Calls.{answerOf, Called, NameCalled, plainly, bytesBeside, Fits}
 use Rattle.names.specs.Sound.{Sound, lentEntries, namesOf}
-use Rattle.curvalique.specs.Calls.{Stays}
-use Rattle.curvalique.specs.NameCalls.{nameUnlessRefused, nameIfKnown, Padded}
+use Rattle.curvalique.specs.Calls.{OutputsStay}
+use Rattle.curvalique.specs.NameCalls.{nameUnlessRefused, numberIfKnown, nameIfKnown, Known, Padded}
 
 -- what each call may answer; no refusal has the number 0
 abbrev pub internAnswer : NameAnswer → Bool
@@ -25,14 +25,14 @@ internAnswer (named name) = false
 internAnswer (refused zero) = false
 internAnswer (refused (suc number)) = true
 
-abbrev pub lookupAnswer : NameAnswer → Bool
+abbrev lookupAnswer : NameAnswer → Bool
 lookupAnswer (numbered n) = true
 lookupAnswer unknown = true
 lookupAnswer (named name) = false
 lookupAnswer (refused zero) = false
 lookupAnswer (refused (suc number)) = true
 
-abbrev pub nameAnswer : NameAnswer → Bool
+abbrev nameAnswer : NameAnswer → Bool
 nameAnswer (numbered n) = false
 nameAnswer unknown = true
 nameAnswer (named name) = true
@@ -71,6 +71,14 @@ plain-name lent names n = by (ltb n (length names))
     by true = refl
     by false = refl
 
+-- ---- what is known
+
+is-known : (before after : List ℕ) → Known 0 1 before after
+is-known before after = λ _. (omega arith, λ z. absurd (omega arith))
+
+not-known : (out : List ℕ) → Known 0 0 out out
+not-known out = λ _. (omega arith, λ _. refl)
+
 -- ---- a call's answer on any list: where it is not sound, the answer is the refusal 20
 
 module _ (bytes : List ℕ) (count : ℕ) where
@@ -83,22 +91,44 @@ module _ (bytes : List ℕ) (count : ℕ) where
   pub intern-fits : (name : List ℕ) (answer : NameAnswer) (bytes′ : List ℕ) (count′ : ℕ) → Called bytes count (internName name) answer bytes′ count′ → internAnswer answer ≡ false → ⊥
   intern-fits name answer bytes′ count′ = fits internAnswer (internName name) answer bytes′ count′ refl (plain-intern (lentEntries bytes) (namesOf bytes count) name)
 
-  pub lookup-fits : (name : List ℕ) (answer : NameAnswer) (bytes′ : List ℕ) (count′ : ℕ) → Called bytes count (lookupName name) answer bytes′ count′ → lookupAnswer answer ≡ false → ⊥
+  lookup-fits : (name : List ℕ) (answer : NameAnswer) (bytes′ : List ℕ) (count′ : ℕ) → Called bytes count (lookupName name) answer bytes′ count′ → lookupAnswer answer ≡ false → ⊥
   lookup-fits name answer bytes′ count′ = fits lookupAnswer (lookupName name) answer bytes′ count′ refl (plain-lookup (lentEntries bytes) (namesOf bytes count) name)
 
-  pub name-fits : (n : ℕ) (answer : NameAnswer) (bytes′ : List ℕ) (count′ : ℕ) → Called bytes count (nameOf n) answer bytes′ count′ → nameAnswer answer ≡ false → ⊥
+  name-fits : (n : ℕ) (answer : NameAnswer) (bytes′ : List ℕ) (count′ : ℕ) → Called bytes count (nameOf n) answer bytes′ count′ → nameAnswer answer ≡ false → ⊥
   name-fits n answer bytes′ count′ = fits nameAnswer (nameOf n) answer bytes′ count′ refl (plain-name (lentEntries bytes) (namesOf bytes count) n)
 
   -- ---- a call in numbers
 
   pub name-answered : (call : NameCall) (answer left : NameAnswer) (bytes′ : List ℕ) (count′ : ℕ) (before after : List ℕ)
-      → Called bytes count call answer bytes′ count′ → answer ≡ left → Called bytes count call (nameUnlessRefused 0 left) bytes′ count′ × Stays 0 before after
+      → Called bytes count call answer bytes′ count′ → answer ≡ left → Called bytes count call (nameUnlessRefused 0 left) bytes′ count′ × OutputsStay 0 before after
   name-answered call answer left bytes′ count′ before after h e = (subst (λ (a : NameAnswer). Called bytes count call a bytes′ count′) e h, λ p. absurd (omega arith))
 
   pub name-refused : (call : NameCall) (answer left : NameAnswer) (bytes′ : List ℕ) (count′ number : ℕ) (out : List ℕ)
-      → Called bytes count call answer bytes′ count′ → answer ≡ refused number → (number ≡ 0 → ⊥) → Called bytes count call (nameUnlessRefused number left) bytes′ count′ × Stays number out out
+      → Called bytes count call answer bytes′ count′ → answer ≡ refused number → (number ≡ 0 → ⊥) → Called bytes count call (nameUnlessRefused number left) bytes′ count′ × OutputsStay number out out
   name-refused call answer left bytes′ count′ zero out h e n = absurd (n refl)
   name-refused call answer left bytes′ count′ (suc number) out h e n = (subst (λ (a : NameAnswer). Called bytes count call a bytes′ count′) e h, λ _. refl)
+
+  -- ---- a number looked up
+
+  module _ (name : List ℕ) (answer : NameAnswer) (h : Called bytes count (lookupName name) answer bytes count) where
+    given-lookup : (left : NameAnswer) → answer ≡ left → Called bytes count (lookupName name) left bytes count
+    given-lookup left e = subst (λ (a : NameAnswer). Called bytes count (lookupName name) a bytes count) e h
+
+    pub never-named : (found : List ℕ) → answer ≡ named found → ⊥
+    never-named found e = lookup-fits name (named found) bytes count (given-lookup (named found) e) refl
+
+    pub lookup-known : (number : ℕ) (before after before′ after′ : List ℕ) → answer ≡ numbered number
+        → Called bytes count (lookupName name) (nameUnlessRefused 0 (numberIfKnown 1 number)) bytes count × (Known 0 1 before after × OutputsStay 0 before′ after′)
+    lookup-known number before after before′ after′ e = (given-lookup (numbered number) e, (is-known before after, λ p. absurd (omega arith)))
+
+    pub lookup-unknown : (number : ℕ) (out before′ after′ : List ℕ) → answer ≡ unknown
+        → Called bytes count (lookupName name) (nameUnlessRefused 0 (numberIfKnown 0 number)) bytes count × (Known 0 0 out out × OutputsStay 0 before′ after′)
+    lookup-unknown number out before′ after′ e = (given-lookup unknown e, (not-known out, λ p. absurd (omega arith)))
+
+    pub lookup-refused : (refusal known number : ℕ) (before after out : List ℕ) → answer ≡ refused refusal
+        → Called bytes count (lookupName name) (nameUnlessRefused refusal (numberIfKnown known number)) bytes count × (Known refusal known before after × OutputsStay refusal out out)
+    lookup-refused zero known number before after out e = absurd (lookup-fits name (refused 0) bytes count (given-lookup (refused 0) e) refl)
+    lookup-refused (suc refusal) known number before after out e = (given-lookup (refused (suc refusal)) e, (λ z. absurd (omega arith), λ _. refl))
 
   -- ---- a name, with its bytes
 
@@ -109,16 +139,18 @@ module _ (bytes : List ℕ) (count : ℕ) where
     pub never-numbered : (number : ℕ) → found .answer ≡ Numbered number → ⊥
     never-numbered number e = name-fits n (numbered number) bytes count (given (Numbered number) e) refl
 
-    pub name-unknown : (size : ℕ) (out : List ℕ) (before after : List ℕ) → found .answer ≡ Unknown
-        → Called bytes count (nameOf n) (nameUnlessRefused 0 (nameIfKnown 0 size out)) bytes count × (Padded 0 0 size out × Stays 0 before after)
-    name-unknown size out before after e = (given Unknown e, (λ _ p. absurd (omega arith), λ p. absurd (omega arith)))
+    pub name-unknown : (size : ℕ) (out kept before after : List ℕ) → found .answer ≡ Unknown
+        → Called bytes count (nameOf n) (nameUnlessRefused 0 (nameIfKnown 0 size out)) bytes count × (Known 0 0 kept kept × (Padded 0 0 size out × OutputsStay 0 before after))
+    name-unknown size out kept before after e = (given Unknown e, (not-known kept, (λ _ p. absurd (omega arith), λ p. absurd (omega arith))))
 
-    pub name-known : (size : ℕ) (before after : List ℕ) → found .answer ≡ Named size
-        → Called bytes count (nameOf n) (nameUnlessRefused 0 (nameIfKnown 1 size (found .bytes))) bytes count × (Padded 0 1 size (found .bytes) × Stays 0 before after)
-    name-known size before after e =
-        (given (Named size) e, (λ _ _. h .beside ∙ ap (λ (a : Answer). bytesBeside (answerOf a (found .bytes))) e, λ p. absurd (omega arith)))
+    padded : (size : ℕ) → found .answer ≡ Named size → Padded 0 1 size (found .bytes)
+    padded size e = λ _ _. (subst Fits e (h .fits), h .beside ∙ ap (λ (a : Answer). bytesBeside (answerOf a (found .bytes))) e)
 
-    pub name-not-given : (number known size : ℕ) (out kept : List ℕ) → found .answer ≡ Refused number
-        → Called bytes count (nameOf n) (nameUnlessRefused number (nameIfKnown known size out)) bytes count × (Padded number known size out × Stays number kept kept)
-    name-not-given zero known size out kept e = absurd (name-fits n (refused 0) bytes count (given (Refused 0) e) refl)
-    name-not-given (suc number) known size out kept e = (given (Refused (suc number)) e, (λ z _. absurd (omega arith), λ _. refl))
+    pub name-known : (size : ℕ) (before after before′ after′ : List ℕ) → found .answer ≡ Named size
+        → Called bytes count (nameOf n) (nameUnlessRefused 0 (nameIfKnown 1 size (found .bytes))) bytes count × (Known 0 1 before after × (Padded 0 1 size (found .bytes) × OutputsStay 0 before′ after′))
+    name-known size before after before′ after′ e = (given (Named size) e, (is-known before after, (padded size e, λ p. absurd (omega arith))))
+
+    pub name-not-given : (number known size : ℕ) (out before after kept : List ℕ) → found .answer ≡ Refused number
+        → Called bytes count (nameOf n) (nameUnlessRefused number (nameIfKnown known size out)) bytes count × (Known number known before after × (Padded number known size out × OutputsStay number kept kept))
+    name-not-given zero known size out before after kept e = absurd (name-fits n (refused 0) bytes count (given (Refused 0) e) refl)
+    name-not-given (suc number) known size out before after kept e = (given (Refused (suc number)) e, (λ z. absurd (omega arith), (λ z _. absurd (omega arith), λ _. refl)))

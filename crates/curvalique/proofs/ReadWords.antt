@@ -1,17 +1,16 @@
 -- A node's words.
-use Prim.Native.Nat.{ℕ, suc, _≤_, _<_}
+use Prim.Native.Nat.{ℕ}
 use mathlib.Core.Path.{_≡_, refl, sym, ap, _∙_}
 use mathlib.Core.List.{List, [], _∷_}
 use native.Mathlib.Omega.{arith}
 use lib.ListN.{length, getD}
 use Rattle.arena.specs.declared.DagArena.{DagArena}
-use Rattle.arena.specs.declared.node.DagNode.{DagNode}
+use Rattle.arena.specs.Node.{wordsOf}
 use Rattle.builder.specs.declared.reading.NodeRead.{NodeRead}
 use Rattle.builder.specs.declared.reading.Found.{Found}
 use Rattle.builder.specs.declared.reading.Found.the-variants.{Node, Refused}
 use Rattle.builder.specs.Reads.{Reads}
-use Rattle.store.specs.Sound.{Sound}
-use Rattle.curvalique.specs.Reading.{wordsOf, ReadsWords}
+use Rattle.curvalique.specs.Reading.{ReadsWords}
 
 -- four places, each by itself
 pub four-places : (places : List ℕ) → length places ≡ 4 → getD places 0 0 ∷ getD places 1 0 ∷ getD places 2 0 ∷ getD places 3 0 ∷ [] ≡ places

@@ -18,14 +18,14 @@ use Rattle.definitions.specs.Prune.{chain, keeps, filter, sumOfKept}
 use Rattle.definitions.specs.Threshold.{Threshold, bits, refusing, given}
 use Rattle.definitions.specs.Settings.{setting, threshold, firstSetting, lastSetting}
 use Rattle.definitions.specs.Machine as M
-use Rattle.definitions.specs.Machine.{Call, Answer, stored, simplified, pruned, refused, Outcome, outcome, Request, State, call, storeCall, storedAs, simplifyCall, walkedAs, pruneChain, pruneAt, pruneCall, prunedAs, allBelow}
+use Rattle.definitions.specs.Machine.{Call, Answer, stored, simplified, pruned, refused, outcome, Request, State, call, storeCall, storedAs, simplifyCall, walkedAs, pruneChain, pruneAt, pruneCall, prunedAs, allBelow}
 use Rattle.definitions.specs.Promise.{Called}
 use Rattle.store.specs.Memory.{Memory, model}
 use Rattle.walk.proofs.Refusing.{FullStore, refused-full}
-use Rattle.pruner.proofs.Halving.{NoPlace, StopsForPlace, sum-stops}
+use Rattle.pruner.proofs.Halving.{StopsForPlace, sum-stops}
 
 -- an answer, or a refusal with a number from 1 on
-abbrev Numbered : Answer → Type 0
+abbrev pub Numbered : Answer → Type 0
 Numbered (stored id) = Unit {0}
 Numbered (simplified id spent steps) = Unit {0}
 Numbered (pruned id kept dropped) = Unit {0}
@@ -138,7 +138,7 @@ setting-numbered n = by (leb firstSetting n && leb n lastSetting)
 
 -- ---- any call
 
-plain-numbered : (l : Lent) (s : State) (c : Call) → Numbered (call l s c .answer)
+pub plain-numbered : (l : Lent) (s : State) (c : Call) → Numbered (call l s c .answer)
 unfolding call
 plain-numbered l s (M.store c) = stores-numbered l (s .nodes) (M.requested c)
 plain-numbered l s (M.simplify i depth budget) = simplifies-numbered l (s .nodes) i depth budget

@@ -1,5 +1,5 @@
 -- A call in numbers: 0 is returned where it is answered, and the answer stands behind pointers; else the refusal's number is returned.
-use Prim.Native.Nat.{ℕ, zero, suc, _<_}
+use Prim.Native.Nat.{ℕ, zero, suc, _≤_, _<_}
 use mathlib.Core.Path.{_≡_}
 use mathlib.Core.Bool.{Bool, true, false}
 use mathlib.Core.List.{List}
@@ -24,9 +24,13 @@ abbrev pub isSpent : ℕ → Bool
 isSpent zero = false
 isSpent (suc n) = true
 
+-- a walk that is answered leaves no other number
+abbrev pub SpentOrNot : ℕ → ℕ → Type 0
+SpentOrNot r spent = r ≡ 0 → spent ≤ 1
+
 -- a refusal leaves the numbers behind the answer's pointers as they were
-abbrev pub Stays : ℕ → List ℕ → List ℕ → Type 0
-Stays r before after = 0 < r → after ≡ before
+abbrev pub OutputsStay : ℕ → List ℕ → List ℕ → Type 0
+OutputsStay r before after = 0 < r → after ≡ before
 
 -- ---- what is left behind pointers of a call's answer
 abbrev pub numberOf : M.Answer → ℕ
@@ -45,3 +49,7 @@ pub record Left (answer : M.Answer) (r : ℕ) (left : M.Answer) (before after : 
   pub number : r ≡ numberOf answer
   pub answered : isRefused answer ≡ false → left ≡ answer
   pub refused : isRefused answer ≡ true → after ≡ before
+
+-- whether a walk was spent is left as 0 or 1
+abbrev pub SpentLeft : M.Answer → ℕ → Type 0
+SpentLeft answer spent = isRefused answer ≡ false → spent ≤ 1

@@ -1,9 +1,9 @@
 -- A name call in numbers, as a store call is.
-use Prim.Native.Nat.{ℕ, zero, suc, _<_}
+use Prim.Native.Nat.{ℕ, zero, suc, _≤_, _<_}
 use mathlib.Core.Path.{_≡_}
 use mathlib.Core.List.{List}
 use lib.ListN.{take}
-use Rattle.definitions.specs.Names.{NameAnswer, numbered, unknown, named, refused}
+use Rattle.definitions.specs.Names.{NameAnswer, numbered, unknown, named, refused, longestName}
 use Rattle.names.specs.Calls.{bytesBeside}
 
 abbrev pub nameUnlessRefused : ℕ → NameAnswer → NameAnswer
@@ -20,6 +20,10 @@ abbrev pub nameIfKnown : ℕ → ℕ → List ℕ → NameAnswer
 nameIfKnown zero size bytes = unknown
 nameIfKnown (suc known) size bytes = named (take size bytes)
 
--- the bytes after a name are 0
+-- `known` is 0 or 1; where it is 0, the numbers behind the other pointers stay
+abbrev pub Known : ℕ → ℕ → List ℕ → List ℕ → Type 0
+Known r known before after = r ≡ 0 → (known ≤ 1) × (known ≡ 0 → after ≡ before)
+
+-- a name has at most 32 bytes, and those after it are 0
 abbrev pub Padded : ℕ → ℕ → ℕ → List ℕ → Type 0
-Padded r known size bytes = r ≡ 0 → 0 < known → bytes ≡ bytesBeside (named (take size bytes))
+Padded r known size bytes = r ≡ 0 → 0 < known → (size ≤ longestName) × (bytes ≡ bytesBeside (named (take size bytes)))

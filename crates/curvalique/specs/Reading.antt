@@ -1,18 +1,13 @@
 -- A node read back as its ten words.
 use Prim.Native.Nat.{ℕ, _≤_, _<_}
 use mathlib.Core.Path.{_≡_}
-use mathlib.Core.List.{List, _∷_}
+use mathlib.Core.List.{List}
 use Rattle.arena.specs.declared.DagArena.{DagArena}
-use Rattle.arena.specs.declared.node.DagNode.{DagNode}
-use Rattle.arena.specs.Node.{nodeAt}
+use Rattle.arena.specs.Node.{nodeAt, wordsOf}
 use Rattle.definitions.specs.Refusals.{notSound, badOperand}
 use Rattle.definitions.specs.Node.{at}
 use Rattle.store.specs.Sound.{Sound}
 use Rattle.store.specs.View.{plainNode, nodesIn}
-
--- "kind, payload, hash, coefficient bits, flags, child count, four child places"
-abbrev pub wordsOf : DagNode → List ℕ
-wordsOf n = n .kind ∷ n .payload ∷ n .hash ∷ n .coefficient ∷ n .flags ∷ n .arity ∷ n .children
 
 -- 20, then 4, then the node: plainly it is the plain machine's. A refusal leaves the words as they were.
 pub record ReadsWords (words slots : List ℕ) (arena : DagArena) (id r : ℕ) (before after : List ℕ) : Type 0 where

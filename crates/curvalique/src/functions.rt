@@ -2,7 +2,7 @@
 ghost use mathlib.Core.List.{[], _∷_};
 ghost use Rattle.definitions.specs.Machine as M;
 ghost use Rattle.store.specs.Memory.{Leaves};
-ghost use Rattle.curvalique.specs.Calls.{lentMemory, unlessRefused, Stays};
+ghost use Rattle.curvalique.specs.Calls.{lentMemory, unlessRefused, OutputsStay};
 use crate::leaving::leave_built;
 use arena::DagArena;
 
@@ -18,7 +18,7 @@ pub extern "C" fn curvalique_function(
     id: &mut u64,
 ) -> u64
     ensures { λ r. ⌜ Leaves (M.store (M.function number (now (operands .entry)))) (lentMemory (now (nodes .entry)) (now (slots .entry)) (now (count .entry)) (now (size .entry))) (unlessRefused r (M.stored (now (id .exit)))) (lentMemory (now (nodes .exit)) (now (slots .exit)) (now (count .exit)) (now (size .exit))) ⌝ }
-    ensures { λ r. ⌜ Stays r (now (id .entry) ∷ []) (now (id .exit) ∷ []) ⌝ }
+    ensures { λ r. ⌜ OutputsStay r (now (id .entry) ∷ []) (now (id .exit) ∷ []) ⌝ }
 {
     let arena = DagArena {
         count: *count,
@@ -41,7 +41,7 @@ pub extern "C" fn curvalique_select(
     id: &mut u64,
 ) -> u64
     ensures { λ r. ⌜ Leaves (M.store (M.select a b c)) (lentMemory (now (nodes .entry)) (now (slots .entry)) (now (count .entry)) (now (size .entry))) (unlessRefused r (M.stored (now (id .exit)))) (lentMemory (now (nodes .exit)) (now (slots .exit)) (now (count .exit)) (now (size .exit))) ⌝ }
-    ensures { λ r. ⌜ Stays r (now (id .entry) ∷ []) (now (id .exit) ∷ []) ⌝ }
+    ensures { λ r. ⌜ OutputsStay r (now (id .entry) ∷ []) (now (id .exit) ∷ []) ⌝ }
 {
     let arena = DagArena {
         count: *count,
@@ -64,7 +64,7 @@ pub extern "C" fn curvalique_if_else(
     id: &mut u64,
 ) -> u64
     ensures { λ r. ⌜ Leaves (M.store (M.ifElse a b c)) (lentMemory (now (nodes .entry)) (now (slots .entry)) (now (count .entry)) (now (size .entry))) (unlessRefused r (M.stored (now (id .exit)))) (lentMemory (now (nodes .exit)) (now (slots .exit)) (now (count .exit)) (now (size .exit))) ⌝ }
-    ensures { λ r. ⌜ Stays r (now (id .entry) ∷ []) (now (id .exit) ∷ []) ⌝ }
+    ensures { λ r. ⌜ OutputsStay r (now (id .entry) ∷ []) (now (id .exit) ∷ []) ⌝ }
 {
     let arena = DagArena {
         count: *count,
@@ -88,7 +88,7 @@ pub extern "C" fn curvalique_for_loop(
     id: &mut u64,
 ) -> u64
     ensures { λ r. ⌜ Leaves (M.store (M.forLoop a b c d)) (lentMemory (now (nodes .entry)) (now (slots .entry)) (now (count .entry)) (now (size .entry))) (unlessRefused r (M.stored (now (id .exit)))) (lentMemory (now (nodes .exit)) (now (slots .exit)) (now (count .exit)) (now (size .exit))) ⌝ }
-    ensures { λ r. ⌜ Stays r (now (id .entry) ∷ []) (now (id .exit) ∷ []) ⌝ }
+    ensures { λ r. ⌜ OutputsStay r (now (id .entry) ∷ []) (now (id .exit) ∷ []) ⌝ }
 {
     let arena = DagArena {
         count: *count,
@@ -110,7 +110,7 @@ pub extern "C" fn curvalique_control(
     id: &mut u64,
 ) -> u64
     ensures { λ r. ⌜ Leaves (M.store (M.control code (now (operands .entry)))) (lentMemory (now (nodes .entry)) (now (slots .entry)) (now (count .entry)) (now (size .entry))) (unlessRefused r (M.stored (now (id .exit)))) (lentMemory (now (nodes .exit)) (now (slots .exit)) (now (count .exit)) (now (size .exit))) ⌝ }
-    ensures { λ r. ⌜ Stays r (now (id .entry) ∷ []) (now (id .exit) ∷ []) ⌝ }
+    ensures { λ r. ⌜ OutputsStay r (now (id .entry) ∷ []) (now (id .exit) ∷ []) ⌝ }
 {
     let arena = DagArena {
         count: *count,

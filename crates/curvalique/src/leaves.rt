@@ -2,7 +2,7 @@
 ghost use mathlib.Core.List.{[], _∷_};
 ghost use Rattle.definitions.specs.Machine as M;
 ghost use Rattle.store.specs.Memory.{Leaves};
-ghost use Rattle.curvalique.specs.Calls.{lentMemory, unlessRefused, Stays};
+ghost use Rattle.curvalique.specs.Calls.{lentMemory, unlessRefused, OutputsStay};
 use crate::leaving::leave_built;
 use arena::DagArena;
 
@@ -17,7 +17,7 @@ pub extern "C" fn curvalique_variable(
     id: &mut u64,
 ) -> u64
     ensures { λ r. ⌜ Leaves (M.store (M.variable symbol)) (lentMemory (now (nodes .entry)) (now (slots .entry)) (now (count .entry)) (now (size .entry))) (unlessRefused r (M.stored (now (id .exit)))) (lentMemory (now (nodes .exit)) (now (slots .exit)) (now (count .exit)) (now (size .exit))) ⌝ }
-    ensures { λ r. ⌜ Stays r (now (id .entry) ∷ []) (now (id .exit) ∷ []) ⌝ }
+    ensures { λ r. ⌜ OutputsStay r (now (id .entry) ∷ []) (now (id .exit) ∷ []) ⌝ }
 {
     let arena = DagArena {
         count: *count,
@@ -38,7 +38,7 @@ pub extern "C" fn curvalique_constant(
     id: &mut u64,
 ) -> u64
     ensures { λ r. ⌜ Leaves (M.store (M.constant bits)) (lentMemory (now (nodes .entry)) (now (slots .entry)) (now (count .entry)) (now (size .entry))) (unlessRefused r (M.stored (now (id .exit)))) (lentMemory (now (nodes .exit)) (now (slots .exit)) (now (count .exit)) (now (size .exit))) ⌝ }
-    ensures { λ r. ⌜ Stays r (now (id .entry) ∷ []) (now (id .exit) ∷ []) ⌝ }
+    ensures { λ r. ⌜ OutputsStay r (now (id .entry) ∷ []) (now (id .exit) ∷ []) ⌝ }
 {
     let arena = DagArena {
         count: *count,

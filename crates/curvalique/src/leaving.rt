@@ -5,7 +5,7 @@ ghost use Rattle.definitions.specs.Machine as M;
 ghost use Rattle.store.specs.Memory.{answerOf};
 ghost use Rattle.walk.specs.Answers as Walk;
 ghost use Rattle.pruner.specs.Answers as Pruner;
-ghost use Rattle.curvalique.specs.Calls.{arenaOf, isSpent, Left};
+ghost use Rattle.curvalique.specs.Calls.{arenaOf, isSpent, Left, SpentLeft};
 use arena::DagArena;
 use store::Built;
 
@@ -48,6 +48,7 @@ pub fn leave_simplified(
 ) -> u64
     ensures { λ _. ⌜ arenaOf (now (count .exit)) (now (size .exit)) ≡ outcome .arena ⌝ }
     ensures { λ r. ⌜ Left (Walk.meaning (outcome .answer)) r (M.simplified (now (id .exit)) (isSpent (now (spent .exit))) (now (steps .exit))) (now (id .entry) ∷ now (spent .entry) ∷ now (steps .entry) ∷ []) (now (id .exit) ∷ now (spent .exit) ∷ now (steps .exit) ∷ []) ⌝ }
+    ensures { λ _. ⌜ SpentLeft (Walk.meaning (outcome .answer)) (now (spent .exit)) ⌝ }
 {
     let arena = outcome.arena;
     leave_arena(arena, count, size);

@@ -2,8 +2,8 @@
 ghost use mathlib.Core.List.{[], _∷_};
 ghost use Rattle.definitions.specs.Names.{internName, lookupName, nameOf, numbered};
 ghost use Rattle.names.specs.Calls.{Called};
-ghost use Rattle.curvalique.specs.Calls.{Stays};
-ghost use Rattle.curvalique.specs.NameCalls.{nameUnlessRefused, numberIfKnown, nameIfKnown, Padded};
+ghost use Rattle.curvalique.specs.Calls.{OutputsStay};
+ghost use Rattle.curvalique.specs.NameCalls.{nameUnlessRefused, numberIfKnown, nameIfKnown, Known, Padded};
 use crate::leaving::ANSWERED;
 use names::Answer;
 
@@ -19,14 +19,14 @@ pub extern "C" fn curvalique_intern_name(
     number: &mut u64,
 ) -> u64
     ensures { λ r. ⌜ Called (now (entries .entry)) (now (count .entry)) (internName (now (name .entry))) (nameUnlessRefused r (numbered (now (number .exit)))) (now (entries .exit)) (now (count .exit)) ⌝ }
-    ensures { λ r. ⌜ Stays r (now (number .entry) ∷ []) (now (number .exit) ∷ []) ⌝ }
+    ensures { λ r. ⌜ OutputsStay r (now (number .entry) ∷ []) (now (number .exit) ∷ []) ⌝ }
 {
     let interned = names::intern(entries, *count, name);
     *count = interned.count;
     let answer = interned.answer;
     match answer {
-        Answer::Numbered(found) => {
-            *number = found as u64;
+        Answer::Numbered(given) => {
+            *number = given as u64;
             ANSWERED
         }
         Answer::Unknown => ANSWERED,
@@ -45,7 +45,8 @@ pub extern "C" fn curvalique_lookup_name(
     number: &mut u64,
 ) -> u64
     ensures { λ r. ⌜ Called (now (entries .entry)) count (lookupName (now (name .entry))) (nameUnlessRefused r (numberIfKnown (now (known .exit)) (now (number .exit)))) (now (entries .entry)) count ⌝ }
-    ensures { λ r. ⌜ Stays r (now (known .entry) ∷ now (number .entry) ∷ []) (now (known .exit) ∷ now (number .exit) ∷ []) ⌝ }
+    ensures { λ r. ⌜ Known r (now (known .exit)) (now (number .entry) ∷ []) (now (number .exit) ∷ []) ⌝ }
+    ensures { λ r. ⌜ OutputsStay r (now (known .entry) ∷ now (number .entry) ∷ []) (now (known .exit) ∷ now (number .exit) ∷ []) ⌝ }
 {
     let answer = names::lookup(entries, count, name);
     match answer {
@@ -74,8 +75,9 @@ pub extern "C" fn curvalique_name(
     bytes: &mut [u8; LONGEST_NAME],
 ) -> u64
     ensures { λ r. ⌜ Called (now (entries .entry)) count (nameOf number) (nameUnlessRefused r (nameIfKnown (now (known .exit)) (now (length .exit)) (now (bytes .exit)))) (now (entries .entry)) count ⌝ }
+    ensures { λ r. ⌜ Known r (now (known .exit)) (now (length .entry) ∷ now (bytes .entry)) (now (length .exit) ∷ now (bytes .exit)) ⌝ }
     ensures { λ r. ⌜ Padded r (now (known .exit)) (now (length .exit)) (now (bytes .exit)) ⌝ }
-    ensures { λ r. ⌜ Stays r (now (known .entry) ∷ now (length .entry) ∷ now (bytes .entry)) (now (known .exit) ∷ now (length .exit) ∷ now (bytes .exit)) ⌝ }
+    ensures { λ r. ⌜ OutputsStay r (now (known .entry) ∷ now (length .entry) ∷ now (bytes .entry)) (now (known .exit) ∷ now (length .exit) ∷ now (bytes .exit)) ⌝ }
 {
     let found = names::name(entries, count, number);
     let answer = found.answer;

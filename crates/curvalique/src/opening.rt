@@ -1,7 +1,7 @@
 // A fresh store.
 ghost use mathlib.Core.List.{[], _∷_};
 ghost use Rattle.builder.specs.Opens.{Opens};
-ghost use Rattle.curvalique.specs.Calls.{Stays};
+ghost use Rattle.curvalique.specs.Calls.{OutputsStay};
 ghost use Rattle.curvalique.specs.Opening.{freshUnlessRefused};
 use crate::leaving::ANSWERED;
 use crate::leaving::leave_arena;
@@ -16,7 +16,7 @@ pub extern "C" fn curvalique_fresh(
     size: &mut usize,
 ) -> u64
     ensures { λ r. ⌜ Opens (now (nodes .entry)) (now (slots .entry)) (freshUnlessRefused r (now (count .exit)) (now (size .exit))) (now (slots .exit)) ⌝ }
-    ensures { λ r. ⌜ Stays r (now (count .entry) ∷ now (size .entry) ∷ []) (now (count .exit) ∷ now (size .exit) ∷ []) ⌝ }
+    ensures { λ r. ⌜ OutputsStay r (now (count .entry) ∷ now (size .entry) ∷ []) (now (count .exit) ∷ now (size .exit) ∷ []) ⌝ }
 {
     let opened = builder::fresh(nodes, slots);
     match opened {

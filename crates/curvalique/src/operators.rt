@@ -2,7 +2,7 @@
 ghost use mathlib.Core.List.{[], _∷_};
 ghost use Rattle.definitions.specs.Machine as M;
 ghost use Rattle.store.specs.Memory.{Leaves};
-ghost use Rattle.curvalique.specs.Calls.{lentMemory, unlessRefused, Stays};
+ghost use Rattle.curvalique.specs.Calls.{lentMemory, unlessRefused, OutputsStay};
 use crate::leaving::leave_built;
 use arena::DagArena;
 
@@ -18,7 +18,7 @@ pub extern "C" fn curvalique_add(
     id: &mut u64,
 ) -> u64
     ensures { λ r. ⌜ Leaves (M.store (M.add a b)) (lentMemory (now (nodes .entry)) (now (slots .entry)) (now (count .entry)) (now (size .entry))) (unlessRefused r (M.stored (now (id .exit)))) (lentMemory (now (nodes .exit)) (now (slots .exit)) (now (count .exit)) (now (size .exit))) ⌝ }
-    ensures { λ r. ⌜ Stays r (now (id .entry) ∷ []) (now (id .exit) ∷ []) ⌝ }
+    ensures { λ r. ⌜ OutputsStay r (now (id .entry) ∷ []) (now (id .exit) ∷ []) ⌝ }
 {
     let arena = DagArena {
         count: *count,
@@ -40,7 +40,7 @@ pub extern "C" fn curvalique_sub(
     id: &mut u64,
 ) -> u64
     ensures { λ r. ⌜ Leaves (M.store (M.sub a b)) (lentMemory (now (nodes .entry)) (now (slots .entry)) (now (count .entry)) (now (size .entry))) (unlessRefused r (M.stored (now (id .exit)))) (lentMemory (now (nodes .exit)) (now (slots .exit)) (now (count .exit)) (now (size .exit))) ⌝ }
-    ensures { λ r. ⌜ Stays r (now (id .entry) ∷ []) (now (id .exit) ∷ []) ⌝ }
+    ensures { λ r. ⌜ OutputsStay r (now (id .entry) ∷ []) (now (id .exit) ∷ []) ⌝ }
 {
     let arena = DagArena {
         count: *count,
@@ -62,7 +62,7 @@ pub extern "C" fn curvalique_mul(
     id: &mut u64,
 ) -> u64
     ensures { λ r. ⌜ Leaves (M.store (M.mul a b)) (lentMemory (now (nodes .entry)) (now (slots .entry)) (now (count .entry)) (now (size .entry))) (unlessRefused r (M.stored (now (id .exit)))) (lentMemory (now (nodes .exit)) (now (slots .exit)) (now (count .exit)) (now (size .exit))) ⌝ }
-    ensures { λ r. ⌜ Stays r (now (id .entry) ∷ []) (now (id .exit) ∷ []) ⌝ }
+    ensures { λ r. ⌜ OutputsStay r (now (id .entry) ∷ []) (now (id .exit) ∷ []) ⌝ }
 {
     let arena = DagArena {
         count: *count,
@@ -84,7 +84,7 @@ pub extern "C" fn curvalique_div(
     id: &mut u64,
 ) -> u64
     ensures { λ r. ⌜ Leaves (M.store (M.div a b)) (lentMemory (now (nodes .entry)) (now (slots .entry)) (now (count .entry)) (now (size .entry))) (unlessRefused r (M.stored (now (id .exit)))) (lentMemory (now (nodes .exit)) (now (slots .exit)) (now (count .exit)) (now (size .exit))) ⌝ }
-    ensures { λ r. ⌜ Stays r (now (id .entry) ∷ []) (now (id .exit) ∷ []) ⌝ }
+    ensures { λ r. ⌜ OutputsStay r (now (id .entry) ∷ []) (now (id .exit) ∷ []) ⌝ }
 {
     let arena = DagArena {
         count: *count,
@@ -106,7 +106,7 @@ pub extern "C" fn curvalique_pow(
     id: &mut u64,
 ) -> u64
     ensures { λ r. ⌜ Leaves (M.store (M.pow a b)) (lentMemory (now (nodes .entry)) (now (slots .entry)) (now (count .entry)) (now (size .entry))) (unlessRefused r (M.stored (now (id .exit)))) (lentMemory (now (nodes .exit)) (now (slots .exit)) (now (count .exit)) (now (size .exit))) ⌝ }
-    ensures { λ r. ⌜ Stays r (now (id .entry) ∷ []) (now (id .exit) ∷ []) ⌝ }
+    ensures { λ r. ⌜ OutputsStay r (now (id .entry) ∷ []) (now (id .exit) ∷ []) ⌝ }
 {
     let arena = DagArena {
         count: *count,
@@ -128,7 +128,7 @@ pub extern "C" fn curvalique_modulo(
     id: &mut u64,
 ) -> u64
     ensures { λ r. ⌜ Leaves (M.store (M.modulo a b)) (lentMemory (now (nodes .entry)) (now (slots .entry)) (now (count .entry)) (now (size .entry))) (unlessRefused r (M.stored (now (id .exit)))) (lentMemory (now (nodes .exit)) (now (slots .exit)) (now (count .exit)) (now (size .exit))) ⌝ }
-    ensures { λ r. ⌜ Stays r (now (id .entry) ∷ []) (now (id .exit) ∷ []) ⌝ }
+    ensures { λ r. ⌜ OutputsStay r (now (id .entry) ∷ []) (now (id .exit) ∷ []) ⌝ }
 {
     let arena = DagArena {
         count: *count,
@@ -149,7 +149,7 @@ pub extern "C" fn curvalique_neg(
     id: &mut u64,
 ) -> u64
     ensures { λ r. ⌜ Leaves (M.store (M.neg a)) (lentMemory (now (nodes .entry)) (now (slots .entry)) (now (count .entry)) (now (size .entry))) (unlessRefused r (M.stored (now (id .exit)))) (lentMemory (now (nodes .exit)) (now (slots .exit)) (now (count .exit)) (now (size .exit))) ⌝ }
-    ensures { λ r. ⌜ Stays r (now (id .entry) ∷ []) (now (id .exit) ∷ []) ⌝ }
+    ensures { λ r. ⌜ OutputsStay r (now (id .entry) ∷ []) (now (id .exit) ∷ []) ⌝ }
 {
     let arena = DagArena {
         count: *count,
@@ -172,7 +172,7 @@ pub extern "C" fn curvalique_operator(
     id: &mut u64,
 ) -> u64
     ensures { λ r. ⌜ Leaves (M.store (M.operator code flags (now (operands .entry)))) (lentMemory (now (nodes .entry)) (now (slots .entry)) (now (count .entry)) (now (size .entry))) (unlessRefused r (M.stored (now (id .exit)))) (lentMemory (now (nodes .exit)) (now (slots .exit)) (now (count .exit)) (now (size .exit))) ⌝ }
-    ensures { λ r. ⌜ Stays r (now (id .entry) ∷ []) (now (id .exit) ∷ []) ⌝ }
+    ensures { λ r. ⌜ OutputsStay r (now (id .entry) ∷ []) (now (id .exit) ∷ []) ⌝ }
 {
     let arena = DagArena {
         count: *count,

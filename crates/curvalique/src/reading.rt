@@ -1,7 +1,8 @@
 // A node read back.
 ghost use mathlib.Core.Path.{_≡_};
+ghost use Rattle.arena.specs.Node.{wordsOf};
 ghost use Rattle.curvalique.specs.Calls.{arenaOf};
-ghost use Rattle.curvalique.specs.Reading.{wordsOf, ReadsWords};
+ghost use Rattle.curvalique.specs.Reading.{ReadsWords};
 use crate::leaving::ANSWERED;
 use arena::DagArena;
 use arena::DagNode;

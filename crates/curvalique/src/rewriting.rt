@@ -2,7 +2,7 @@
 ghost use mathlib.Core.List.{[], _∷_};
 ghost use Rattle.definitions.specs.Machine as M;
 ghost use Rattle.store.specs.Memory.{Leaves};
-ghost use Rattle.curvalique.specs.Calls.{lentMemory, unlessRefused, isSpent, Stays};
+ghost use Rattle.curvalique.specs.Calls.{lentMemory, unlessRefused, isSpent, OutputsStay, SpentOrNot};
 use crate::leaving::leave_pruned;
 use crate::leaving::leave_simplified;
 use arena::DagArena;
@@ -22,7 +22,8 @@ pub extern "C" fn curvalique_simplify(
     steps: &mut u64,
 ) -> u64
     ensures { λ r. ⌜ Leaves (M.simplify root depth budget) (lentMemory (now (nodes .entry)) (now (slots .entry)) (now (count .entry)) (now (size .entry))) (unlessRefused r (M.simplified (now (id .exit)) (isSpent (now (spent .exit))) (now (steps .exit)))) (lentMemory (now (nodes .exit)) (now (slots .exit)) (now (count .exit)) (now (size .exit))) ⌝ }
-    ensures { λ r. ⌜ Stays r (now (id .entry) ∷ now (spent .entry) ∷ now (steps .entry) ∷ []) (now (id .exit) ∷ now (spent .exit) ∷ now (steps .exit) ∷ []) ⌝ }
+    ensures { λ r. ⌜ OutputsStay r (now (id .entry) ∷ now (spent .entry) ∷ now (steps .entry) ∷ []) (now (id .exit) ∷ now (spent .exit) ∷ now (steps .exit) ∷ []) ⌝ }
+    ensures { λ r. ⌜ SpentOrNot r (now (spent .exit)) ⌝ }
 {
     let arena = DagArena {
         count: *count,
@@ -46,7 +47,7 @@ pub extern "C" fn curvalique_prune(
     dropped: &mut u64,
 ) -> u64
     ensures { λ r. ⌜ Leaves (M.prune root threshold) (lentMemory (now (nodes .entry)) (now (slots .entry)) (now (count .entry)) (now (size .entry))) (unlessRefused r (M.pruned (now (id .exit)) (now (kept .exit)) (now (dropped .exit)))) (lentMemory (now (nodes .exit)) (now (slots .exit)) (now (count .exit)) (now (size .exit))) ⌝ }
-    ensures { λ r. ⌜ Stays r (now (id .entry) ∷ now (kept .entry) ∷ now (dropped .entry) ∷ []) (now (id .exit) ∷ now (kept .exit) ∷ now (dropped .exit) ∷ []) ⌝ }
+    ensures { λ r. ⌜ OutputsStay r (now (id .entry) ∷ now (kept .entry) ∷ now (dropped .entry) ∷ []) (now (id .exit) ∷ now (kept .exit) ∷ now (dropped .exit) ∷ []) ⌝ }
 {
     let arena = DagArena {
         count: *count,
@@ -70,7 +71,7 @@ pub extern "C" fn curvalique_prune_by_setting(
     dropped: &mut u64,
 ) -> u64
     ensures { λ r. ⌜ Leaves (M.pruneBySetting root setting) (lentMemory (now (nodes .entry)) (now (slots .entry)) (now (count .entry)) (now (size .entry))) (unlessRefused r (M.pruned (now (id .exit)) (now (kept .exit)) (now (dropped .exit)))) (lentMemory (now (nodes .exit)) (now (slots .exit)) (now (count .exit)) (now (size .exit))) ⌝ }
-    ensures { λ r. ⌜ Stays r (now (id .entry) ∷ now (kept .entry) ∷ now (dropped .entry) ∷ []) (now (id .exit) ∷ now (kept .exit) ∷ now (dropped .exit) ∷ []) ⌝ }
+    ensures { λ r. ⌜ OutputsStay r (now (id .entry) ∷ now (kept .entry) ∷ now (dropped .entry) ∷ []) (now (id .exit) ∷ now (kept .exit) ∷ now (dropped .exit) ∷ []) ⌝ }
 {
     let arena = DagArena {
         count: *count,

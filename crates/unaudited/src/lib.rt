@@ -10,7 +10,7 @@ ghost use Rattle.definitions.specs.Machine as M;
 ghost use Rattle.store.specs.Sound.{Sound};
 ghost use Rattle.store.specs.Memory.{Leaves};
 ghost use Rattle.builder.specs.Stores.{Asked};
-ghost use Rattle.curvalique.specs.Calls.{arenaOf, lentMemory, unlessRefused, isSpent, Stays};
+ghost use Rattle.curvalique.specs.Calls.{arenaOf, lentMemory, unlessRefused, isSpent, OutputsStay};
 ghost use Rattle.unaudited.specs.Building.{BuildsNode};
 use arena::DagArena;
 use curvalique::leaving::leave_built;
@@ -73,7 +73,7 @@ pub extern "C" fn curvalique_simplify_sound(
 ) -> u64
     requires { ⌜ Sound (now nodes) (now slots) (arenaOf (now count) (now size)) ⌝ }
     ensures { λ r. ⌜ Leaves (M.simplify root depth budget) (lentMemory (now (nodes .entry)) (now (slots .entry)) (now (count .entry)) (now (size .entry))) (unlessRefused r (M.simplified (now (id .exit)) (isSpent (now (spent .exit))) (now (steps .exit)))) (lentMemory (now (nodes .exit)) (now (slots .exit)) (now (count .exit)) (now (size .exit))) ⌝ }
-    ensures { λ r. ⌜ Stays r (now (id .entry) ∷ now (spent .entry) ∷ now (steps .entry) ∷ []) (now (id .exit) ∷ now (spent .exit) ∷ now (steps .exit) ∷ []) ⌝ }
+    ensures { λ r. ⌜ OutputsStay r (now (id .entry) ∷ now (spent .entry) ∷ now (steps .entry) ∷ []) (now (id .exit) ∷ now (spent .exit) ∷ now (steps .exit) ∷ []) ⌝ }
 {
     let arena = DagArena {
         count: *count,
@@ -98,7 +98,7 @@ pub extern "C" fn curvalique_prune_sound(
 ) -> u64
     requires { ⌜ Sound (now nodes) (now slots) (arenaOf (now count) (now size)) ⌝ }
     ensures { λ r. ⌜ Leaves (M.prune root threshold) (lentMemory (now (nodes .entry)) (now (slots .entry)) (now (count .entry)) (now (size .entry))) (unlessRefused r (M.pruned (now (id .exit)) (now (kept .exit)) (now (dropped .exit)))) (lentMemory (now (nodes .exit)) (now (slots .exit)) (now (count .exit)) (now (size .exit))) ⌝ }
-    ensures { λ r. ⌜ Stays r (now (id .entry) ∷ now (kept .entry) ∷ now (dropped .entry) ∷ []) (now (id .exit) ∷ now (kept .exit) ∷ now (dropped .exit) ∷ []) ⌝ }
+    ensures { λ r. ⌜ OutputsStay r (now (id .entry) ∷ now (kept .entry) ∷ now (dropped .entry) ∷ []) (now (id .exit) ∷ now (kept .exit) ∷ now (dropped .exit) ∷ []) ⌝ }
 {
     let arena = DagArena {
         count: *count,

@@ -16,7 +16,7 @@ same-length-2 : tie.Need-same-length-2
 same-length-2 c = search needs
 
 returns : tie.Need-returns
-returns c = in-numbers _ _ _ _ _ _ _ _ _ _ _ _ (c .before .before .before .before .before .before .before .before .before .before .simplify-sound .ensures) (c .leave-simplified .ensures .0) (c .leave-simplified .ensures .1)
+returns c = in-numbers _ _ _ _ _ _ _ _ _ _ _ _ (c .before .before .before .before .before .before .before .before .before .before .simplify-sound .ensures) (c .leave-simplified .ensures .0) (c .leave-simplified .ensures .1 .0)
 
 pub curvalique-simplify-sound-spec : {M : Type 1} → statement M
 curvalique-simplify-sound-spec = tie.close (tie.spec simplify-sound-requires leave-simplified-requires same-length same-length-2 returns)

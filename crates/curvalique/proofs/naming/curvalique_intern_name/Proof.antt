@@ -1,4 +1,4 @@
-use mathlib.Core.Path.{refl, ap, sym, _∙_}
+use mathlib.Core.Path.{ap, _∙_}
 use mathlib.Core.List.{[]}
 use Rattle.names.specs.Calls.{answerOf}
 use Rattle.curvalique.proofs.NameAnswering.{intern-fits, internAnswer, name-answered, name-refused}

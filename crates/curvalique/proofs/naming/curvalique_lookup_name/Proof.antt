@@ -1,7 +1,7 @@
-use mathlib.Core.Path.{refl, ap, sym, _∙_}
+use mathlib.Core.Path.{ap}
 use mathlib.Core.List.{[]}
 use Rattle.names.specs.Calls.{answerOf}
-use Rattle.curvalique.proofs.NameAnswering.{lookup-fits, lookupAnswer, name-answered, name-refused}
+use Rattle.curvalique.proofs.NameAnswering.{never-named, lookup-known, lookup-unknown, lookup-refused}
 use borrow.Author.Needs.{needs}
 use Rattle.curvalique.proofs.naming.curvalique_lookup_name.Statement.{statement}
 use Rattle.curvalique.proofs.naming.curvalique_lookup_name.Tie as tie
@@ -25,16 +25,18 @@ enum-known-answer-2 : tie.Need-enum-known-answer-2
 enum-known-answer-2 c = search needs
 
 returns : tie.Need-returns
-returns c = name-answered _ _ _ _ _ _ _ _ _ (c .before .before .before .lookup .ensures) (ap (λ a. answerOf a []) (c .before .answer .given .1))
+returns c = lookup-known _ _ _ _ (c .before .before .before .lookup .ensures) _ _ _ _ _ (ap (λ a. answerOf a []) (c .before .answer .given .1))
 
 returns-2 : tie.Need-returns-2
-returns-2 c = name-answered _ _ _ _ _ _ _ _ _ (c .before .before .lookup .ensures) (ap (λ a. answerOf a []) (c .enum-told .given .1))
+returns-2 c = lookup-unknown _ _ _ _ (c .before .before .lookup .ensures) (c .before .before .before .before .before .args .number .now) _ _ _ (ap (λ a. answerOf a []) (c .enum-told .given .1))
 
 returns-3 : tie.Need-returns-3
-returns-3 c = absurd (lookup-fits _ _ _ _ _ _ (c .before .before .lookup .ensures) (ap (λ a. lookupAnswer (answerOf a [])) (c .enum-told2 .given .1)))
+returns-3 c = absurd (never-named _ _ _ _ (c .before .before .lookup .ensures) _ (ap (λ a. answerOf a []) (c .enum-told2 .given .1)))
 
 returns-4 : tie.Need-returns-4
-returns-4 c = name-refused _ _ _ _ _ _ _ _ _ (c .before .before .before .lookup .ensures) (ap (λ a. answerOf a []) (c .before .answer2 .given .1)) (λ z. lookup-fits _ _ _ _ _ _ (c .before .before .before .lookup .ensures) (ap (λ a. lookupAnswer (answerOf a [])) (c .before .answer2 .given .1) ∙ ap (λ n. lookupAnswer (Rattle.definitions.specs.Names.refused n)) z))
+returns-4 c =
+    let args = c .before .before .before .before .before .before .args in
+    lookup-refused _ _ _ _ (c .before .before .before .lookup .ensures) _ (args .known .now) (args .number .now) _ _ _ (ap (λ a. answerOf a []) (c .before .answer2 .given .1))
 
 pub curvalique-lookup-name-spec : {M : Type 1} → statement M
 curvalique-lookup-name-spec =

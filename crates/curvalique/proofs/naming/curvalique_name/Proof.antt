@@ -22,13 +22,15 @@ returns : tie.Need-returns
 returns c = absurd (never-numbered _ _ _ _ (c .before .before .name .ensures) _ (c .enum-told .given .1))
 
 returns-2 : tie.Need-returns-2
-returns-2 c = name-unknown _ _ _ _ (c .before .before .name .ensures) (c .before .before .before .before .args .length .now) _ _ _ (c .enum-told2 .given .1)
+returns-2 c = name-unknown _ _ _ _ (c .before .before .name .ensures) (c .before .before .before .before .args .length .now) _ _ _ _ (c .enum-told2 .given .1)
 
 returns-3 : tie.Need-returns-3
-returns-3 c = name-known _ _ _ _ (c .before .before .before .before .name .ensures) _ _ _ (c .before .before .answer .given .1)
+returns-3 c = name-known _ _ _ _ (c .before .before .before .before .name .ensures) _ _ _ _ _ (c .before .before .answer .given .1)
 
 returns-4 : tie.Need-returns-4
-returns-4 c = name-not-given _ _ _ _ (c .before .before .before .name .ensures) _ _ (c .before .before .before .before .before .args .length .now) _ _ (c .before .answer2 .given .1)
+returns-4 c =
+    let args = c .before .before .before .before .before .args in
+    name-not-given _ _ _ _ (c .before .before .before .name .ensures) _ (args .known .now) (args .length .now) _ _ _ _ (c .before .answer2 .given .1)
 
 pub curvalique-name-spec : {M : Type 1} → statement M
 curvalique-name-spec =

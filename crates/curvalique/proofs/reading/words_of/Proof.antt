@@ -2,6 +2,7 @@ use mathlib.Core.Path.{_≡_, ap}
 use mathlib.Core.List.{List, _∷_}
 use Prim.Native.Nat.{ℕ}
 use lib.ListN.{length}
+use Rattle.arena.specs.Node.{wordsOf}
 use Rattle.curvalique.proofs.ReadWords.{four-places}
 use borrow.Author.Needs.{needs}
 use Rattle.curvalique.proofs.reading.words_of.Statement.{statement}
@@ -20,6 +21,7 @@ array-read-t14 : tie.Need-array-read-t14
 array-read-t14 c = search needs
 
 returns : tie.Need-returns
+unfolding wordsOf
 returns c =
     let node = c .before .args .node in
     let long : length (node .children) ≡ 4 = search needs in

@@ -1,4 +1,4 @@
-use Rattle.curvalique.proofs.Answering.{in-numbers}
+use Rattle.curvalique.proofs.Answering.{simplify-in-numbers}
 use borrow.Author.Needs.{needs}
 use Rattle.curvalique.proofs.rewriting.curvalique_simplify.Statement.{statement}
 use Rattle.curvalique.proofs.rewriting.curvalique_simplify.Tie as tie
@@ -16,7 +16,7 @@ same-length-2 : tie.Need-same-length-2
 same-length-2 c = search needs
 
 returns : tie.Need-returns
-returns c = in-numbers _ _ _ _ _ _ _ _ _ _ _ _ (c .before .before .before .before .before .before .before .before .before .before .simplify .ensures) (c .leave-simplified .ensures .0) (c .leave-simplified .ensures .1)
+returns c = simplify-in-numbers _ _ _ _ _ _ _ _ _ _ _ _ _ (c .before .before .before .before .before .before .before .before .before .before .simplify .ensures) (c .leave-simplified .ensures .0) (c .leave-simplified .ensures .1 .0) (c .leave-simplified .ensures .1 .1)
 
 pub curvalique-simplify-spec : {M : Type 1} → statement M
 curvalique-simplify-spec =

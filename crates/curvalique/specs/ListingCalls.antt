@@ -1,0 +1,49 @@
+-- A listing in bytes and numbers.
+use Prim.Native.Nat.{ℕ}
+use mathlib.Core.Bool.{cond}
+use mathlib.Core.List.{List, [], _∷_, _++_}
+use lib.Dec.{eqb}
+use Rattle.listing_lines.specs.declared.Outcome.{Outcome}
+use Rattle.listing_lines.specs.declared.Outcome.the-variants.{Ok, Empty, Spent, Refused}
+use Rattle.listing_bytes.specs.declared.Listing.{Listing}
+use Rattle.listing_reader.specs.declared.Answer.{Answer}
+use Rattle.listing_reader.specs.declared.Answer.the-variants.{Read, Refused as RefusedLine, Full}
+use Rattle.curvalique.specs.Forms.{okForm, emptyForm, spentForm, refusedForm}
+
+-- a listing in an array, and its length behind a pointer
+abbrev pub listingOf : List ℕ → ℕ → Listing
+listingOf bytes size = record { bytes = bytes; length = size }
+
+-- ---- the first line
+
+-- the first line that a form, an id, a number and a record say
+abbrev pub firstLineOutcome : ℕ → ℕ → ℕ → ℕ → Outcome
+firstLineOutcome form id number at =
+    cond (eqb form okForm) (Ok id) (cond (eqb form emptyForm) Empty (cond (eqb form spentForm) (Spent id) (Refused number at)))
+
+-- the form, id, number and record that a first line leaves; what it does not speak of stays
+abbrev pub firstLineOutputs : Outcome → ℕ → ℕ → ℕ → List ℕ
+firstLineOutputs (Ok answered) id number at = okForm ∷ answered ∷ number ∷ at ∷ []
+firstLineOutputs Empty id number at = emptyForm ∷ id ∷ number ∷ at ∷ []
+firstLineOutputs (Spent root) id number at = spentForm ∷ root ∷ number ∷ at ∷ []
+firstLineOutputs (Refused refusal refusedAt) id number at = refusedForm ∷ id ∷ refusal ∷ refusedAt ∷ []
+
+-- ---- a listing read back
+
+-- what is returned where a line is wrong, and where the lent words are too few
+abbrev pub wrongLine : ℕ
+wrongLine = 1
+
+abbrev pub tooFewWords : ℕ
+tooFewWords = 2
+
+-- the answer that the number returned and the numbers behind pointers say
+abbrev pub readAnswer : ℕ → ℕ → ℕ → ℕ → ℕ → ℕ → ℕ → Answer
+readAnswer r count form id number at line =
+    cond (eqb r 0) (Read (firstLineOutcome form id number at) count) (cond (eqb r wrongLine) (RefusedLine line) Full)
+
+-- the number returned and the count, form, id, number, record and line that an answer leaves; what it does not speak of stays
+abbrev pub readOutputs : Answer → ℕ → ℕ → ℕ → ℕ → ℕ → ℕ → List ℕ
+readOutputs (Read o held) count form id number at line = 0 ∷ held ∷ (firstLineOutputs o id number at ++ line ∷ [])
+readOutputs (RefusedLine wrong) count form id number at line = wrongLine ∷ count ∷ form ∷ id ∷ number ∷ at ∷ wrong ∷ []
+readOutputs Full count form id number at line = tooFewWords ∷ count ∷ form ∷ id ∷ number ∷ at ∷ line ∷ []

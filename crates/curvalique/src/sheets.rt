@@ -1,0 +1,87 @@
+// A sheet on a store.
+ghost use mathlib.Core.Path.{_≡_};
+ghost use mathlib.Core.List.{[], _∷_};
+ghost use Rattle.sheet.specs.Sheets.{Runs, RunsFresh};
+ghost use Rattle.curvalique.specs.Calls.{lentMemory};
+ghost use Rattle.curvalique.specs.SheetCalls.{sheetOutcome, sheetOutputs, sheetRan};
+use crate::forms::EMPTY;
+use crate::forms::OK;
+use crate::forms::SPENT;
+use crate::leaving::ANSWERED;
+use crate::leaving::leave_arena;
+use arena::DagArena;
+use listing_lines::Outcome;
+
+// The outcome of a sheet: its form and id where every record was answered, else the record refused.
+fn leave_outcome(outcome: Outcome, form: &mut u64, id: &mut u64, record: &mut u64) -> u64
+    ensures { λ r. ⌜ r ∷ now (form .exit) ∷ now (id .exit) ∷ now («record» .exit) ∷ [] ≡ sheetOutputs outcome (now (form .entry)) (now (id .entry)) (now («record» .entry)) ⌝ }
+{
+    match outcome {
+        Outcome::Ok(answered) => {
+            *form = OK;
+            *id = answered;
+            ANSWERED
+        }
+        Outcome::Empty => {
+            *form = EMPTY;
+            ANSWERED
+        }
+        Outcome::Spent(root) => {
+            *form = SPENT;
+            *id = root;
+            ANSWERED
+        }
+        Outcome::Refused { number, at } => {
+            *record = at;
+            number
+        }
+    }
+}
+
+// A sheet on any store.
+#[no_mangle]
+pub extern "C" fn curvalique_run_sheet(
+    sheet: &[u8],
+    nodes: &mut [u64],
+    slots: &mut [u32],
+    count: &mut u64,
+    size: &mut usize,
+    form: &mut u64,
+    id: &mut u64,
+    record: &mut u64,
+) -> u64
+    ensures { λ r. ⌜ Runs (now (sheet .entry)) (lentMemory (now (nodes .entry)) (now (slots .entry)) (now (count .entry)) (now (size .entry))) (sheetOutcome r (now (form .exit)) (now (id .exit)) (now («record» .exit))) (lentMemory (now (nodes .exit)) (now (slots .exit)) (now (count .exit)) (now (size .exit))) ⌝ }
+    ensures { λ r. ⌜ r ∷ now (form .exit) ∷ now (id .exit) ∷ now («record» .exit) ∷ [] ≡ sheetOutputs (sheetOutcome r (now (form .exit)) (now (id .exit)) (now («record» .exit))) (now (form .entry)) (now (id .entry)) (now («record» .entry)) ⌝ }
+{
+    let arena = DagArena {
+        count: *count,
+        size: *size,
+    };
+    let ran = sheet::run(sheet, nodes, slots, arena);
+    let after = ran.arena;
+    leave_arena(after, count, size);
+    let outcome = ran.outcome;
+    leave_outcome(outcome, form, id, record)
+}
+
+// A sheet on a fresh store in the lent words and slots.
+#[no_mangle]
+pub extern "C" fn curvalique_run_sheet_fresh(
+    sheet: &[u8],
+    nodes: &mut [u64],
+    slots: &mut [u32],
+    count: &mut u64,
+    size: &mut usize,
+    form: &mut u64,
+    id: &mut u64,
+    record: &mut u64,
+) -> u64
+    ensures { λ r. ⌜ RunsFresh (now (sheet .entry)) (now (nodes .entry)) (now (slots .entry)) (sheetRan (sheetOutcome r (now (form .exit)) (now (id .exit)) (now («record» .exit))) (now (count .exit)) (now (size .exit))) (now (nodes .exit)) (now (slots .exit)) ⌝ }
+    ensures { λ r. ⌜ r ∷ now (form .exit) ∷ now (id .exit) ∷ now («record» .exit) ∷ [] ≡ sheetOutputs (sheetOutcome r (now (form .exit)) (now (id .exit)) (now («record» .exit))) (now (form .entry)) (now (id .entry)) (now («record» .entry)) ⌝ }
+{
+    let ran = sheet::run_fresh(sheet, nodes, slots);
+    let after = ran.arena;
+    leave_arena(after, count, size);
+    let outcome = ran.outcome;
+    leave_outcome(outcome, form, id, record)
+}
