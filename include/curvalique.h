@@ -13,8 +13,9 @@
  * the table; calls read and write both. An id is a node's number, from 0. Up to
  * 65,536 nodes are used, and 131,072 slots are enough for them. A store may be
  * copied or kept on disk as it is: every call looks it over first, in time that
- * grows with its nodes. Words past the last whole node are unused and stay. Ids
- * are answered in 64 bits and taken in 32; they are below 65,536.
+ * grows with its nodes and its table. Words past the last whole node are unused
+ * and stay. Ids are answered in 64 bits and taken in 32; those that calls and
+ * sheets answer are below 65,536.
  *
  * A CALL RETURNS 0 if it is answered, and its answer then stands behind the
  * pointers at the end of its list of arguments. Else it returns the number of a
@@ -25,17 +26,22 @@
  * stays is said there.
  *
  * OF A CALLER nothing is asked but C's own rules: a list is a pointer to as many
- * elements as its length says, aligned for their type, all of which may be read
- * and, where the pointer is not to const, written; no two lists or pointers of
- * one call overlap, unless both are to const; and nothing else writes them
- * during the call. A list of length 0 may have any pointer, also a null one;
+ * elements as its length says, aligned for their type (8 bytes for uint64_t and
+ * size_t, 4 for uint32_t), all of which may be read and, where the pointer is
+ * not to const, written; no two lists or pointers of one call overlap, unless
+ * both are to const; and nothing else writes them during the call. A list of
+ * length 0 may have any pointer, also a null one;
  * `count`, `size` and the pointers to answers are never null and are aligned,
- * and an array is as long as its declaration says. No content is asked for:
+ * and an array is as long as its declaration says. The floating-point
+ * environment is C's default: rounding to nearest, subnormal numbers kept; in
+ * another one a simplify folds constants otherwise. No content is asked for:
  * damaged lists and counts are refused, with 20. No function keeps a pointer,
  * allocates, or touches other memory, but for its stack: as compiled now, the
  * listing of a sheet takes about 290 KB of it, a sheet 43 KB, a prune 35 KB, a
- * name call 17 KB, a simplify 13 KB and any other call under 1 KB. (What a stack
- * takes is not among the things that are proved.)
+ * name call 17 KB, a simplify 13 KB and any other call under 1 KB.
+ *
+ * NOT PROVED, but read or measured: time, stack, how often a store is looked
+ * over, and what the compiled code needs of C's library and its calls.
  */
 #ifndef CURVALIQUE_H
 #define CURVALIQUE_H
@@ -64,7 +70,8 @@ extern "C" {
 #define CURVALIQUE_FORM_SPENT 2    /* "spent" and the id: the last record's budget was used up */
 #define CURVALIQUE_FORM_REFUSED 3  /* "refused", a refusal's number, "at" and its record */
 
-/* What curvalique_read_listing returns of bytes that it does not read. */
+/* What curvalique_read_listing returns of bytes that it does not read: numbers
+ * of its own, not refusals of 01. */
 #define CURVALIQUE_WRONG_LINE 1
 #define CURVALIQUE_TOO_FEW_WORDS 2
 
@@ -382,11 +389,12 @@ void curvalique_list_sheet(
  * `count` is then the number of nodes and `form` that of the first line; with
  * CURVALIQUE_FORM_OK or CURVALIQUE_FORM_SPENT `id` is the line's id, with
  * CURVALIQUE_FORM_REFUSED `number` and `record` are the line's; what it does not
- * have, and `line`, stay as they were. That no two nodes are one and that the id
- * is below the count is not asked. Else reading ends at the first line that is
- * wrong or whose node has no place, and all these stay. Refusals:
- * CURVALIQUE_WRONG_LINE if the line is not as 01 has it or comes after 65,536
- * nodes; `line` is its number, from 1, and the nodes before it are written.
+ * have, and `line`, stay as they were. It is not asked that no two nodes are one,
+ * nor of the first line that the id is below the count or that a refusal's number
+ * and record are such as 01 has: only that its numbers are words of 64 bits. Else
+ * reading ends at the first line that is wrong or whose node has no place, and
+ * all these stay. Refusals: CURVALIQUE_WRONG_LINE if the line is not as 01 has
+ * it (but for what is not asked) or comes after 65,536 nodes; `line` is its number, from 1, and the nodes before it are written.
  * CURVALIQUE_TOO_FEW_WORDS if the node has no place in the lent words; as many
  * nodes as have place are written, and `line` stays. Words past the written
  * nodes stay.

@@ -34,7 +34,7 @@ abbrev RanNumbered : Sheet.Ran → Type 0
 RanNumbered ran = RefusalNumbered (ran .refusal)
 
 -- after a call
-called-numbered : (al : List M.Answer) (st : M.State) (a : M.Answer) (more : Sheet.Ran) → Numbered a → RanNumbered more → RanNumbered (elim (Sheet.isRefused a) [ none ↦ more | some r ↦ Sheet.ran al (some (r, length al)) st ])
+called-numbered : (al : List M.Answer) (st : M.State) (a : M.Answer) (more : Sheet.Ran) → Numbered a → RanNumbered more → RanNumbered (elim (Sheet.refusalOf a) [ none ↦ more | some r ↦ Sheet.ran al (some (r, length al)) st ])
 called-numbered al st (M.stored id) more n h = h
 called-numbered al st (M.simplified id spent steps) more n h = h
 called-numbered al st (M.pruned id kept dropped) more n h = h
@@ -52,7 +52,7 @@ records-numbered (suc more) l al st (b ∷ bs) = by (Sheet.recordCall (Sheet.cut
           | none ↦ Sheet.ran al (some (badRecord, length al)) st
           | some cr ↦
               let a = M.call l st (Sheet.callOn (Sheet.operandId (length (st .nodes)) al) (cr .0)) in
-              elim (Sheet.isRefused (a .answer)) [ none ↦ Sheet.records more l (al ++ a .answer ∷ []) (a .left) (cr .1) | some r ↦ Sheet.ran al (some (r, length al)) (a .left) ]
+              elim (Sheet.refusalOf (a .answer)) [ none ↦ Sheet.records more l (al ++ a .answer ∷ []) (a .left) (cr .1) | some r ↦ Sheet.ran al (some (r, length al)) (a .left) ]
         ])
     by none h = λ z. omega arith
     by (some cr) h =

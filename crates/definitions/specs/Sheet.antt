@@ -141,11 +141,11 @@ abbrev pub recordCall : Option (List ℕ × List ℕ) → Option (Call × List �
 recordCall none = none
 recordCall (some br) = elim (body (br .0)) [ none ↦ none | some c ↦ some (c, br .1) ]
 
-abbrev pub isRefused : Answer → Option ℕ
-isRefused (stored i) = none
-isRefused (simplified i spent steps) = none
-isRefused (pruned i kept dropped) = none
-isRefused (refused r) = some r
+abbrev pub refusalOf : Answer → Option ℕ
+refusalOf (stored i) = none
+refusalOf (simplified i spent steps) = none
+refusalOf (pruned i kept dropped) = none
+refusalOf (refused r) = some r
 
 -- The records from a byte on, after those that gave `al`; at most `more` of them. Per record 3, 2, then the call's own refusals.
 unfoldable pub records : ℕ → Lent → List Answer → State → List ℕ → Ran
@@ -158,7 +158,7 @@ records (suc more) l al s (b ∷ bs) =
       | none ↦ ran al (some (badRecord, length al)) s
       | some cr ↦
           let a = call l s (callOn (operandId (length (s .nodes)) al) (cr .0)) in
-          elim (isRefused (a .answer)) [
+          elim (refusalOf (a .answer)) [
             | none ↦ records more l (al ++ a .answer ∷ []) (a .left) (cr .1)
             | some r ↦ ran al (some (r, length al)) (a .left)
           ]

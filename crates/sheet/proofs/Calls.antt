@@ -45,6 +45,7 @@ kept-stays m m′ k = record {
   words-past = k .words-past;
   slots-past = k .slots-past;
   slots-same = k .slots-same;
+  slots-used = k .slots-used;
 }
 
 module _ (m : Memory) (h : model .Sound m) where

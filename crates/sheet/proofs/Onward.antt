@@ -48,7 +48,7 @@ records-full l al st (b ∷ bs) h = refl
 -- after a call
 abbrev afterCall : ℕ → Lent → List M.Answer → List ℕ → M.After → Sheet.Ran
 afterCall more l al rest a =
-    elim (Sheet.isRefused (a .answer)) [ none ↦ Sheet.records more l (al ++ a .answer ∷ []) (a .left) rest | some r ↦ Sheet.ran al (some (r, length al)) (a .left) ]
+    elim (Sheet.refusalOf (a .answer)) [ none ↦ Sheet.records more l (al ++ a .answer ∷ []) (a .left) rest | some r ↦ Sheet.ran al (some (r, length al)) (a .left) ]
 
 -- after a record was read
 abbrev afterRecord : ℕ → Lent → List M.Answer → M.State → Option (M.Call × List ℕ) → Sheet.Ran
@@ -79,7 +79,7 @@ outcome-snoc (b ∷ al) a = ap answeredAs (last-snoc b al a)
 
 -- an answered record's answer, taken apart
 record Told (a : M.Answer) (id : ℕ) (spent : Bool) : Type 0 where
-  pub passes : Sheet.isRefused a ≡ none
+  pub passes : Sheet.refusalOf a ≡ none
   pub noted : Sheet.answerId a ≡ id
   pub says : answeredAs a ≡ cond spent (Spent id) (Ok id)
 
@@ -95,7 +95,7 @@ told (M.simplified i b steps) id spent e = go b spent (let n : i ≡ id = cc in 
 told (M.pruned i k d) id spent e = subst (λ (x : Bool). Told (M.pruned i k d) id x) (let t : false ≡ spent = cc in t) (record { passes = refl; noted = cc; says = ap Ok (let n : i ≡ id = cc in n) })
 told (M.refused r) id spent e = absurd (let z : _≡_ {A = ℕ} 0 1 = cc in omega arith)
 
-refusal-of : (a : M.Answer) (number : ℕ) → Refused number ≡ answerAs a → Sheet.isRefused a ≡ some number
+refusal-of : (a : M.Answer) (number : ℕ) → Refused number ≡ answerAs a → Sheet.refusalOf a ≡ some number
 refusal-of (M.stored i) number e = absurd (let z : _≡_ {A = ℕ} 0 1 = cc in omega arith)
 refusal-of (M.simplified i b steps) number e = absurd (let z : _≡_ {A = ℕ} 0 1 = cc in omega arith)
 refusal-of (M.pruned i k d) number e = absurd (let z : _≡_ {A = ℕ} 0 1 = cc in omega arith)

@@ -46,6 +46,7 @@ runs-unsound s m n = record {
   words-past = refl;
   slots-past = refl;
   slots-same = λ _. refl;
+  slots-used = λ _ at n. refl;
   unchanged = λ _. refl;
 }
 
@@ -66,6 +67,7 @@ module _ (s : List ℕ) (m : Memory) (h : model .Sound m) where
     words-past = f .stays .words-past;
     slots-past = f .stays .slots-past;
     slots-same = f .stays .slots-same;
+    slots-used = f .stays .slots-used;
     unchanged = u;
   }
 

@@ -7,6 +7,7 @@ use lib.ListN.{drop}
 use Rattle.arena.specs.Layout.{nodeWords}
 use Rattle.arena.specs.Nodes.{Nodes}
 use Rattle.arena.specs.declared.DagArena.{DagArena}
+use Rattle.dedup.specs.Table.{UsedStay}
 use Rattle.definitions.specs.Limits.{mostDoublings, firstTableSize}
 use Rattle.definitions.specs.Refusals.{notSound, noSlotPlace}
 use Rattle.definitions.specs.Intern.{tableSizeFrom}
@@ -40,8 +41,9 @@ pub record Runs (s : List ℕ) (m : Memory) (o : Outcome) (m′ : Memory) : Type
   pub size : model .Sound m → m′ .arena .size ≡ tableSizeFrom mostDoublings (m .arena .size) (m′ .arena .count)
   pub words-past : drop (m′ .arena .count * nodeWords) (m′ .words) ≡ drop (m′ .arena .count * nodeWords) (m .words)
   pub slots-past : drop (m′ .arena .size) (m′ .slots) ≡ drop (m′ .arena .size) (m .slots)
-  -- no slot changes where no node is added
+  -- no slot changes where no node is added, and a slot in use stays where the table keeps its size
   pub slots-same : m′ .arena .count ≡ m .arena .count → m′ .slots ≡ m .slots
+  pub slots-used : m′ .arena .size ≡ m .arena .size → UsedStay (m .slots) (m′ .slots)
   -- 1 changes nothing
   pub unchanged : isSheet s ≡ false → m′ ≡ m
 

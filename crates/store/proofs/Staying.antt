@@ -30,7 +30,7 @@ pub grown-up : (size count size′ : ℕ) → Grown size count size′ → size 
 grown-up size count size′ g = rw (g .is) (subst (λ (x : ℕ). x ≤ size * 2 ^ g .doublings) (mul-one size) (mul-le-mul-left size (pow-pos (g .doublings))))
 
 pub stays-refl : (m : Memory) → model .Sound m → Stays m m
-stays-refl m h = record { sound = h; count = omega arith; grown = grown-refl (m .arena .size) (m .arena .count); same-lent = refl; words-past = refl; slots-past = refl; slots-same = λ _. refl }
+stays-refl m h = record { sound = h; count = omega arith; grown = grown-refl (m .arena .size) (m .arena .count); same-lent = refl; words-past = refl; slots-past = refl; slots-same = λ _. refl; slots-used = λ _ at n. refl }
 
 pub stays-trans : (m m′ m″ : Memory) → Stays m m′ → Stays m′ m″ → Stays m m″
 stays-trans m m′ m″ a b = record {
@@ -46,6 +46,12 @@ stays-trans m m′ m″ a b = record {
       let first : m′ .arena .count ≡ m .arena .count = omega arith in
       let then : m″ .arena .count ≡ m′ .arena .count = omega arith in
       b .slots-same then ∙ a .slots-same first;
+  slots-used = λ e at n.
+      let up = grown-up _ _ _ (a .grown) in
+      let on = grown-up _ _ _ (b .grown) in
+      let first : m′ .arena .size ≡ m .arena .size = omega arith in
+      let then : m″ .arena .size ≡ m′ .arena .size = omega arith in
+      b .slots-used then at (λ z. n (sym (a .slots-used first at n) ∙ z)) ∙ a .slots-used first at n;
 }
 
 -- one call
@@ -58,6 +64,7 @@ leaves-stays c m a m′ h l = record {
   words-past = l .words-past;
   slots-past = l .slots-past;
   slots-same = l .slots-same;
+  slots-used = l .slots-used;
 }
 
 -- from the first size on, the table has the least size that holds the nodes

@@ -69,8 +69,8 @@ pub record Leaves (c : M.Call) (m : Memory) (a : M.Answer) (m′ : Memory) : Typ
   pub slots-used : m′ .arena .size ≡ m .arena .size → UsedStay (m .slots) (m′ .slots)
   pub unchanged : (number : ℕ) → a ≡ M.refused number → changesNothing c number ≡ true → m′ ≡ m
 
--- What any list of such calls leaves of a sound memory: a sound one with at least its nodes, the table as large as they need, and what lies
--- past the used words and slots.
+-- What any list of such calls leaves of a sound memory: a sound one with at least its nodes, the table as large as they need, what lies past
+-- the used words and slots, and the slots as each of the calls leaves them.
 pub record Stays (m m′ : Memory) : Type 0 where
   pub sound : model .Sound m′
   pub count : m .arena .count ≤ m′ .arena .count
@@ -79,3 +79,4 @@ pub record Stays (m m′ : Memory) : Type 0 where
   pub words-past : drop (m′ .arena .count * nodeWords) (m′ .words) ≡ drop (m′ .arena .count * nodeWords) (m .words)
   pub slots-past : drop (m′ .arena .size) (m′ .slots) ≡ drop (m′ .arena .size) (m .slots)
   pub slots-same : m′ .arena .count ≡ m .arena .count → m′ .slots ≡ m .slots
+  pub slots-used : m′ .arena .size ≡ m .arena .size → UsedStay (m .slots) (m′ .slots)
