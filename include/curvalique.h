@@ -394,10 +394,10 @@ void curvalique_list_sheet(
  * and record are such as 01 has: only that its numbers are words of 64 bits. Else
  * reading ends at the first line that is wrong or whose node has no place, and
  * all these stay. Refusals: CURVALIQUE_WRONG_LINE if the line is not as 01 has
- * it (but for what is not asked) or comes after 65,536 nodes; `line` is its number, from 1, and the nodes before it are written.
- * CURVALIQUE_TOO_FEW_WORDS if the node has no place in the lent words; as many
- * nodes as have place are written, and `line` stays. Words past the written
- * nodes stay.
+ * it (but for what is not asked) or comes after 65,536 nodes; `line` is its
+ * number, from 1, and the nodes before it are written. CURVALIQUE_TOO_FEW_WORDS
+ * if the node has no place in the lent words; as many nodes as have place are
+ * written, and `line` stays. Words past the written nodes stay.
  */
 uint64_t curvalique_read_listing(
     const uint8_t *bytes, size_t bytes_length, uint64_t *nodes, size_t node_words,
