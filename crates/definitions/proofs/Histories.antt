@@ -110,7 +110,7 @@ module _ (l : Lent) where
       (subst (PruneSays (s .nodes) i (threshold n) (call l s (pruneBySetting i n) .left .nodes)) ea (prunes-setting l (s .nodes) i n h .says)))
 
 -- ---- the promise over the plain machine
-plain-promise : (l : Lent) (cs : List Call) → Promise l cs (answers l empty cs) (states l empty cs)
+pub plain-promise : (l : Lent) (cs : List Call) → Promise l cs (answers l empty cs) (states l empty cs)
 plain-promise l cs = record {
   plain-answers = refl;
   plain-states = refl;

@@ -21,3 +21,4 @@ pub mod SettingAnswers
 pub mod Instance
 pub mod FractionBits
 pub mod KnownNames
+pub mod SheetCalls

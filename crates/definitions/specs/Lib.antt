@@ -16,5 +16,6 @@ pub mod Chain
 pub mod Promise
 pub mod Names
 pub mod Sheet
+pub mod SheetCalls
 pub mod Listing
 pub mod Examples
