@@ -186,7 +186,7 @@ fn hashing(what: &str, kind: u64, payload: u64, children: &[u64]) {
     const MANY: usize = 20_000;
     let none = std::hint::black_box(0);
     let times = interleaved(&mut [
-        &mut || timed(|| (0..MANY).fold(0, |last, _| ours::node_hash(kind, payload ^ (last & none), children))).0 / MANY as f64,
+        &mut || timed(|| (0..MANY).fold(0, |last, _| ours::node_hash(kind ^ (last & none), payload, children))).0 / MANY as f64,
         &mut || timed(|| (0..MANY).fold(0, |sum, _| sum ^ ours::node_hash(kind, payload, children))).0 / MANY as f64,
     ]);
     println!("| {what} | {:.1} | {:.1} |", times[0], times[1]);
