@@ -3,13 +3,12 @@ use Prim.Native.Nat.{ℕ, zero, suc, _+_, _≤_, _<_}
 use mathlib.Core.Path.{_≡_, refl, sym, ap, _∙_}
 use mathlib.Core.Bool.{Bool, true, false, _&&_, false≢true}
 use mathlib.Core.List.{List, [], _∷_}
-use lib.ListN.{length, getD, take, drop, set, replicate, drop-of-length-le, length-set, getD-replicate, List·getD-eq-default}
-use lib.Seq.{drop-cons, ext-getD, getD-take, length-take-le, getD-set-same, getD-set-other}
+use lib.ListN.{length, getD, take, drop, drop-of-length-le, List·getD-eq-default}
+use lib.Seq.{drop-cons, ext-getD, getD-take, length-take-le}
 use lib.Dec.{ltb}
 use native.Mathlib.Omega.{arith}
 use native.Mathlib.Numerals.{add-one}
 use native.Mathlib.Decide.{decLt}
-use borrow.Author.Count.{below-more}
 use borrow.Author.Tests.{lt-ltb, le-ltb, ltb-true}
 use Rattle.arena.specs.Layout.{mostChildren}
 use Rattle.arena.proofs.Deciding.{both}
@@ -36,43 +35,31 @@ below-each count [] h j b = absurd (omega arith)
 below-each count (x ∷ l) h zero b = ltb-true x count (both (ltb x count) (allBelow count l) h .0)
 below-each count (x ∷ l) h (suc j) b = below-each count l (both (ltb x count) (allBelow count l) h .1) j (omega arith)
 
--- ---- the places, filled so far
-pub record Filled (places operands : List ℕ) (j : ℕ) : Type 0 where
-  pub four : length places ≡ mostChildren
-  pub taken : (k : ℕ) → k < j → getD places k 0 ≡ getD operands k 0
-  pub unused : (k : ℕ) → j ≤ k → getD places k 0 ≡ 0
+-- ---- the places: each operand, and 0 past them
+abbrev pub places : List ℕ → List ℕ
+places operands = getD operands 0 0 ∷ getD operands 1 0 ∷ getD operands 2 0 ∷ getD operands 3 0 ∷ []
 
-abbrev none : List ℕ
-none = replicate mostChildren 0
+place-of : (operands : List ℕ) (j : ℕ) → j < mostChildren → getD (places operands) j 0 ≡ getD operands j 0
+place-of operands zero l = refl
+place-of operands (suc zero) l = refl
+place-of operands (suc (suc zero)) l = refl
+place-of operands (suc (suc (suc zero))) l = refl
+place-of operands (suc (suc (suc (suc j)))) l = absurd (omega arith)
 
-pub filled-none : (operands : List ℕ) → Filled none operands 0
-filled-none operands = record {
+pub placed : (operands : List ℕ) → length operands ≤ mostChildren → Places (places operands) operands
+placed operands few = record {
   four = refl;
-  taken = λ k l. absurd (omega arith);
-  unused = λ k l. go k (decLt k mostChildren);
-}
-  where
-    go : (k : ℕ) → Dec (k < mostChildren) → getD none k 0 ≡ 0
-    go k (yes l) = getD-replicate mostChildren k 0 0 l
-    go k (no l) = List·getD-eq-default none 0 {n = k} (omega arith)
-
-pub filled-more : (places operands : List ℕ) (j : ℕ) → j < mostChildren → Filled places operands j → Filled (set places j (getD operands j 0)) operands (j + 1)
-filled-more places operands j b f = record {
-  four = length-set places j _ ∙ f .four;
-  taken = below-more _ _ (λ k l. getD-set-other places j k _ 0 (λ e. omega arith) ∙ f .taken k l) (getD-set-same places j _ 0 (let e = f .four in omega arith));
-  unused = λ k l. getD-set-other places j k _ 0 (λ e. omega arith) ∙ f .unused k (omega arith);
-}
-
-pub filled-all : (places operands : List ℕ) (j : ℕ) → length operands ≤ mostChildren → j ≡ length operands → Filled places operands j → Places places operands
-filled-all places operands j few e f = record {
-  four = f .four;
-  taken = ext-getD 0 _ operands long (λ k l. getD-take (length operands) places k 0 (rw long at l) ∙ f .taken k (rw e (rw long at l)));
+  taken = ext-getD 0 _ operands long (λ k l. getD-take (length operands) (places operands) k 0 (rw long at l) ∙ place-of operands k (let m : k < length operands = rw long at l in omega arith));
   few = few;
-  unused = λ k l. f .unused k (rw e l);
+  unused = λ k l. go k l (decLt k mostChildren);
 }
   where
-    long : length (take (length operands) places) ≡ length operands
-    long = length-take-le (length operands) places (let g = f .four in omega arith)
+    long : length (take (length operands) (places operands)) ≡ length operands
+    long = length-take-le (length operands) (places operands) few
+
+    go : (k : ℕ) → length operands ≤ k → Dec (k < mostChildren) → getD (places operands) k 0 ≡ 0
+    go k l (yes m) = place-of operands k m ∙ List·getD-eq-default operands 0 {n = k} l
+    go k l (no m) = List·getD-eq-default (places operands) 0 {n = k} (omega arith)
 
 -- a place in use holds its operand
 pub place-at : (places operands : List ℕ) → Places places operands → (j : ℕ) → j < length operands → getD places j 0 ≡ getD operands j 0

@@ -1,7 +1,7 @@
 // What all constructors share.
 ghost use mathlib.Core.Path.{_≡_};
 ghost use Prim.Native.Nat.{ℕ, _≤_};
-ghost use lib.ListN.{length};
+ghost use lib.ListN.{length, getD};
 ghost use Rattle.arena.specs.Layout.{mostChildren};
 ghost use Rattle.definitions.specs.Node as N;
 ghost use Rattle.definitions.specs.Machine as M;
@@ -36,18 +36,50 @@ fn all_below(operands: &[u32], count: u64) -> bool
     true
 }
 
-// The operands as child places.
+// The child of a place, 0 past the operands.
+fn child_at(operands: &[u32], place: usize) -> u64
+    ensures { λ r. ⌜ r ≡ getD (now (operands .entry)) place 0 ⌝ }
+{
+    if place < operands.len() {
+        operands[place] as u64
+    } else {
+        0
+    }
+}
+
+// The operands as child places, each read by itself: so they stay in registers.
 fn child_places(operands: &[u32]) -> [u64; MOST_CHILDREN]
     requires { ⌜ length (now operands) ≤ mostChildren ⌝ }
     ensures { λ r. ⌜ Places r (now (operands .entry)) ⌝ }
 {
-    let mut children = [0; MOST_CHILDREN];
-    let mut j: usize = 0;
-    while j < operands.len() {
-        children[j] = operands[j] as u64;
-        j += 1;
+    [
+        child_at(operands, 0),
+        child_at(operands, 1),
+        child_at(operands, 2),
+        child_at(operands, 3),
+    ]
+}
+
+// An answer, handed on part by part: a copy of the whole would wait until its parts are in memory.
+fn by_parts(built: Built) -> Built
+    ensures { λ r. ⌜ r ≡ built ⌝ }
+{
+    let answer = built.answer;
+    let after = built.arena;
+    let arena = DagArena {
+        count: after.count,
+        size: after.size,
+    };
+    match answer {
+        Answer::Id(id) => Built {
+            answer: Answer::Id(id),
+            arena,
+        },
+        Answer::Refused(number) => Built {
+            answer: Answer::Refused(number),
+            arena,
+        },
     }
-    children
 }
 
 // The id of a node over these operands, or 5, 6, 4, 21 or 22, on a store that is known to be sound.
@@ -85,7 +117,7 @@ pub fn build_sound(
     }
     let children = child_places(operands);
     let key = DagNode::new(kind, payload, flags, arity, children);
-    intern_node(nodes, slots, arena, key)
+    by_parts(intern_node(nodes, slots, arena, key))
 }
 
 // The same after the audit: 20 comes first.

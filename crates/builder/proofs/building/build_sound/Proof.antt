@@ -33,6 +33,9 @@ new-requires c κs = search needs
 intern-node-requires : tie.Need-intern-node-requires
 intern-node-requires c κs = (subst (WellFormed _) (sym (c .before .before .new .ensures)) (new-formed _ _ _ _ _ _ (fits _ _ _ _ _ _ _ _ (c .before .before .before .before .before .before .before .before .before .before .before .before .pre .0) (c .before .before .before .before .before .before .before .before .before .before .before .before .pre .1) (not-false _ (c .before .before .before .before .before .before .before .before .if1 .left)) (sym (c .before .before .before .before .before .before .before .is-listed .ensures) ∙ not-false _ (c .before .before .before .before .before .before .if2 .left)) (sym (c .before .before .before .before .before .all-below .ensures) ∙ not-false _ (c .before .before .before .before .if3 .left)) _ (c .before .before .before .child-places .ensures))), c .before .before .before .before .before .before .before .before .before .before .before .before .pre .1)
 
+by-parts-requires : tie.Need-by-parts-requires
+by-parts-requires c κs = search needs
+
 same-length : tie.Need-same-length
 same-length c = search needs
 
@@ -40,7 +43,7 @@ same-length-2 : tie.Need-same-length-2
 same-length-2 c = search needs
 
 returns-4 : tie.Need-returns-4
-returns-4 c = interned _ _ _ _ _ _ _ _ (c .before .before .before .before .before .before .before .before .before .before .before .before .before .before .before .before .before .pre .0) (c .before .before .before .before .before .before .before .before .before .before .before .before .before .before .before .before .before .pre .1) (not-false _ (c .before .before .before .before .before .before .before .before .before .before .before .before .before .if1 .left)) (sym (c .before .before .before .before .before .before .before .before .before .before .before .before .is-listed .ensures) ∙ not-false _ (c .before .before .before .before .before .before .before .before .before .before .before .if2 .left)) (sym (c .before .before .before .before .before .before .before .before .before .before .all-below .ensures) ∙ not-false _ (c .before .before .before .before .before .before .before .before .before .if3 .left)) _ (c .before .before .before .before .before .before .before .before .child-places .ensures) _ (c .before .before .before .before .before .before .before .new .ensures) _ _ _ (c .before .before .before .before .intern-node .ensures)
+returns-4 c = rw (c .by-parts .ensures) (interned _ _ _ _ _ _ _ _ (c .before .before .before .before .before .before .before .before .before .before .before .before .before .before .before .before .before .before .pre .0) (c .before .before .before .before .before .before .before .before .before .before .before .before .before .before .before .before .before .before .pre .1) (not-false _ (c .before .before .before .before .before .before .before .before .before .before .before .before .before .before .if1 .left)) (sym (c .before .before .before .before .before .before .before .before .before .before .before .before .before .is-listed .ensures) ∙ not-false _ (c .before .before .before .before .before .before .before .before .before .before .before .before .if2 .left)) (sym (c .before .before .before .before .before .before .before .before .before .before .before .all-below .ensures) ∙ not-false _ (c .before .before .before .before .before .before .before .before .before .before .if3 .left)) _ (c .before .before .before .before .before .before .before .before .before .child-places .ensures) _ (c .before .before .before .before .before .before .before .before .new .ensures) _ _ _ (c .before .before .before .before .before .intern-node .ensures))
 
 pub build-sound-spec : {M : Type 1} → statement M
 build-sound-spec =
@@ -54,6 +57,7 @@ build-sound-spec =
     child-places-requires
     new-requires
     intern-node-requires
+    by-parts-requires
     same-length
     same-length-2
     returns-4)
