@@ -13,45 +13,52 @@ use inputs::{Chain, Changing, Formula, Settled, THRESHOLD, requests, variables};
 use ours::Ours;
 use sheets::Writer;
 use store::Store;
-use theirs::{unchanged, with_counters, without_clock};
+use theirs::{unchanged, with_counters, with_hash, without_clock};
 use timing::{ROUNDS, interleaved, median, timed};
 
 /// Requests for new nodes, so that the store grows from 1,000 to nearly 65,536 nodes.
 const SIZES: [u32; 5] = [1_000, 4_096, 16_384, 30_000, 65_000];
 const TERMS: u32 = 4_096;
 
-fn row(what: &str, unit: &str, ours: f64, theirs: f64, clockless: Option<f64>) {
-    let last = clockless.map_or(String::new(), |time| format!("{time:.1} ({:.2})", time / ours));
-    println!("| {what} | {unit} | {ours:.1} | {theirs:.1} ({:.2}) | {last} |", theirs / ours);
+/// Our time, and the Rust's: as it is, over 01's hash and, where there is a walk, without its clock read.
+fn row(what: &str, unit: &str, ours: f64, theirs: &[f64]) {
+    let beside = |time: Option<&f64>| time.map_or(String::new(), |time| format!("{time:.1} ({:.2})", time / ours));
+    let [unchanged, hashed, clockless] = std::array::from_fn(|party| beside(theirs.get(party)));
+    println!("| {what} | {unit} | {ours:.1} | {unchanged} | {hashed} | {clockless} |");
 }
 
 /// Interning, half of the requests for nodes that are there already.
 fn interning(store: &mut Ours, distinct: u32) {
     let requests = requests(distinct, u64::from(distinct));
     let prepared: Vec<_> = requests.iter().map(unchanged::prepare).collect();
+    let hashed: Vec<_> = requests.iter().map(with_hash::prepare).collect();
     let many = requests.len() as f64;
-    let mut ids = (Vec::with_capacity(requests.len()), Vec::with_capacity(requests.len()));
-    let mut nodes = (0, 0);
+    let mut ids = [(); 3].map(|()| Vec::with_capacity(requests.len()));
+    let [ours, theirs, theirs_hashed] = &mut ids;
+    let mut nodes = [0; 3];
+    let [our_nodes, their_nodes, their_hashed_nodes] = &mut nodes;
     let times = interleaved(&mut [
         &mut || {
             store.clear();
             variables(store);
-            ids.0.clear();
-            let time = timed(|| ids.0.extend(requests.iter().map(|request| store.request(request)))).0;
-            nodes.0 = store.nodes().len();
+            ours.clear();
+            let time = timed(|| ours.extend(requests.iter().map(|request| store.request(request)))).0;
+            *our_nodes = store.nodes().len();
             time / many
         },
         &mut || {
-            let mut theirs = unchanged::Theirs::new();
-            variables(&mut theirs);
-            ids.1.clear();
-            let time = timed(|| ids.1.extend(prepared.iter().map(|request| theirs.request(request)))).0;
-            nodes.1 = theirs.nodes().len();
+            let (time, nodes) = unchanged::time_requests(&prepared, theirs);
+            *their_nodes = nodes;
+            time / many
+        },
+        &mut || {
+            let (time, nodes) = with_hash::time_requests(&hashed, theirs_hashed);
+            *their_hashed_nodes = nodes;
             time / many
         },
     ]);
-    assert!(ids.0 == ids.1 && nodes.0 == nodes.1);
-    row(&format!("interning: {} requests, {} nodes", requests.len(), nodes.0), "ns a request", times[0], times[1], None);
+    assert!(ids[0] == ids[1] && ids[0] == ids[2] && nodes == [nodes[0]; 3]);
+    row(&format!("interning: {} requests, {} nodes", requests.len(), nodes[0]), "ns a request", times[0], &times[1..]);
 }
 
 /// A walk of a formula. Answer, turns and nodes are compared with the counted copy before any time is taken.
@@ -75,23 +82,12 @@ fn walking(store: &mut Ours, what: &str, formula: &impl Formula) {
             assert_eq!(id, answer);
             time / turns
         },
-        &mut || {
-            let (mut theirs, mut engine) = (unchanged::Theirs::new(), unchanged::Theirs::engine());
-            assert_eq!(root, formula.build(&mut theirs));
-            let (time, id) = timed(|| theirs.simplify(&mut engine, root));
-            assert_eq!(id, answer);
-            time / turns
-        },
-        &mut || {
-            let (mut theirs, mut engine) = (without_clock::Theirs::new(), without_clock::Theirs::engine());
-            assert_eq!(root, formula.build(&mut theirs));
-            let (time, id) = timed(|| theirs.simplify(&mut engine, root));
-            assert_eq!(id, answer);
-            time / turns
-        },
+        &mut || unchanged::time_walk(formula, root, answer) / turns,
+        &mut || with_hash::time_walk(formula, root, answer) / turns,
+        &mut || without_clock::time_walk(formula, root, answer) / turns,
     ]);
     let what = format!("{what}: {before} nodes, {} new, {steps} turns", nodes.len() - before);
-    row(&what, "ns a turn", times[0], times[1], Some(times[2]));
+    row(&what, "ns a turn", times[0], &times[1..]);
 }
 
 /// A formula in a fresh store.
@@ -120,18 +116,12 @@ fn pruning(store: &mut Ours, chain: &Chain, threshold: f64, earlier: usize) {
             assert_eq!(id, answer);
             time / many
         },
-        &mut || {
-            let mut theirs = unchanged::Theirs::new();
-            assert_eq!(root, chain.build(&mut theirs));
-            (0..earlier).for_each(|_| assert_eq!(theirs.prune(root, threshold), answer));
-            let (time, id) = timed(|| theirs.prune(root, threshold));
-            assert_eq!(id, answer);
-            time / many
-        },
+        &mut || unchanged::time_prune(chain, threshold, earlier, root, answer) / many,
+        &mut || with_hash::time_prune(chain, threshold, earlier, root, answer) / many,
     ]);
     let again = if earlier == 0 { "" } else { " again" };
     let what = format!("pruning{again}: {} terms, {kept} kept, {dropped} dropped, among {before} nodes", chain.terms);
-    row(&what, "ns a term", times[0], times[1], None);
+    row(&what, "ns a term", times[0], &times[1..]);
 }
 
 /// The same prune by hand, beside the port's and the Rust's.
@@ -154,11 +144,7 @@ fn pruning_by_hand(store: &mut Ours, chain: &Chain) {
             fresh(&mut shared.borrow_mut(), chain);
             timed(|| by_hand::prune(&mut shared.borrow_mut(), root, THRESHOLD)).0 / many
         },
-        &mut || {
-            let mut theirs = unchanged::Theirs::new();
-            chain.build(&mut theirs);
-            timed(|| theirs.prune(root, THRESHOLD)).0 / many
-        },
+        &mut || unchanged::time_prune(chain, THRESHOLD, 0, root, answer) / many,
     ]);
     println!("| {} | {:.1} | {:.1} | {:.1} ({:.2}) |", chain.others, times[0], times[1], times[2], times[2] / times[1]);
 }
@@ -175,10 +161,11 @@ fn whole_sheet(store: &mut Ours, items: u32) {
     let times = interleaved(&mut [
         &mut || timed(|| assert_eq!(store.run_sheet(&sheet), answer)).0 / many,
         &mut || timed(|| assert_eq!(sheets::perform(&sheet, &mut unchanged::Theirs::new()), answer)).0 / many,
+        &mut || timed(|| assert_eq!(sheets::perform(&sheet, &mut with_hash::Theirs::new()), answer)).0 / many,
         &mut || timed(|| assert_eq!(sheets::perform(&sheet, &mut without_clock::Theirs::new()), answer)).0 / many,
     ]);
     let what = format!("whole sheet: {records} records, {} bytes, {} nodes", sheet.len(), store.nodes().len());
-    row(&what, "ns a record", times[0], times[1], Some(times[2]));
+    row(&what, "ns a record", times[0], &times[1..]);
 }
 
 /// The hash alone, which 01 prescribes by bytes: each waiting for the one before, as in a build, and side by side.
@@ -209,7 +196,7 @@ fn main() {
     let words: Vec<String> = std::env::args().skip(1).collect();
     let chosen = |what: &str| words.is_empty() || words.iter().any(|word| what.starts_with(word.as_str()));
     let mut store = Ours::new();
-    println!("| what | unit | ours | the Rust (ratio) | without its clock read (ratio) |\n|---|---|---|---|---|");
+    println!("| what | unit | ours | the Rust (ratio) | over 01's hash (ratio) | without its clock read (ratio) |\n|---|---|---|---|---|---|");
     if chosen("interning") {
         for distinct in SIZES {
             interning(&mut store, distinct);

@@ -1,4 +1,5 @@
-//! The Rust original, as a module for each of its copies: unchanged, without the walk's clock read, and with counters.
+//! The Rust original, as a module for each of its copies: unchanged, over 01's hash, without the walk's clock read, and with
+//! counters.
 
 macro_rules! original {
     ($module:ident, $library:ident) => {
@@ -16,9 +17,10 @@ macro_rules! original {
             use $library::heuristic::simplifier;
             use $library::heuristic::strategy::SearchStrategy;
 
-            use crate::inputs::Request;
+            use crate::inputs::{Chain, Formula, Request, variables};
             use crate::sheets::Rewriter;
             use crate::store::{Node, Store};
+            use crate::timing::timed;
 
             const OPERATORS: [OpKind; 7] =
                 [OpKind::Add, OpKind::Sub, OpKind::Mul, OpKind::Div, OpKind::Pow, OpKind::Mod, OpKind::Neg];
@@ -48,6 +50,34 @@ macro_rules! original {
                     many: request.operands().len(),
                     flags: NodeFlags::from_bits(request.flags as u8),
                 }
+            }
+
+            /// The time of all requests on a fresh store, and how many nodes it has then. The ids are left in the list.
+            pub fn time_requests(requests: &[Prepared], ids: &mut Vec<u32>) -> (f64, usize) {
+                let mut theirs = Theirs::new();
+                variables(&mut theirs);
+                ids.clear();
+                let time = timed(|| ids.extend(requests.iter().map(|request| theirs.request(request)))).0;
+                (time, theirs.nodes().len())
+            }
+
+            /// The time of a walk, whose root and answer are known.
+            pub fn time_walk(formula: &impl Formula, root: u32, answer: u32) -> f64 {
+                let (mut theirs, mut engine) = (Theirs::new(), Theirs::engine());
+                assert_eq!(root, formula.build(&mut theirs));
+                let (time, id) = timed(|| theirs.simplify(&mut engine, root));
+                assert_eq!(id, answer);
+                time
+            }
+
+            /// The time of a prune after so many earlier ones, whose root and answer are known.
+            pub fn time_prune(chain: &Chain, threshold: f64, earlier: usize, root: u32, answer: u32) -> f64 {
+                let mut theirs = Theirs::new();
+                assert_eq!(root, chain.build(&mut theirs));
+                (0..earlier).for_each(|_| assert_eq!(theirs.prune(root, threshold), answer));
+                let (time, id) = timed(|| theirs.prune(root, threshold));
+                assert_eq!(id, answer);
+                time
             }
 
             impl Theirs {
@@ -129,5 +159,6 @@ macro_rules! original {
 }
 
 original!(unchanged, original);
+original!(with_hash, hashed);
 original!(without_clock, clockless);
 original!(with_counters, counted);
