@@ -1,5 +1,6 @@
 -- The words of a node. 01: "A node is 10 words of 64 bits in a lent list: kind, payload, hash, coefficient bits, flags, child count, four child places".
 use Prim.Native.Nat.{ℕ}
+use Rattle.arena.specs.declared.DagArena.{DagArena}
 pub use Rattle.definitions.specs.Limits.{mostChildren, mostNodes}
 
 abbrev pub nodeWords : ℕ
@@ -26,3 +27,7 @@ arityWord = 5
 
 abbrev pub childrenWord : ℕ
 childrenWord = 6
+
+-- the count of nodes and the size of the table as one
+abbrev pub arenaOf : ℕ → ℕ → DagArena
+arenaOf count size = record { count = count; size = size }

@@ -3,14 +3,11 @@ use Prim.Native.Nat.{ℕ, zero, suc, _≤_, _<_}
 use mathlib.Core.Path.{_≡_}
 use mathlib.Core.Bool.{Bool, true, false}
 use mathlib.Core.List.{List}
-use Rattle.arena.specs.declared.DagArena.{DagArena}
+pub use Rattle.arena.specs.Layout.{arenaOf}
 use Rattle.definitions.specs.Machine as M
 use Rattle.store.specs.Memory.{Memory, memory}
 
 -- lent words and slots, with the count of nodes and the size of the table that stand behind pointers
-abbrev pub arenaOf : ℕ → ℕ → DagArena
-arenaOf count size = record { count = count; size = size }
-
 abbrev pub lentMemory : List ℕ → List ℕ → ℕ → ℕ → Memory
 lentMemory words slots count size = memory words slots (arenaOf count size)
 

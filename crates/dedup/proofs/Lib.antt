@@ -7,6 +7,7 @@ pub mod Placing
 pub mod Renewing
 pub mod Keys
 pub mod Answers
+pub mod InRoom
 pub mod Marking
 pub mod UsedSlots
 pub mod OwnSlots

@@ -1,14 +1,15 @@
 -- What a call with a node answers and leaves.
-use Prim.Native.Nat.{ℕ, _+_, _*_}
+use Prim.Native.Nat.{ℕ, _+_, _*_, _≤_, _<_}
 use mathlib.Core.Path.{_≡_}
 use mathlib.Core.Bool.{cond, _||_}
 use mathlib.Core.List.{List}
+use mathlib.Core.Logic.{_⊎_}
 use mathlib.Core.Option.{Option, none, some}
 use lib.ListN.{length, drop}
 use lib.Dec.{leb, ltb}
 use Rattle.arena.specs.declared.DagArena.{DagArena}
 use Rattle.arena.specs.declared.node.DagNode.{DagNode}
-use Rattle.arena.specs.Layout.{nodeWords, mostNodes}
+use Rattle.arena.specs.Layout.{nodeWords, mostNodes, arenaOf}
 use Rattle.arena.specs.Node.{put, find}
 use Rattle.arena.specs.Nodes.{WellFormed, Nodes}
 use Rattle.dedup.specs.declared.Answer.{Answer}
@@ -20,7 +21,7 @@ use Rattle.dedup.specs.Table.{UsedStay, Table, hashAt}
 use Rattle.dedup.specs.Probe.{Frees}
 
 abbrev pub answered : Answer → ℕ → ℕ → Interned
-answered answer count size = record { answer = answer; arena = record { count = count; size = size } }
+answered answer count size = record { answer = answer; arena = arenaOf count size }
 
 -- to a new node, with so many words and slots lent. 01: "21 no place for a new node (65,536 at most). 22 a new node needs a doubling and the lent slots are too few"
 unfoldable pub newAnswer : ℕ → ℕ → ℕ → ℕ → Interned
@@ -63,3 +64,27 @@ pub record Absent (words slots : List ℕ) (arena : DagArena) (key : DagNode) (p
   pub formed : WellFormed (arena .count) key
   pub absent : find words (arena .count) key ≡ none
   pub free : Frees words (arena .count) slots (arena .size) key place
+
+-- a place for a new node's words, in a table that need not grow for it
+pub record HasRoom (words count size : ℕ) : Type 0 where
+  pub many : count < mostNodes
+  pub fits : count * nodeWords + nodeWords ≤ words
+  pub load : count < capacity size
+
+-- an id, of an old node or of a new one, in a table of the same size
+pub record InternsId (words slots : List ℕ) (arena : DagArena) (key : DagNode) (id : ℕ) (words′ slots′ : List ℕ) (count′ : ℕ) : Type 0 where
+  pub below : id < mostNodes
+  pub answer : Answer
+  pub is : (answer ≡ Old id) ⊎ (answer ≡ New id)
+  pub interns : Interns words slots arena key (answered answer count′ (arena .size)) words′ slots′
+
+-- nothing changes
+pub record Unchanged (words slots : List ℕ) (arena : DagArena) (words′ slots′ : List ℕ) (count′ : ℕ) : Type 0 where
+  pub same-words : words′ ≡ words
+  pub same-slots : slots′ ≡ slots
+  pub same-count : count′ ≡ arena .count
+
+-- an id, or in its place a number that no id is, and nothing changes
+pub record InternsInRoom (words slots : List ℕ) (arena : DagArena) (key : DagNode) (number : ℕ) (words′ slots′ : List ℕ) (count′ : ℕ) : Type 0 where
+  pub answered : (number ≡ mostNodes → ⊥) → InternsId words slots arena key number words′ slots′ count′
+  pub unanswered : number ≡ mostNodes → Unchanged words slots arena words′ slots′ count′

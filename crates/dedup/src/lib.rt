@@ -1,8 +1,10 @@
 // The duplicate table of a store (dedup.rs): one node, one id. 01: "A slot is a 32-bit id + 1, or 0."
 ghost use mathlib.Core.Path.{_≡_};
+ghost use Rattle.arena.specs.Layout.{arenaOf};
+ghost use Rattle.arena.specs.Says.{Says};
 ghost use Rattle.arena.specs.Nodes.{WellFormed, Nodes};
 ghost use Rattle.dedup.specs.Table.{Table, hashAt};
-ghost use Rattle.dedup.specs.Intern.{answered, Interns, Absent};
+ghost use Rattle.dedup.specs.Intern.{answered, Interns, Absent, HasRoom, InternsInRoom};
 ghost use Rattle.dedup.specs.declared.Answer.the-variants.{Refused};
 
 pub mod auditing;
@@ -27,6 +29,9 @@ use sizes::load_limit;
 pub const NO_PLACE: u64 = 21;
 
 pub const NO_SLOTS: u64 = 22;
+
+// What `get_or_insert_in_room` answers in place of an id: every id is below it.
+pub const NO_ROOM: u64 = MOST_NODES;
 
 // The id of an old node or of a new one, or the number of a refusal.
 pub enum Answer {
@@ -118,5 +123,46 @@ pub fn get_or_insert(
         Place::Free(at) => insert(nodes, slots, arena, key, at),
         // A table within its load limit has an empty slot, so a search does not end here.
         Place::Nowhere => refused(NO_SLOTS, arena),
+    }
+}
+
+// Whether a new node has a place for its words, in a table that need not grow for it.
+fn has_room(words: usize, count: u64, size: usize) -> bool
+    ensures { λ r. ⌜ Says r (HasRoom words count size) ⌝ }
+{
+    if MOST_NODES <= count {
+        return false;
+    }
+    if words < count as usize * NODE_WORDS + NODE_WORDS {
+        return false;
+    }
+    (count as usize) < load_limit(size)
+}
+
+// The id of a node, old or new, where a new one has room; else NO_ROOM, and nothing changes.
+pub fn get_or_insert_in_room(
+    nodes: &mut [u64],
+    slots: &mut [u32],
+    count: &mut u64,
+    size: usize,
+    key: DagNode,
+) -> u64
+    requires { ⌜ Nodes (now nodes) (now count) × Table (hashAt (now nodes)) (now count) (now slots) size × WellFormed (now count) key ⌝ }
+    ensures { λ r. ⌜ InternsInRoom (now (nodes .entry)) (now (slots .entry)) (arenaOf (now (count .entry)) size) key r (now (nodes .exit)) (now (slots .exit)) (now (count .exit)) ⌝ }
+{
+    let id = *count;
+    let found = probe(nodes, slots, size, key, id);
+    match found {
+        Place::Here(at) => slot_id(slots[at]),
+        Place::Free(at) => {
+            if has_room(nodes.len(), id, size) {
+                slots[at] = (id + 1) as u32;
+                store_node(nodes, id, key);
+                *count = id + 1;
+                return id;
+            }
+            NO_ROOM
+        }
+        Place::Nowhere => NO_ROOM,
     }
 }

@@ -2,6 +2,8 @@ pub mod Viewing
 pub mod Sizes
 pub mod Keeping
 pub mod Refining
+pub mod Stopping
+pub mod Numbers
 pub mod Reading
 pub mod NewNodes
 pub mod Marking

@@ -3,3 +3,4 @@ pub mod View
 pub mod Lookup
 pub mod Memory
 pub mod Interning
+pub mod Number

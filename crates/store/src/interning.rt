@@ -1,6 +1,7 @@
 // The id of a node, old or new.
 ghost use mathlib.Core.Path.{_≡_};
 ghost use lib.ListN.{take};
+ghost use Rattle.arena.specs.Layout.{arenaOf};
 ghost use Rattle.arena.specs.Nodes.{WellFormed};
 ghost use Rattle.definitions.specs.Node as N;
 ghost use Rattle.definitions.specs.Intern as I;
@@ -8,12 +9,16 @@ ghost use Rattle.store.specs.Sound.{Sound};
 ghost use Rattle.store.specs.View.{plainNode, nodesIn, lent, Builds};
 ghost use Rattle.store.specs.Lookup.{Fits};
 ghost use Rattle.store.specs.Interning.{Interns};
+ghost use Rattle.store.specs.Number.{BuildsNumber};
 use crate::Answer;
 use crate::Built;
+use crate::REFUSALS;
 use arena::DagArena;
 use arena::DagNode;
 use arena::MOST_CHILDREN;
+use dedup::NO_ROOM;
 use dedup::get_or_insert;
+use dedup::get_or_insert_in_room;
 
 // The id of a node by value.
 pub fn intern_node(nodes: &mut [u64], slots: &mut [u32], arena: DagArena, key: DagNode) -> Built
@@ -55,4 +60,54 @@ pub fn intern(
 {
     let key = DagNode::new(kind, payload, flags, arity, children);
     intern_node(nodes, slots, arena, key)
+}
+
+// The id of a node by value, or a refusal, as one number. The table grows where it must.
+fn intern_node_number(
+    nodes: &mut [u64],
+    slots: &mut [u32],
+    count: &mut u64,
+    size: &mut usize,
+    key: DagNode,
+) -> u64
+    requires { ⌜ WellFormed (now count) key × Sound (now nodes) (now slots) (arenaOf (now count) (now size)) ⌝ }
+    ensures { λ r. ⌜ BuildsNumber (now (nodes .entry)) (now (slots .entry)) (arenaOf (now (count .entry)) (now (size .entry))) (I.intern (lent (now (nodes .entry)) (now (slots .entry))) (nodesIn (now (nodes .entry)) (now (count .entry))) (plainNode key)) (now (nodes .exit)) (now (slots .exit)) r (arenaOf (now (count .exit)) (now (size .exit))) ⌝ }
+{
+    let arena = DagArena {
+        count: *count,
+        size: *size,
+    };
+    let built = intern_node(nodes, slots, arena, key);
+    let after = built.arena;
+    let answer = built.answer;
+    *count = after.count;
+    *size = after.size;
+    match answer {
+        Answer::Id(id) => id,
+        Answer::Refused(number) => REFUSALS + number,
+    }
+}
+
+// The id of a node with these parts, or a refusal, as one number. Only a new node without room takes the
+// general call.
+pub fn intern_number(
+    nodes: &mut [u64],
+    slots: &mut [u32],
+    count: &mut u64,
+    size: &mut usize,
+    kind: u64,
+    payload: u64,
+    flags: u64,
+    arity: u64,
+    children: [u64; MOST_CHILDREN],
+) -> u64
+    requires { ⌜ Fits (now count) kind payload flags arity children × Sound (now nodes) (now slots) (arenaOf (now count) (now size)) ⌝ }
+    ensures { λ r. ⌜ BuildsNumber (now (nodes .entry)) (now (slots .entry)) (arenaOf (now (count .entry)) (now (size .entry))) (I.intern (lent (now (nodes .entry)) (now (slots .entry))) (nodesIn (now (nodes .entry)) (now (count .entry))) (N.node kind payload flags (take arity children))) (now (nodes .exit)) (now (slots .exit)) r (arenaOf (now (count .exit)) (now (size .exit))) ⌝ }
+{
+    let key = DagNode::new(kind, payload, flags, arity, children);
+    let id = get_or_insert_in_room(nodes, slots, count, *size, key);
+    if id != NO_ROOM {
+        return id;
+    }
+    intern_node_number(nodes, slots, count, size, key)
 }

@@ -4,6 +4,7 @@ pub mod lookup;
 
 pub use interning::intern;
 pub use interning::intern_node;
+pub use interning::intern_number;
 pub use lookup::arity;
 pub use lookup::child;
 pub use lookup::children;
@@ -14,6 +15,10 @@ pub use lookup::payload;
 ghost use Rattle.arena.specs.Says.{Says};
 ghost use Rattle.store.specs.Sound.{Sound};
 use arena::DagArena;
+use arena::MOST_NODES;
+
+// An answer as one number: an id is below this, and a refusal's number is added to it.
+pub const REFUSALS: u64 = MOST_NODES;
 
 // The id of a node, or the number of a refusal.
 pub enum Answer {

@@ -1,0 +1,49 @@
+-- Interning that answers one number: from the table's answer in room, and from the general call after it.
+use Prim.Native.Nat.{ℕ}
+use mathlib.Core.Path.{_≡_, refl, subst}
+use mathlib.Core.List.{List}
+use mathlib.Core.Logic.{⊎-elim}
+use lib.ListN.{length}
+use Rattle.arena.specs.declared.DagArena.{DagArena}
+use Rattle.arena.specs.declared.node.DagNode.{DagNode}
+use Rattle.arena.specs.Layout.{mostChildren, arenaOf}
+use Rattle.arena.specs.Nodes.{WellFormed}
+use Rattle.dedup.specs.declared.Answer.the-variants.{Old, New}
+use Rattle.dedup.specs.Intern.{InternsId, Unchanged}
+use Rattle.definitions.specs.Node as N
+use Rattle.definitions.specs.Intern as I
+use Rattle.store.specs.declared.Built.{Built}
+use Rattle.store.specs.declared.Answer.{Answer}
+use Rattle.store.specs.declared.Answer.the-variants.{Id}
+use Rattle.store.specs.Sound.{Sound}
+use Rattle.store.specs.View.{plainNode, nodesIn, lent, Builds}
+use Rattle.store.specs.Number.{numberOf, BuildsNumber}
+use Rattle.store.proofs.Refining.{seen}
+
+-- an answer that is taken apart
+pub as-number : (w slots : List ℕ) (a : DagArena) (plain : I.Built) (w′ slots′ : List ℕ) (r : Built) (x : Answer) → r .answer ≡ x → Builds w slots a plain w′ slots′ r
+    → BuildsNumber w slots a plain w′ slots′ (numberOf x) (r .arena)
+as-number w slots a plain w′ slots′ r x e b = record {
+  answer = x;
+  is = refl;
+  builds = subst (λ (y : Answer). Builds w slots a plain w′ slots′ (record { answer = y; arena = r .arena })) e b;
+}
+
+-- an id that the table answers
+pub id-builds : (w slots : List ℕ) (a : DagArena) (key : DagNode) → length (key .children) ≡ mostChildren → WellFormed (a .count) key → Sound w slots a
+    → (id : ℕ) (w′ slots′ : List ℕ) (count′ : ℕ) → InternsId w slots a key id w′ slots′ count′ → length w′ ≡ length w → length slots′ ≡ length slots
+    → BuildsNumber w slots a (I.intern (lent w slots) (nodesIn w (a .count)) (plainNode key)) w′ slots′ id (arenaOf count′ (a .size))
+id-builds w slots a key four f h id w′ slots′ count′ i lw ls = record {
+  answer = Id id;
+  is = refl;
+  builds = ⊎-elim (λ e. seen w slots a key four f h _ w′ slots′ (i .interns) lw ls (Old id) e .builds) (λ e. seen w slots a key four f h _ w′ slots′ (i .interns) lw ls (New id) e .builds) (i .is);
+}
+
+-- where nothing changed, the general call is as on the memory before
+module _ (w slots : List ℕ) (count size : ℕ) (w₁ slots₁ : List ℕ) (count₁ : ℕ) (u : Unchanged w slots (arenaOf count size) w₁ slots₁ count₁) where
+  pub still-ready : (key : DagNode) → WellFormed count key → Sound w slots (arenaOf count size) → WellFormed count₁ key × Sound w₁ slots₁ (arenaOf count₁ size)
+  still-ready key f h = rw (u .same-words, u .same-slots, u .same-count) (f, h)
+
+  pub still-builds : (n : N.Node) (w′ slots′ : List ℕ) (number : ℕ) (a′ : DagArena) → BuildsNumber w₁ slots₁ (arenaOf count₁ size) (I.intern (lent w₁ slots₁) (nodesIn w₁ count₁) n) w′ slots′ number a′
+      → BuildsNumber w slots (arenaOf count size) (I.intern (lent w slots) (nodesIn w count) n) w′ slots′ number a′
+  still-builds n w′ slots′ number a′ b = rw (← u .same-words, ← u .same-slots, ← u .same-count) b
