@@ -1,5 +1,5 @@
 -- The balanced sum of terms, over the sums of its halves.
-use Prim.Native.Nat.{ℕ, zero, suc, _-_, _/_, _^_, _≤_, min}
+use Prim.Native.Nat.{ℕ, zero, suc, _/_, _^_, _≤_, min}
 use mathlib.Core.Path.{_≡_, refl, ap, _∙_}
 use mathlib.Core.Bool.{Bool, true, false, cond}
 use mathlib.Core.Logic.{_⊎_, inl, inr}
@@ -7,12 +7,11 @@ use mathlib.Core.Option.{Option, none, some}
 use mathlib.Core.List.{List, [], _∷_}
 use lib.ListN.{length, take, drop, length-take, length-drop}
 use lib.Dec.{leb, ltb}
-use lib.Ieee.{toBits}
 use native.Mathlib.Omega.{arith}
 use native.Mathlib.Nat.{pow-suc}
 use Rattle.definitions.specs.Limits.{mostNodes, mostTerms, mostHalvings}
 use Rattle.definitions.specs.Refusals.{noNodePlace, noSlotPlace}
-use Rattle.definitions.specs.Node.{Node, node, constantKind}
+use Rattle.definitions.specs.Node.{Node}
 use Rattle.definitions.specs.Intern.{Lent, Built, built, stopped, then, find, noPlace, addNew, foundOrNew, intern, tableSize}
 use Rattle.definitions.specs.Patterns.{zero64, internConstant, internAdd}
 use Rattle.definitions.specs.Prune.{balancedAdd, sumOfKept}
@@ -71,10 +70,6 @@ sum-of-none l ns = refl
 pub sum-of-one : (l : Lent) (ns : List Node) (a : ℕ) → sumOfKept l ns (a ∷ []) ≡ built ns a
 unfolding sumOfKept balancedAdd
 sum-of-one l ns a = refl
-
-pub sum-of-two : (l : Lent) (ns : List Node) (a b : ℕ) → sumOfKept l ns (a ∷ b ∷ []) ≡ internAdd l ns a b
-unfolding sumOfKept balancedAdd
-sum-of-two l ns a b = refl
 
 -- ---- building stops by 21 or 22 alone
 abbrev pub NoPlace : ℕ → Type 0

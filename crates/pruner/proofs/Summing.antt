@@ -1,28 +1,30 @@
 -- The sum of terms in memory, from the sums of its halves.
 use Prim.Native.Nat.{ℕ, zero, suc, _-_, _/_, _<_, _≤_}
-use mathlib.Core.Path.{_≡_, refl, sym, ap, ap₂, _∙_, subst}
+use mathlib.Core.Path.{_≡_, refl, sym, ap, _∙_, subst}
 use mathlib.Core.List.{List, [], _∷_}
 use lib.ListN.{length, getD, take, drop, length-take, length-drop}
 use lib.Seq.{take-all}
 use native.Mathlib.Omega.{arith}
-use Rattle.definitions.specs.Node.{Node, node, constantKind, addKind}
+use Rattle.definitions.specs.Node.{Node, constantKind, addKind}
 use Rattle.definitions.specs.Intern as I
-use Rattle.definitions.specs.Intern.{Lent, then, intern}
+use Rattle.definitions.specs.Intern.{Lent, then}
 use Rattle.definitions.specs.Patterns.{internAdd}
 use Rattle.definitions.specs.Prune.{sumOfKept}
 use Rattle.definitions.proofs.Stable.{Lower}
 use Rattle.definitions.proofs.Intern.{lower-up}
 use Rattle.arena.specs.declared.DagArena.{DagArena}
 use Rattle.arena.specs.Kind.{operatorArity}
+use Rattle.arena.specs.Layout.{mostNodes}
 use Rattle.store.specs.declared.Built.{Built}
 use Rattle.store.specs.declared.Answer.{Answer}
 use Rattle.store.specs.declared.Answer.the-variants.{Id, Refused}
-use Rattle.store.specs.View.{nodesIn, lent, Kept, Builds, plainBuilt, Low, listed}
+use Rattle.store.specs.View.{nodesIn, lent, Sound, Kept, Builds, plainBuilt, listed}
 use Rattle.store.specs.Lookup.{Fits}
 use Rattle.store.proofs.Keeping.{kept-refl, kept-trans}
-use Rattle.pruner.specs.Sums.{Summable, Zero, Adds, Sums}
+use Rattle.store.proofs.Decoding.{is-id, number-stays, refusal-stays}
+use Rattle.pruner.specs.Sums.{Summable, Zero, Adds, Sums, AddsNumber, SumsNumber}
 use Rattle.pruner.proofs.Below.{lower-of, below-of, lower-take, lower-drop}
-use Rattle.pruner.proofs.Halving.{sum-of-none, sum-of-one, sum-of-two, sum-of-halves}
+use Rattle.pruner.proofs.Halving.{sum-of-none, sum-of-one, sum-of-halves}
 
 -- ---- lists by their length
 empty : (ids : List ℕ) → length ids ≡ 0 → ids ≡ []
@@ -34,14 +36,14 @@ single [] e = absurd (omega arith)
 single (a ∷ []) e = refl
 single (a ∷ b ∷ ids) e = absurd (omega arith)
 
-double : (ids : List ℕ) → length ids ≡ 2 → ids ≡ getD ids 0 0 ∷ getD ids 1 0 ∷ []
-double [] e = absurd (omega arith)
-double (a ∷ []) e = absurd (omega arith)
-double (a ∷ b ∷ []) e = refl
-double (a ∷ b ∷ c ∷ ids) e = absurd (omega arith)
+-- ---- the two halves of the terms, as the code has them
+abbrev pub leftHalf : List ℕ → List ℕ
+leftHalf ids = take (length ids / 2) ids
 
--- a part from the middle to the end
-pub right-half : (ids : List ℕ) → take (length ids - length ids / 2) (drop (length ids / 2) ids) ≡ drop (length ids / 2) ids
+abbrev pub rightHalf : List ℕ → List ℕ
+rightHalf ids = take (length ids - length ids / 2) (drop (length ids / 2) ids)
+
+right-half : (ids : List ℕ) → rightHalf ids ≡ drop (length ids / 2) ids
 right-half ids = take-all (length ids - length ids / 2) (drop (length ids / 2) ids) (omega (arith, length-drop (length ids / 2) ids))
 
 -- ---- what a kept store has
@@ -83,9 +85,6 @@ module _ (words slots : List ℕ) (s : DagArena) (ts : List ℕ) (sm : Summable 
   abbrev ns : List Node
   ns = nodesIn words (s .count)
 
-  abbrev h : ℕ
-  h = length ts / 2
-
   pub sums-none : length ts ≡ 0 → (words′ slots′ : List ℕ) (r : Built) → Zero words slots s words′ slots′ r → Sums words slots s ts words′ slots′ r
   sums-none e words′ slots′ r = subst (λ (p : I.Built). Builds words slots s p words′ slots′ r) (sym (ap (sumOfKept l ns) (empty ts e) ∙ sum-of-none l ns))
 
@@ -96,85 +95,116 @@ module _ (words slots : List ℕ) (s : DagArena) (ts : List ℕ) (sm : Summable 
     low = sm .below 0 (omega arith);
   }
 
-  pub sums-two : length ts ≡ 2 → (words′ slots′ : List ℕ) (r : Built) → Adds words slots s (getD ts 0 0) (getD ts 1 0) words′ slots′ r
-      → Sums words slots s ts words′ slots′ r
-  sums-two e words′ slots′ r = subst (λ (p : I.Built). Builds words slots s p words′ slots′ r) (sym (ap (sumOfKept l ns) (double ts e) ∙ sum-of-two l ns (getD ts 0 0) (getD ts 1 0)))
+  pub one-number : length ts ≡ 1 → SumsNumber words slots s ts words slots (getD ts 0 0) s
+  one-number e = record { answer = Id (getD ts 0 0); is = refl; builds = sums-one e }
 
   module _ (two : 2 ≤ length ts) where
-    plain : sumOfKept l ns ts ≡ then (sumOfKept l ns (take h ts)) (λ ms x. then (sumOfKept l ms (drop h ts)) (λ os y. internAdd l os x y))
-    plain = sum-of-halves l ns ts two (sm .few)
+    right-length : length (rightHalf ts) ≡ length ts - length ts / 2
+    right-length = ap length (right-half ts) ∙ length-drop (length ts / 2) ts
 
-    pub left-less : length (take (length ts / 2) ts) < length ts
-    left-less = omega (arith, length-take h ts)
+    plain : then (sumOfKept l ns (leftHalf ts)) (λ ms x. then (sumOfKept l ms (rightHalf ts)) (λ os y. internAdd l os x y)) ≡ sumOfKept l ns ts
+    plain =
+        ap (λ (vs : List ℕ). then (sumOfKept l ns (leftHalf ts)) (λ ms x. then (sumOfKept l ms vs) (λ os y. internAdd l os x y))) (right-half ts)
+        ∙ sym (sum-of-halves l ns ts two (sm .few))
 
-    pub left-summable : Summable words slots s (take (length ts / 2) ts)
+    -- each half has fewer terms than the list, and at least one
+    pub left-less : length (leftHalf ts) < length ts
+    left-less = omega (arith, length-take (length ts / 2) ts)
+
+    pub left-some : 1 ≤ length (leftHalf ts)
+    left-some = omega (arith, length-take (length ts / 2) ts)
+
+    pub right-less : length (rightHalf ts) < length ts
+    right-less = omega (arith, right-length)
+
+    pub right-some : 1 ≤ length (rightHalf ts)
+    right-some = omega (arith, right-length)
+
+    pub left-summable : Summable words slots s (leftHalf ts)
     left-summable = record {
       sound = sm .sound;
       few = omega (arith, left-less, sm .few);
-      below = below-of (s .count) (take h ts) (lower-take (s .count) h ts (lower-of (s .count) ts (sm .below)));
+      below = below-of (s .count) (leftHalf ts) (lower-take (s .count) (length ts / 2) ts (lower-of (s .count) ts (sm .below)));
     }
 
-    module _ (words₁ slots₁ : List ℕ) (left : Built) (bl : Sums words slots s (take (length ts / 2) ts) words₁ slots₁ left) where
+    -- the left half's answer, and the memory after it
+    module _ (words₁ slots₁ : List ℕ) (s₁ : DagArena) where
+      abbrev Left : Answer → Type 0
+      Left answer = Sums words slots s (leftHalf ts) words₁ slots₁ (record { answer = answer; arena = s₁ })
+
       abbrev ns₁ : List Node
-      ns₁ = nodesIn words₁ (left .arena .count)
+      ns₁ = nodesIn words₁ (s₁ .count)
 
-      after-left : (answer : Answer) → left .answer ≡ answer
-          → then (plainBuilt answer ns₁) (λ ms x. then (sumOfKept l ms (drop h ts)) (λ os y. internAdd l os x y)) ≡ sumOfKept l ns ts
-      after-left answer e =
-          ap (λ (m : I.Built). then m (λ ms x. then (sumOfKept l ms (drop h ts)) (λ os y. internAdd l os x y))) (ap (λ (x : Answer). plainBuilt x ns₁) (sym e) ∙ bl .answer)
-          ∙ sym plain
+      after-left : (answer : Answer) → Left answer
+          → then (plainBuilt answer ns₁) (λ ms x. then (sumOfKept l ms (rightHalf ts)) (λ os y. internAdd l os x y)) ≡ sumOfKept l ns ts
+      after-left answer bl =
+          ap (λ (m : I.Built). then m (λ ms x. then (sumOfKept l ms (rightHalf ts)) (λ os y. internAdd l os x y))) (bl .answer) ∙ plain
 
-      pub left-stops : (number : ℕ) → left .answer ≡ Refused number → Sums words slots s ts words₁ slots₁ left
-      left-stops number e = record { answer = ap (λ (x : Answer). plainBuilt x ns₁) e ∙ after-left (Refused number) e; kept = bl .kept; low = bl .low }
+      left-stops : (number : ℕ) → Left (Refused number) → Sums words slots s ts words₁ slots₁ (record { answer = Refused number; arena = s₁ })
+      left-stops number bl = record { answer = after-left (Refused number) bl; kept = bl .kept; low = bl .low }
 
-      module _ (a : ℕ) (ea : left .answer ≡ Id a) where
-        -- the right half, as the code has it
-        module _ (us : List ℕ) (half : us ≡ drop (length ts / 2) ts) where
-          pub right-less : length us < length ts
-          right-less = omega (arith, length-drop h ts, ap length half)
+      -- an id, and the right half's answer after it
+      module _ (a : ℕ) (bl : Left (Id a)) (words₂ slots₂ : List ℕ) (s₂ : DagArena) where
+        abbrev Right : Answer → Type 0
+        Right answer = Sums words₁ slots₁ s₁ (rightHalf ts) words₂ slots₂ (record { answer = answer; arena = s₂ })
 
-          pub right-summable : Summable words₁ slots₁ (left .arena) us
-          right-summable = record {
-            sound = bl .kept .whole;
-            few = omega (arith, right-less, sm .few);
-            below =
-                below-of (left .arena .count) us
-                (lower-up (s .count) (left .arena .count) (bl .kept .count) us
-                (subst (Lower (s .count)) (sym half) (lower-drop (s .count) h ts (lower-of (s .count) ts (sm .below)))));
-          }
+        abbrev ns₂ : List Node
+        ns₂ = nodesIn words₂ (s₂ .count)
 
-          module _ (words₂ slots₂ : List ℕ) (right : Built) (br : Sums words₁ slots₁ (left .arena) us words₂ slots₂ right) where
-            abbrev ns₂ : List Node
-            ns₂ = nodesIn words₂ (right .arena .count)
+        kept₂ : (answer : Answer) → Right answer → Kept words slots s words₂ slots₂ s₂
+        kept₂ answer br = kept-trans words slots s words₁ slots₁ s₁ words₂ slots₂ s₂ (bl .kept) (br .kept)
 
-            kept₂ : Kept words slots s words₂ slots₂ (right .arena)
-            kept₂ = kept-trans words slots s words₁ slots₁ (left .arena) words₂ slots₂ (right .arena) (bl .kept) (br .kept)
+        after-right : (answer : Answer) → Right answer → then (plainBuilt answer ns₂) (λ os y. internAdd l os a y) ≡ sumOfKept l ns ts
+        after-right answer br =
+            ap (λ (m : I.Built). then m (λ os y. internAdd l os a y)) (br .answer)
+            ∙ ap (λ (k : Lent). then (sumOfKept k ns₁ (rightHalf ts)) (λ os y. internAdd l os a y)) (lent-same words slots s words₁ slots₁ s₁ (bl .kept))
+            ∙ after-left (Id a) bl
 
-            after-right : (answer : Answer) → right .answer ≡ answer → then (plainBuilt answer ns₂) (λ os y. internAdd l os a y) ≡ sumOfKept l ns ts
-            after-right answer e =
-                ap (λ (m : I.Built). then m (λ os y. internAdd l os a y)) (ap (λ (x : Answer). plainBuilt x ns₂) (sym e) ∙ br .answer)
-                ∙ ap₂ (λ (k : Lent) (vs : List ℕ). then (sumOfKept k ns₁ vs) (λ os y. internAdd l os a y)) (lent-same words slots s words₁ slots₁ (left .arena) (bl .kept)) half
-                ∙ after-left (Id a) ea
+        right-stops : (number : ℕ) → Right (Refused number) → Sums words slots s ts words₂ slots₂ (record { answer = Refused number; arena = s₂ })
+        right-stops number br = record { answer = after-right (Refused number) br; kept = kept₂ (Refused number) br; low = br .low }
 
-            pub right-stops : (number : ℕ) → right .answer ≡ Refused number → Sums words slots s ts words₂ slots₂ right
-            right-stops number e = record { answer = ap (λ (x : Answer). plainBuilt x ns₂) e ∙ after-right (Refused number) e; kept = kept₂; low = br .low }
+        both-halves : (b : ℕ) → Right (Id b) → (words₃ slots₃ : List ℕ) (r : Built) → Adds words₂ slots₂ s₂ a b words₃ slots₃ r → Sums words slots s ts words₃ slots₃ r
+        both-halves b br words₃ slots₃ r bi = record {
+          answer =
+              bi .answer
+              ∙ ap (λ (k : Lent). internAdd k ns₂ a b) (lent-same words slots s words₂ slots₂ s₂ (kept₂ (Id b) br))
+              ∙ after-right (Id b) br;
+          kept = kept-trans words slots s words₂ slots₂ s₂ words₃ slots₃ (r .arena) (kept₂ (Id b) br) (bi .kept);
+          low = bi .low;
+        }
 
-            module _ (b : ℕ) (eb : right .answer ≡ Id b) where
-              pub left-below : a < right .arena .count
-              left-below =
-                  let low : a < left .arena .count = subst (λ (x : Answer). Low x (left .arena .count)) ea (bl .low) in
-                  omega (arith, br .kept .count)
+    -- the same by numbers
+    module _ (words₁ slots₁ : List ℕ) (s₁ : DagArena) (a : ℕ) (na : SumsNumber words slots s (leftHalf ts) words₁ slots₁ a s₁) where
+      pub left-refused : mostNodes ≤ a → SumsNumber words slots s ts words₁ slots₁ a s₁
+      left-refused past = refusal-stays words slots s _ words slots s _ words₁ slots₁ s₁ a na past (left-stops words₁ slots₁ s₁)
 
-              pub right-below : b < right .arena .count
-              right-below = subst (λ (x : Answer). Low x (right .arena .count)) eb (br .low)
+      module _ (a-low : a < mostNodes) where
+        bl : Left words₁ slots₁ s₁ (Id a)
+        bl = is-id words slots s _ words₁ slots₁ s₁ a na a-low
 
-              pub sums-halves : (words₃ slots₃ : List ℕ) (r : Built) → Adds words₂ slots₂ (right .arena) a b words₃ slots₃ r
-                  → Sums words slots s ts words₃ slots₃ r
-              sums-halves words₃ slots₃ r bi = record {
-                answer =
-                    bi .answer
-                    ∙ ap (λ (k : Lent). internAdd k ns₂ a b) (lent-same words slots s words₂ slots₂ (right .arena) kept₂)
-                    ∙ after-right (Id b) eb;
-                kept = kept-trans words slots s words₂ slots₂ (right .arena) words₃ slots₃ (r .arena) kept₂ (bi .kept);
-                low = bi .low;
-              }
+        pub right-summable : Summable words₁ slots₁ s₁ (rightHalf ts)
+        right-summable = record {
+          sound = bl .kept .whole;
+          few = omega (arith, right-less, sm .few);
+          below =
+              below-of (s₁ .count) (rightHalf ts)
+              (lower-up (s .count) (s₁ .count) (bl .kept .count) (rightHalf ts)
+              (subst (Lower (s .count)) (sym (right-half ts)) (lower-drop (s .count) (length ts / 2) ts (lower-of (s .count) ts (sm .below)))));
+        }
+
+        module _ (words₂ slots₂ : List ℕ) (s₂ : DagArena) (b : ℕ) (nb : SumsNumber words₁ slots₁ s₁ (rightHalf ts) words₂ slots₂ b s₂) where
+          pub right-refused : mostNodes ≤ b → SumsNumber words slots s ts words₂ slots₂ b s₂
+          right-refused past = refusal-stays words₁ slots₁ s₁ _ words slots s _ words₂ slots₂ s₂ b nb past (right-stops words₁ slots₁ s₁ a bl words₂ slots₂ s₂)
+
+          module _ (b-low : b < mostNodes) where
+            br : Right words₁ slots₁ s₁ a bl words₂ slots₂ s₂ (Id b)
+            br = is-id words₁ slots₁ s₁ _ words₂ slots₂ s₂ b nb b-low
+
+            pub halves-addable : (a < s₂ .count) × (b < s₂ .count) × Sound words₂ slots₂ s₂
+            halves-addable = let low : a < s₁ .count = bl .low in (omega (arith, br .kept .count), br .low, br .kept .whole)
+
+            pub sums-halves : (words₃ slots₃ : List ℕ) (number : ℕ) (s₃ : DagArena) → AddsNumber words₂ slots₂ s₂ a b words₃ slots₃ number s₃
+                → SumsNumber words slots s ts words₃ slots₃ number s₃
+            sums-halves words₃ slots₃ number s₃ n =
+                number-stays words₂ slots₂ s₂ _ words slots s _ words₃ slots₃ s₃ number n
+                (λ answer. both-halves words₁ slots₁ s₁ a bl words₂ slots₂ s₂ b br words₃ slots₃ (record { answer = answer; arena = s₃ }))

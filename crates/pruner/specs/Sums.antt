@@ -8,6 +8,7 @@ use Rattle.definitions.specs.Prune.{sumOfKept}
 use Rattle.arena.specs.declared.DagArena.{DagArena}
 use Rattle.store.specs.declared.Built.{Built}
 use Rattle.store.specs.View.{nodesIn, lent, Sound, Builds}
+use Rattle.store.specs.Number.{BuildsNumber}
 use Rattle.pruner.specs.Terms.{AllBelow}
 
 -- at most 4,096 terms of a sound store
@@ -25,3 +26,10 @@ Adds words slots arena left right = Builds words slots arena (internAdd (lent wo
 
 abbrev pub Sums : List ℕ → List ℕ → DagArena → List ℕ → List ℕ → List ℕ → Built → Type 0
 Sums words slots arena terms = Builds words slots arena (sumOfKept (lent words slots) (nodesIn words (arena .count)) terms)
+
+-- the same sums, with the answer as one number
+abbrev pub AddsNumber : List ℕ → List ℕ → DagArena → ℕ → ℕ → List ℕ → List ℕ → ℕ → DagArena → Type 0
+AddsNumber words slots arena left right = BuildsNumber words slots arena (internAdd (lent words slots) (nodesIn words (arena .count)) left right)
+
+abbrev pub SumsNumber : List ℕ → List ℕ → DagArena → List ℕ → List ℕ → List ℕ → ℕ → DagArena → Type 0
+SumsNumber words slots arena terms = BuildsNumber words slots arena (sumOfKept (lent words slots) (nodesIn words (arena .count)) terms)

@@ -1,12 +1,15 @@
 // The sum of the kept terms. 01: "0.0, the one term, or halves split at floor(n/2), left first".
-ghost use Prim.Native.Nat.{_<_};
+ghost use Prim.Native.Nat.{_<_, _≤_};
+ghost use lib.ListN.{length};
+ghost use Rattle.arena.specs.Layout.{arenaOf};
 ghost use Rattle.store.specs.View.{Sound};
-ghost use Rattle.pruner.specs.Sums.{Summable, Zero, Adds, Sums};
+ghost use Rattle.pruner.specs.Sums.{Summable, Zero, Sums, AddsNumber, SumsNumber};
 use arena::DagArena;
 use arena::kind::ADD;
 use arena::kind::CONSTANT;
 use store::Answer;
 use store::Built;
+use store::REFUSALS;
 
 // The binary64 bits of 0.0.
 const BITS_OF_ZERO: u64 = 0;
@@ -30,21 +33,69 @@ fn zero(nodes: &mut [u64], slots: &mut [u32], arena: DagArena) -> Built
     )
 }
 
-// The sum of two ids.
-fn add(nodes: &mut [u64], slots: &mut [u32], arena: DagArena, left: u64, right: u64) -> Built
-    requires { ⌜ (left < arena .count) × (right < arena .count) × Sound (now nodes) (now slots) arena ⌝ }
-    ensures { λ r. ⌜ Adds (now (nodes .entry)) (now (slots .entry)) arena left right (now (nodes .exit)) (now (slots .exit)) r ⌝ }
+// The sum of two ids, as a number.
+fn add(
+    nodes: &mut [u64],
+    slots: &mut [u32],
+    count: &mut u64,
+    size: &mut usize,
+    left: u64,
+    right: u64,
+) -> u64
+    requires { ⌜ (left < now count) × (right < now count) × Sound (now nodes) (now slots) (arenaOf (now count) (now size)) ⌝ }
+    ensures { λ r. ⌜ AddsNumber (now (nodes .entry)) (now (slots .entry)) (arenaOf (now (count .entry)) (now (size .entry))) left right (now (nodes .exit)) (now (slots .exit)) r (arenaOf (now (count .exit)) (now (size .exit))) ⌝ }
 {
-    store::intern(
+    store::intern_number(
         nodes,
         slots,
-        arena,
+        count,
+        size,
         ADD,
         0,
         ADD_FLAGS,
         2,
         [left, right, 0, 0],
     )
+}
+
+// The sum of one half, as a number: the one term, or the sum of its own halves.
+fn half(
+    nodes: &mut [u64],
+    slots: &mut [u32],
+    count: &mut u64,
+    size: &mut usize,
+    terms: &[u64],
+) -> u64
+    requires { ⌜ (1 ≤ length (now terms)) × Summable (now nodes) (now slots) (arenaOf (now count) (now size)) (now terms) ⌝ }
+    ensures { λ r. ⌜ SumsNumber (now (nodes .entry)) (now (slots .entry)) (arenaOf (now (count .entry)) (now (size .entry))) (now (terms .entry)) (now (nodes .exit)) (now (slots .exit)) r (arenaOf (now (count .exit)) (now (size .exit))) ⌝ }
+{
+    if terms.len() == 1 {
+        return terms[0];
+    }
+    sum(nodes, slots, count, size, terms)
+}
+
+// The sum of two or more terms, as a number. What was interned before a refusal stays.
+fn sum(
+    nodes: &mut [u64],
+    slots: &mut [u32],
+    count: &mut u64,
+    size: &mut usize,
+    terms: &[u64],
+) -> u64
+    requires { ⌜ (2 ≤ length (now terms)) × Summable (now nodes) (now slots) (arenaOf (now count) (now size)) (now terms) ⌝ }
+    ensures { λ r. ⌜ SumsNumber (now (nodes .entry)) (now (slots .entry)) (arenaOf (now (count .entry)) (now (size .entry))) (now (terms .entry)) (now (nodes .exit)) (now (slots .exit)) r (arenaOf (now (count .exit)) (now (size .exit))) ⌝ }
+{
+    let mid = terms.len() / 2;
+    let left = half(nodes, slots, count, size, &terms[..mid]);
+    if REFUSALS <= left {
+        return left;
+    }
+    let right = half(nodes, slots, count, size, &terms[mid..]);
+    if REFUSALS <= right {
+        return right;
+    }
+    add(nodes, slots, count, size, left, right)
 }
 
 // The sum of at most 4,096 terms. What was interned before a refusal stays.
@@ -63,23 +114,17 @@ pub fn balanced_add(nodes: &mut [u64], slots: &mut [u32], arena: DagArena, terms
             arena,
         };
     }
-    if n == 2 {
-        return add(nodes, slots, arena, terms[0], terms[1]);
+    let mut count = arena.count;
+    let mut size = arena.size;
+    let number = sum(nodes, slots, &mut count, &mut size, terms);
+    if REFUSALS <= number {
+        return Built {
+            answer: Answer::Refused(number - REFUSALS),
+            arena: DagArena { count, size },
+        };
     }
-    let mid = n / 2;
-    let left = balanced_add(nodes, slots, arena, &terms[..mid]);
-    let after_left = left.arena;
-    let left_answer = left.answer;
-    match left_answer {
-        Answer::Refused(_) => left,
-        Answer::Id(a) => {
-            let right = balanced_add(nodes, slots, after_left, &terms[mid..]);
-            let after_right = right.arena;
-            let right_answer = right.answer;
-            match right_answer {
-                Answer::Refused(_) => right,
-                Answer::Id(b) => add(nodes, slots, after_right, a, b),
-            }
-        }
+    Built {
+        answer: Answer::Id(number),
+        arena: DagArena { count, size },
     }
 }

@@ -4,6 +4,7 @@ pub mod Keeping
 pub mod Refining
 pub mod Stopping
 pub mod Numbers
+pub mod Decoding
 pub mod Reading
 pub mod NewNodes
 pub mod Marking

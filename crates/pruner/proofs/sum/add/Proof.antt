@@ -5,8 +5,8 @@ use Rattle.pruner.proofs.Summing as Q
 use Rattle.pruner.proofs.sum.add.Statement.{statement}
 use Rattle.pruner.proofs.sum.add.Tie as tie
 
-intern-requires : tie.Need-intern-requires
-intern-requires c κs = (Q.add-fits _ _ _ (c .before .before .before .before .pre .0) (c .before .before .before .before .pre .1), c .before .before .before .before .pre .2)
+intern-number-requires : tie.Need-intern-number-requires
+intern-number-requires c κs = (Q.add-fits _ _ _ (c .before .before .before .before .before .before .pre .0) (c .before .before .before .before .before .before .pre .1), c .before .before .before .before .before .before .pre .2)
 
 same-length : tie.Need-same-length
 same-length c = search needs
@@ -16,7 +16,7 @@ same-length-2 c = search needs
 
 returns : tie.Need-returns
 unfolding internAdd
-returns c = c .before .before .before .before .intern .ensures
+returns c = c .before .before .before .before .intern-number .ensures
 
 pub add-spec : {M : Type 1} → statement M
-add-spec = tie.close (tie.spec intern-requires same-length same-length-2 returns)
+add-spec = tie.close (tie.spec intern-number-requires same-length same-length-2 returns)
