@@ -16,17 +16,20 @@ use Rattle.listing_reader.specs.declared.Answer.{Answer}
 use Rattle.listing_reader.specs.declared.Answer.the-variants.{Read}
 use Rattle.listing_reader.specs.Numbers.{wordEnd}
 use Rattle.listing_reader.specs.First.{SmallOutcome}
-use Rattle.listing_reader.specs.Listing.{IsListing, Reading}
+use Rattle.listing_reader.specs.Listing.{AnswerListed, IsListing, Reading}
 
-module _ (ran : Ran) (words slots : List ℕ) (arena : DagArena) (sound : Sound words slots arena) (wide : (i : ℕ) → getD words i 0 < wordEnd) (same : nodesIn words (arena .count) ≡ ran .left .nodes) (small : SmallOutcome (outcomeOf (ran .refusal) (ran .answers))) where
+module _ (ran : Ran) (words slots : List ℕ) (arena : DagArena) (sound : Sound words slots arena) (wide : (i : ℕ) → getD words i 0 < wordEnd) (same : nodesIn words (arena .count) ≡ ran .left .nodes) (small : SmallOutcome (outcomeOf (ran .refusal) (ran .answers))) (listed : AnswerListed (outcomeOf (ran .refusal) (ran .answers)) (arena .count)) where
   -- the listing of a result whose nodes a sound store holds is a listing in the reader's sense
   pub listing-is : IsListing (listing ran) (outcomeOf (ran .refusal) (ran .answers)) words (arena .count)
   unfolding listing nodeAt
   listing-is = record {
-    text = ap₂ (λ (x y : List ℕ). x ++ lineFeed ∷ y) (sym (first-line-is (ran .refusal) (ran .answers))) (ap (nodeLines 0) (sym same) ∙ sym (append-nil (nodeLines 0 (nodesIn words (arena .count)))));
-    small = small;
-    formed = sound .nodes .formed;
-    wide = λ i l. wide (i * nodeWords + 1);
+    begins = record {
+      text = ap₂ (λ (x y : List ℕ). x ++ lineFeed ∷ y) (sym (first-line-is (ran .refusal) (ran .answers))) (ap (nodeLines 0) (sym same) ∙ sym (append-nil (nodeLines 0 (nodesIn words (arena .count)))));
+      small = small;
+      formed = sound .nodes .formed;
+      wide = λ i l. wide (i * nodeWords + 1);
+    };
+    answer = listed;
   }
 
   -- so it is read back: its first line, its count of nodes, and every word of them
