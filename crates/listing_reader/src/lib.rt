@@ -29,8 +29,8 @@ pub enum Answer {
     Full,
 }
 
-// Whether the id that a first line answers is that of one of so many nodes. A listing that was cut at a line's end has
-// fewer.
+// Whether the id that a first line answers, if it has one, is that of one of so many nodes. A listing that was cut before the
+// line of its answer has too few.
 fn is_answer_listed(outcome: Outcome, count: u64) -> bool
     ensures { λ r. ⌜ Says r (AnswerListed outcome count) ⌝ }
 {
