@@ -98,8 +98,8 @@ fn line_end(bytes: &[u8], at: usize) -> usize {
     bytes[at..].iter().position(|byte| *byte == b'\n').map_or(bytes.len(), |further| at + further + 1)
 }
 
-/// The first line is wrong only if it says nothing. The lines before a later one are read, without regard to an answer that is none of
-/// their nodes; and with it they are not, or it is missing and their nodes are too few for the answer.
+/// The first line is wrong only if it says nothing. The lines before a later one are read, without regard to an answer that is
+/// none of their nodes; and with it they are not, or it is missing and the answer is none of their nodes.
 fn wrong_line(bytes: &[u8], line: usize) -> Result<(), String> {
     let lines: Vec<&[u8]> = bytes.split_inclusive(|byte| *byte == b'\n').collect();
     if line == 0 || line > lines.len() + 1 {
@@ -115,7 +115,8 @@ fn wrong_line(bytes: &[u8], line: usize) -> Result<(), String> {
         return Err(format!("line {line} is refused, but the lines before it give {read_before:?}"));
     };
     let Some(it) = lines.get(line - 1) else {
-        return same("the answer of a listing that is cut short is a node", &first.is_listed(line - FIRST_NODE_LINE), &false);
+        let is_listed = first.is_listed(line - FIRST_NODE_LINE);
+        return same("the answer of a listing cut short is a node", &is_listed, &false);
     };
     let with_it = [&before[..], it].concat();
     same("the refused line by itself", &read(&with_it, WORDS + WORDS_PER_NODE), &Reading::Wrong(line as u64))
