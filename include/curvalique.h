@@ -389,15 +389,16 @@ void curvalique_list_sheet(
  * `count` is then the number of nodes and `form` that of the first line; with
  * CURVALIQUE_FORM_OK or CURVALIQUE_FORM_SPENT `id` is the line's id, with
  * CURVALIQUE_FORM_REFUSED `number` and `record` are the line's; what it does not
- * have, and `line`, stay as they were. It is not asked that no two nodes are one,
- * nor of the first line that the id is below the count or that a refusal's number
- * and record are such as 01 has: only that its numbers are words of 64 bits. Else
- * reading ends at the first line that is wrong or whose node has no place, and
- * all these stay. Refusals: CURVALIQUE_WRONG_LINE if the line is not as 01 has
- * it (but for what is not asked) or comes after 65,536 nodes; `line` is its
- * number, from 1, and the nodes before it are written. CURVALIQUE_TOO_FEW_WORDS
- * if the node has no place in the lent words; as many nodes as have place are
- * written, and `line` stays. Words past the written nodes stay.
+ * have, and `line`, stay as they were. The id is below the count. It is not asked
+ * that no two nodes are one, nor that a refusal's number and record are such as
+ * 01 has: only that they are words of 64 bits. Else reading ends at the first
+ * line that is wrong, is missing or whose node has no place, and all these stay.
+ * Refusals: CURVALIQUE_WRONG_LINE if the line is not as 01 has it (but for what
+ * is not asked), comes after 65,536 nodes, or is missing, where the bytes end
+ * before the node of the first line's id; `line` is its number, from 1, and the
+ * nodes before it are written. CURVALIQUE_TOO_FEW_WORDS if the node has no place
+ * in the lent words; as many nodes as have place are written, and `line` stays.
+ * Words past the written nodes stay.
  */
 uint64_t curvalique_read_listing(
     const uint8_t *bytes, size_t bytes_length, uint64_t *nodes, size_t node_words,

@@ -92,7 +92,7 @@ static size_t read_input(uint8_t *bytes, size_t most) {
     return length;
 }
 
-/* Reads the listing, and sees to it that its answer is one of its nodes. */
+/* Reads a listing that has an answer, which the reader sees to be one of its nodes. */
 static void read_listing(struct listing *listing) {
     static uint8_t bytes[CURVALIQUE_LISTING_BYTES];
     size_t length = read_input(bytes, sizeof bytes);
@@ -111,9 +111,6 @@ static void read_listing(struct listing *listing) {
     }
     if (listing->form == CURVALIQUE_FORM_REFUSED) {
         stop("the sheet is refused with %" PRIu64 " at record %" PRIu64, number, record);
-    }
-    if (listing->answer >= listing->count) {
-        stop("the answer %" PRIu64 " is no node of the listing", listing->answer);
     }
 }
 

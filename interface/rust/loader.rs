@@ -56,20 +56,17 @@ fn message(unread: Unread) -> String {
     }
 }
 
-/// The answer's id, which is one of the listing's nodes, and whether the last record ran out of its budget.
+/// The answer's id, which the reader sees to be one of the listing's nodes, and whether the last record ran out of its
+/// budget.
 fn answer_of(listing: &Listing) -> Result<(usize, bool), String> {
-    let (id, spent) = match listing.outcome {
-        Outcome::Ok(id) => (id, false),
-        Outcome::Spent(id) => (id, true),
-        Outcome::Empty => return Err("the sheet has no records and no answer".to_string()),
+    match listing.outcome {
+        Outcome::Ok(id) => Ok((id as usize, false)),
+        Outcome::Spent(id) => Ok((id as usize, true)),
+        Outcome::Empty => Err("the sheet has no records and no answer".to_string()),
         Outcome::Refused { refusal: Refusal(number), record } => {
-            return Err(format!("the sheet is refused with {number} at record {record}"));
+            Err(format!("the sheet is refused with {number} at record {record}"))
         }
-    };
-    if id >= listing.nodes().len() as u64 {
-        return Err(format!("the answer {id} is no node of the listing"));
     }
-    Ok((id as usize, spent))
 }
 
 /// The value of a node, from itself and the values of the nodes before it.

@@ -10,4 +10,5 @@ pub mod ChildLines
 pub mod NodeTexts
 pub mod Memory
 pub mod Listings
+pub mod SheetAnswers
 pub mod RoundTrip

@@ -1,13 +1,16 @@
 -- A listing tells its first line and its nodes.
 use Prim.Native.Nat.{ℕ, zero, suc, _+_, _*_, _-_, _/_, _≤_, _<_}
 use mathlib.Core.Path.{_≡_, refl, sym, ap, ap₂, _∙_, subst}
-use mathlib.Core.Bool.{true, false, false≢true}
+use mathlib.Core.Bool.{Bool, true, false, false≢true}
 use mathlib.Core.List.{List, [], _∷_, _++_, append-nil}
 use lib.ListN.{length, getD, take, drop, drop-of-length-le}
 use lib.Seq.{drop-cons, drop-drop}
+use lib.Dec.{ltb}
 use native.Mathlib.Omega.{arith}
+use borrow.Author.Tests.{ltb-true, ltb-false}
 use Rattle.definitions.specs.Listing.{lineFeed, space, decimal, okWord, spentWord, refusedWord, atWord, dash, nodeLine, nodeLines}
 use Rattle.arena.specs.declared.node.DagNode.{DagNode}
+use Rattle.arena.specs.Says.{Says}
 use Rattle.arena.specs.Layout.{nodeWords, mostNodes, mostChildren}
 use Rattle.arena.specs.Node.{nodeAt, put}
 use Rattle.arena.specs.Nodes.{WellFormed}
@@ -21,7 +24,7 @@ use Rattle.listing_reader.specs.declared.node.ListedNode.{ListedNode}
 use Rattle.listing_reader.specs.Numbers.{wordEnd, isDigit}
 use Rattle.listing_reader.specs.First.{SmallOutcome, FirstAt, NoFirst}
 use Rattle.listing_reader.specs.Line.{LineOf, NoLine, ReadsLine}
-use Rattle.listing_reader.specs.Listing.{Begins, IsListing, Wrong, first, later, OneMore, Reading}
+use Rattle.listing_reader.specs.Listing.{Begins, AnswerListed, IsListing, Wrong, first, later, missing, OneMore, Reading}
 use Rattle.listing_reader.proofs.Decimal.{starts-with-digit}
 use Rattle.listing_reader.proofs.Words.{feed-ends}
 use Rattle.listing_reader.proofs.FirstLines.{word-unique, lineBehind, ok-text, spent-text, empty-text, refused-text}
@@ -65,6 +68,15 @@ first-unique (O.Refused m q) (O.Refused n t) r s a b e =
     let v = line-behind-unique (space ∷ atWord) q t r s (a .1) (b .1) (u .1) in
     (ap₂ O.Refused (u .0) (v .0), v .1)
 
+-- ---- whether an outcome's id is that of a node
+
+-- what a test says of an equal outcome
+pub listed-as : (o o′ : Outcome) (count : ℕ) (r : Bool) → o ≡ o′ → Says r (AnswerListed o′ count) → Says r (AnswerListed o count)
+listed-as o o′ count r e s = subst (λ (q : Outcome). Says r (AnswerListed q count)) (sym e) s
+
+pub says-below : (i count : ℕ) → Says (ltb i count) (i < count)
+says-below i count = record { yes = ltb-true i count; no = λ e l. let m : count ≤ i = ltb-false i count e in absurd (omega arith) }
+
 -- ---- a listing, and bytes that begin like one
 
 -- the nodes of a listing that the first lines of the same bytes tell
@@ -79,7 +91,7 @@ run-of {w = w} {c = c} b = record {
       (subst (λ (x : ℕ). WellFormed x (nodeAt w x)) z (b .formed .each k l), subst (λ (x : ℕ). nodeAt w x .payload < wordEnd) z (b .wide k l));
 }
 
-agree : {bytes : List ℕ} {o o′ : Outcome} {w w′ : List ℕ} {c c′ : ℕ} {rest : List ℕ} → IsListing bytes o w c → Begins bytes o′ w′ c′ rest → Agrees w w′ o o′ c c′ rest
+agree : {bytes : List ℕ} {o o′ : Outcome} {w w′ : List ℕ} {c c′ : ℕ} {rest : List ℕ} → Begins bytes o w c [] → Begins bytes o′ w′ c′ rest → Agrees w w′ o o′ c c′ rest
 agree {bytes} {o} {o′} {w} {w′} {c} {c′} {rest} b b′ =
     let u = first-unique o o′ (nodeLines 0 (nodesIn w c) ++ []) (nodeLines 0 (nodesIn w′ c′) ++ rest) (b .small) (b′ .small) (sym (b .text) ∙ b′ .text) in
     let e : linesFrom w c 0 ≡ linesFrom w′ c′ 0 ++ rest = sym (append-nil (nodeLines 0 (nodesIn w c)) ∙ lines-are w c) ∙ u .1 ∙ ap (λ (x : List ℕ). x ++ rest) (lines-are w′ c′) in
@@ -88,8 +100,8 @@ agree {bytes} {o} {o′} {w} {w′} {c} {c′} {rest} b b′ =
 
 -- ---- what an answer says of every listing
 
--- two listings of the same bytes
-read-back : {bytes : List ℕ} {o o′ : Outcome} {w w′ : List ℕ} {c c′ : ℕ} → IsListing bytes o w c → IsListing bytes o′ w′ c′ → (o′ ≡ o) × ((c′ ≡ c) × (take (c * nodeWords) w′ ≡ take (c * nodeWords) w))
+-- the same bytes, told twice
+read-back : {bytes : List ℕ} {o o′ : Outcome} {w w′ : List ℕ} {c c′ : ℕ} → Begins bytes o w c [] → Begins bytes o′ w′ c′ [] → (o′ ≡ o) × ((c′ ≡ c) × (take (c * nodeWords) w′ ≡ take (c * nodeWords) w))
 read-back {o = o} {o′} {w} {w′} {c} {c′} b b′ =
     let a = agree b b′ in
     let z = none-left (a .nodes .left) (a .nodes .rest-is) in
@@ -103,8 +115,8 @@ read-back {o = o} {o′} {w} {w′} {c} {c′} b b′ =
     none-left zero e = refl
     none-left (suc j) e = absurd (left-some w j (0 + c′) e)
 
--- bytes that go on after some lines, and a listing of them
-more-nodes : {bytes : List ℕ} {o o′ : Outcome} {w w′ : List ℕ} {c c′ : ℕ} {rest : List ℕ} → IsListing bytes o w c → Begins bytes o′ w′ c′ rest → (rest ≡ [] → ⊥) → (c′ < c) × LineOf rest c′ (nodeAt w c′) (linesFrom w (c - c′ - 1) (suc c′))
+-- bytes that go on after some lines, and all of them told
+more-nodes : {bytes : List ℕ} {o o′ : Outcome} {w w′ : List ℕ} {c c′ : ℕ} {rest : List ℕ} → Begins bytes o w c [] → Begins bytes o′ w′ c′ rest → (rest ≡ [] → ⊥) → (c′ < c) × LineOf rest c′ (nodeAt w c′) (linesFrom w (c - c′ - 1) (suc c′))
 more-nodes {w = w} {w′} {c} {c′} {rest} b b′ n = go (a .left) (a .long) (a .rest-is)
   where
     a : Longer w w′ c c′ 0 rest
@@ -122,12 +134,15 @@ more-nodes {w = w} {w′} {c} {c′} {rest} b b′ n = go (a .left) (a .long) (a
         (omega arith, subst (λ (x : ℕ). LineOf rest c′ (nodeAt w c′) (linesFrom w x (suc c′))) z (left-line h (e ∙ ap (linesFrom w (suc j)) y)))
 
 no-listing : {bytes words : List ℕ} {line : ℕ} → Wrong bytes words line → (o : Outcome) (w : List ℕ) (c : ℕ) → IsListing bytes o w c → ⊥
-no-listing (first h) o w c b = h o (nodeLines 0 (nodesIn w c) ++ []) (b .small) (b .text)
+no-listing (first h) o w c b = h o (nodeLines 0 (nodesIn w c) ++ []) (b .begins .small) (b .begins .text)
 no-listing (later o′ count rest b′ n h) o w c b =
-    let m = more-nodes b b′ n in
+    let m = more-nodes (b .begins) b′ n in
     let l : count < c = m .0 in
-    let k = b .formed .many in
+    let k = b .begins .formed .many in
     h (omega arith) (nodeAt w count) _ (m .1)
+no-listing (missing o′ count b′ n) o w c b =
+    let r = read-back (b .begins) b′ in
+    n (subst (λ (k : ℕ). AnswerListed o′ k) (sym (r .1 .0)) (subst (λ (q : Outcome). AnswerListed q c) (sym (r .0)) (b .answer)))
 
 -- ---- the answers
 
@@ -135,8 +150,8 @@ module _ (bytes before after : List ℕ) (long : length after ≡ length before)
   pub reading-read : (o : Outcome) (count : ℕ) → IsListing bytes o after count → drop (count * nodeWords) after ≡ drop (count * nodeWords) before → Reading bytes before (Read o count) after
   reading-read o count b past = record {
     right = λ p c e. let x : o ≡ p = cc in let y : count ≡ c = cc in subst (λ (k : ℕ). IsListing bytes p after k) y (subst (λ (q : Outcome). IsListing bytes q after count) x b);
-    whole = λ p w c l f. let r = read-back l b in (ap₂ Read (r .0) (r .1 .0), r .1 .1);
-    short = λ p w c l f. absurd (let y : count ≡ c = read-back l b .1 .0 in let g : count * nodeWords ≤ length after = b .formed .fits in omega arith);
+    whole = λ p w c l f. let r = read-back (l .begins) (b .begins) in (ap₂ Read (r .0) (r .1 .0), r .1 .1);
+    short = λ p w c l f. absurd (let y : count ≡ c = read-back (l .begins) (b .begins) .1 .0 in let g : count * nodeWords ≤ length after = b .begins .formed .fits in omega arith);
     refused = λ line e. absurd (let z : _≡_ {A = ℕ} 0 1 = cc in omega arith);
     full = λ e. absurd (let z : _≡_ {A = ℕ} 0 1 = cc in omega arith);
     past = past;
@@ -157,7 +172,7 @@ module _ (bytes before after : List ℕ) (long : length after ≡ length before)
   pub reading-full : OneMore bytes after (length before / nodeWords) → drop (length before / nodeWords * nodeWords) after ≡ drop (length before / nodeWords * nodeWords) before → Reading bytes before Full after
   reading-full m past = record {
     right = λ p c e. absurd (let z : _≡_ {A = ℕ} 0 1 = cc in omega arith);
-    whole = λ p words c l f. absurd (let k : length before / nodeWords < c = more-nodes l (m .begins) (line-some (m .line)) .0 in omega arith);
+    whole = λ p words c l f. absurd (let k : length before / nodeWords < c = more-nodes (l .begins) (m .begins) (line-some (m .line)) .0 in omega arith);
     short = λ p words c l f. refl;
     refused = λ to e. absurd (let z : _≡_ {A = ℕ} 0 1 = cc in omega arith);
     full = λ e. m;
@@ -187,19 +202,27 @@ lines-none before f = record {
 }
 
 module _ {bytes : List ℕ} {o : Outcome} {before after : List ℕ} {at count : ℕ} (d : LinesRead bytes o before after at count) where
-  pub lines-over : length bytes ≤ at → Reading bytes before (Read o count) after
-  lines-over l =
-      let e : drop at bytes ≡ [] = drop-of-length-le bytes l in
-      reading-read bytes before after (d .long) o count (subst (λ (x : List ℕ). Begins bytes o after count x) e (d .begins)) (d .past)
+  wrong-next : Wrong bytes after (count + 2) → Reading bytes before (Refused (count + 2)) after
+  wrong-next w =
+      let z : count ≡ count + 2 - 2 = omega arith in
+      reading-refused bytes before after (d .long) (count + 2) w (subst (λ (k : ℕ). drop (k * nodeWords) after ≡ drop (k * nodeWords) before) z (d .past))
+
+  module _ (l : length bytes ≤ at) {b : Bool} (r : Says b (AnswerListed o count)) where
+    all-begin : Begins bytes o after count []
+    all-begin = subst (λ (x : List ℕ). Begins bytes o after count x) (drop-of-length-le bytes l) (d .begins)
+
+    pub lines-over : b ≡ true → Reading bytes before (Read o count) after
+    lines-over e = reading-read bytes before after (d .long) o count (record { begins = all-begin; answer = r .yes e }) (d .past)
+
+    pub line-missing : b ≡ false → Reading bytes before (Refused (count + 2)) after
+    line-missing e = wrong-next (missing o count all-begin (r .no e))
 
   module _ (l : at < length bytes) where
     some-left : drop at bytes ≡ [] → ⊥
     some-left e = let z : _≡_ {A = ℕ} 0 1 = cc (drop-cons bytes at 0 l) in omega arith
 
     wrong : (count < mostNodes → NoLine (drop at bytes) count) → Reading bytes before (Refused (count + 2)) after
-    wrong h =
-        let z : count ≡ count + 2 - 2 = omega arith in
-        reading-refused bytes before after (d .long) (count + 2) (later o count (drop at bytes) (d .begins) some-left h) (subst (λ (k : ℕ). drop (k * nodeWords) after ≡ drop (k * nodeWords) before) z (d .past))
+    wrong h = wrong-next (later o count (drop at bytes) (d .begins) some-left h)
 
     pub too-many : count ≡ mostNodes → Reading bytes before (Refused (count + 2)) after
     too-many e = wrong (λ m. absurd (omega arith))

@@ -11,7 +11,7 @@ use Rattle.listing_reader.specs.declared.first.First.{First}
 use Rattle.listing_reader.specs.declared.first.First.the-variants.{Found, Nothing}
 use Rattle.listing_reader.specs.Numbers.{wordEnd}
 
--- the numbers of an outcome are words of 64 bits; more is not asked of them
+-- the numbers of an outcome are words of 64 bits
 abbrev pub SmallOutcome : Outcome → Type 0
 SmallOutcome (Ok i) = i < wordEnd
 SmallOutcome Empty = Unit {0}

@@ -10,6 +10,7 @@ use Rattle.arena.specs.Node.{nodeAt}
 use Rattle.arena.specs.Nodes.{AllWellFormed}
 use Rattle.store.specs.View.{nodesIn}
 use Rattle.listing_lines.specs.declared.Outcome.{Outcome}
+use Rattle.listing_lines.specs.declared.Outcome.the-variants.{Ok, Empty, Spent, Refused as RefusedAt}
 use Rattle.listing_lines.specs.Outcome.{firstLineOf}
 use Rattle.listing_reader.specs.declared.Answer.{Answer}
 use Rattle.listing_reader.specs.declared.Answer.the-variants.{Read, Refused, Full}
@@ -24,17 +25,26 @@ pub record Begins (bytes : List ℕ) (o : Outcome) (words : List ℕ) (count : �
   pub formed : AllWellFormed words count
   pub wide : (i : ℕ) → i < count → nodeAt words i .payload < wordEnd
 
--- Bytes that are the listing of an outcome and of the nodes in memory. Of the first line only this is asked, that its numbers are words of
--- 64 bits: the id after `ok` or `spent` is not compared with the count of nodes. Of the nodes only this, that each is well formed: two of
--- them may be the same.
-abbrev pub IsListing : List ℕ → Outcome → List ℕ → ℕ → Type 0
-IsListing bytes o words count = Begins bytes o words count []
+-- the id of an outcome is that of one of so many nodes; an outcome without an id asks for none
+abbrev pub AnswerListed : Outcome → ℕ → Type 0
+AnswerListed (Ok i) count = i < count
+AnswerListed Empty count = Unit {0}
+AnswerListed (Spent i) count = i < count
+AnswerListed (RefusedAt number at) count = Unit {0}
+
+-- Bytes that are the listing of an outcome and of the nodes in memory, the outcome's id among them. A refusal's numbers are only asked to be
+-- words of 64 bits, and the nodes only to be well formed: two of them may be the same.
+pub record IsListing (bytes : List ℕ) (o : Outcome) (words : List ℕ) (count : ℕ) : Type 0 where
+  pub begins : Begins bytes o words count []
+  pub answer : AnswerListed o count
 
 -- The number of the first line that is wrong: 1, where no first line stands; else that of a line that is there, after the lines of so many
--- nodes, and is not the line of the next node as 01 lists it, or comes after the 65,536 nodes that a store may have.
+-- nodes, and is not the line of the next node as 01 lists it, or comes after the 65,536 nodes that a store may have; or that of the line of
+-- the next node, where the bytes end before it and the first line's id is none of the nodes before.
 pub data Wrong (bytes words : List ℕ) : ℕ → Type 0 where
   first : NoFirst bytes → Wrong bytes words 1
   later : (o : Outcome) (count : ℕ) (rest : List ℕ) → Begins bytes o words count rest → (rest ≡ [] → ⊥) → (count < mostNodes → NoLine rest count) → Wrong bytes words (count + 2)
+  missing : (o : Outcome) (count : ℕ) → Begins bytes o words count [] → (AnswerListed o count → ⊥) → Wrong bytes words (count + 2)
 
 -- the lines of so many nodes, and of one more that a store may have, are right
 pub record OneMore (bytes words : List ℕ) (count : ℕ) : Type 0 where

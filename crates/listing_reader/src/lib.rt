@@ -5,7 +5,8 @@ mod node;
 mod number;
 mod word;
 
-ghost use Rattle.listing_reader.specs.Listing.{Reading};
+ghost use Rattle.arena.specs.Says.{Says};
+ghost use Rattle.listing_reader.specs.Listing.{AnswerListed, Reading};
 ghost use Rattle.listing_reader.specs.First.{FirstAt};
 use arena::MOST_NODES;
 use arena::NODE_WORDS;
@@ -26,6 +27,19 @@ pub enum Answer {
     Read { outcome: Outcome, count: u64 },
     Refused(u64),
     Full,
+}
+
+// Whether the id that a first line answers, if it has one, is that of one of so many nodes. A listing that was cut before the
+// line of its answer has too few.
+fn is_answer_listed(outcome: Outcome, count: u64) -> bool
+    ensures { λ r. ⌜ Says r (AnswerListed outcome count) ⌝ }
+{
+    match outcome {
+        Outcome::Ok(id) => id < count,
+        Outcome::Empty => true,
+        Outcome::Spent(id) => id < count,
+        Outcome::Refused { number: _, at: _ } => true,
+    }
 }
 
 // The lines of nodes from a place on, written into the lent words.
@@ -50,6 +64,9 @@ fn node_lines(bytes: &[u8], start: usize, outcome: Outcome, nodes: &mut [u64]) -
         store_node(nodes, count, node);
         at = line.next;
         count += 1;
+    }
+    if !is_answer_listed(outcome, count) {
+        return Answer::Refused(count + FIRST_NODE_LINE);
     }
     Answer::Read { outcome, count }
 }

@@ -96,7 +96,7 @@ fn show(bytes: &[u8]) {
 fn first_lines() {
     show(b"ok 0\n0 0 0000000000000007 4\n1 1 0000000000000000 0\n2 2 0000000000000000 3 0 1\n");
     show(b"ok -\n");
-    show(b"spent 18446744073709551615\n0 16 00000000FFFFFFFF 7\n");
+    show(b"spent 0\n0 16 00000000FFFFFFFF 7\n");
     show(b"refused 21 at 4\n0 1 FEDCBA9876543210 0\n");
     show(b"");
     show(b"ok 0");
@@ -128,6 +128,17 @@ fn wrong_lines() {
     show(b"ok 0\n0 0 0000000000000007 4\n1 8 0000000000000000 0 0\n2 1 0000000000000000 0 \n");
 }
 
+// The first line's id is that of no node: the line after the last is missing. First lines without an id ask for no node.
+fn missing_lines() {
+    show(b"ok 0\n");
+    show(b"ok 2\n0 0 0000000000000007 4\n");
+    show(b"ok 1\n0 0 0000000000000007 4\n");
+    show(b"spent 1\n0 0 0000000000000007 4\n");
+    show(b"spent 18446744073709551615\n0 16 00000000FFFFFFFF 7\n");
+    show(b"ok -\n0 0 0000000000000007 4\n");
+    show(b"refused 18446744073709551615 at 18446744073709551615\n");
+}
+
 // Four nodes have place, a fifth has not; a wrong fifth line is refused first.
 fn places() {
     show(
@@ -144,5 +155,6 @@ fn places() {
 fn main() {
     first_lines();
     wrong_lines();
+    missing_lines();
     places();
 }

@@ -37,8 +37,10 @@ static void check_reading(uint64_t returned, const struct reading *reading, cons
     if (returned == 0) {
         check(reading->form <= CURVALIQUE_FORM_REFUSED, "a listed form");
         check(reading->count + 1 == lines_of(listing), "a line for each node");
+        int answered = reading->form == CURVALIQUE_FORM_OK || reading->form == CURVALIQUE_FORM_SPENT;
+        check(!answered || reading->id < reading->count, "the answer is a node");
     } else if (returned == CURVALIQUE_WRONG_LINE) {
-        check(reading->line >= 1 && reading->line <= lines_of(listing) + 1, "the wrong line is there");
+        check(reading->line >= 1 && reading->line <= lines_of(listing) + 1, "the wrong line is there, or the next one");
     }
 }
 

@@ -1,6 +1,6 @@
 //! Damaged copies of a listing, read into lists of any length.
 
-use curvalique::{NODE_WORDS, TOO_FEW_WORDS, Unread, WRONG_LINE, read_listing};
+use curvalique::{NODE_WORDS, Outcome, TOO_FEW_WORDS, Unread, WRONG_LINE, read_listing};
 
 use crate::trial::{Group, Trial, UNTOUCHED, check, filled_block};
 
@@ -18,10 +18,13 @@ fn checked_reading(bytes: &[u8], nodes: &mut [u64]) -> (u64, usize) {
         Ok(listing) => {
             let count = listing.nodes().len();
             check(count + 1 == lines, "a line for each node");
+            if let Outcome::Ok(id) | Outcome::Spent(id) = listing.outcome {
+                check(id < count as u64, "the answer is a node");
+            }
             (0, count)
         }
         Err(Unread::WrongLine(line)) => {
-            check(line >= 1 && line <= lines as u64 + 1, "the wrong line is there");
+            check(line >= 1 && line <= lines as u64 + 1, "the wrong line is there, or the next one");
             (WRONG_LINE, line.saturating_sub(FIRST_NODE_LINE) as usize)
         }
         Err(Unread::TooFewWords) => (TOO_FEW_WORDS, places),

@@ -46,6 +46,14 @@ impl FirstLine {
         (first.text() == line).then_some(first)
     }
 
+    /// Whether its id, if it has one, is that of one of so many nodes.
+    pub fn is_listed(self, count: usize) -> bool {
+        match self {
+            FirstLine::Ok(id) | FirstLine::Spent(id) => id < count as u64,
+            FirstLine::Empty | FirstLine::Refused { .. } => true,
+        }
+    }
+
     pub fn text(self) -> String {
         match self {
             FirstLine::Ok(id) => format!("ok {id}\n"),

@@ -4,7 +4,7 @@ use native.Mathlib.Omega.{arith}
 use borrow.Author.Needs.{needs}
 use borrow.Author.Tests.{not-true, not-false}
 use Rattle.arena.specs.Layout.{mostNodes}
-use Rattle.listing_reader.proofs.Listings.{LinesRead, lines-none, lines-next, lines-over, too-many, wrong-line, no-place}
+use Rattle.listing_reader.proofs.Listings.{LinesRead, lines-none, lines-next, lines-over, line-missing, too-many, wrong-line, no-place}
 use Rattle.listing_reader.proofs.node_lines.Statement.{statement}
 use Rattle.listing_reader.proofs.node_lines.Tie as tie
 
@@ -56,11 +56,23 @@ loop-less c = let m = c .before .before .before .before .before .before .before 
 loop-again : tie.Need-loop-again Inv-loop μ-loop
 loop-again c = lines-next (c .before .before .before .before .before .before .before .before .before .before .before .loop .inv) (c .before .before .before .before .before .before .before .before .node-line .ensures) (not-false _ (c .before .before .before .before .before .before .if2 .left)) (c .before .before .before .before .before .before .before .before .before .if1 .left) (c .before .before .before .before .before .if3 .left) (c .before .before .store-node .ensures)
 
+is-answer-listed-requires : tie.Need-is-answer-listed-requires Inv-loop μ-loop
+is-answer-listed-requires c κs = search needs
+
+add-t20 : tie.Need-add-t20 Inv-loop μ-loop
+add-t20 c = let m = c .before .before .before .loop .inv .begins .formed .many in omega arith
+
 same-length-4 : tie.Need-same-length-4 Inv-loop μ-loop
-same-length-4 c = c .before .loop .inv .long
+same-length-4 c = c .before .before .before .loop .inv .long
 
 returns-4 : tie.Need-returns-4 Inv-loop μ-loop
-returns-4 c = lines-over (c .before .loop .inv) (c .loop-test .left)
+returns-4 c = line-missing (c .before .before .before .loop .inv) (c .before .before .loop-test .left) (c .before .is-answer-listed .ensures) (not-true _ (c .if4 .taken))
+
+same-length-5 : tie.Need-same-length-5 Inv-loop μ-loop
+same-length-5 c = c .before .before .before .loop .inv .long
+
+returns-5 : tie.Need-returns-5 Inv-loop μ-loop
+returns-5 c = lines-over (c .before .before .before .loop .inv) (c .before .before .loop-test .left) (c .before .is-answer-listed .ensures) (not-false _ (c .if4 .left))
 
 pub node-lines-spec : {M : Type 1} → statement M
 node-lines-spec =
@@ -82,5 +94,9 @@ node-lines-spec =
     add-count
     loop-less
     loop-again
+    is-answer-listed-requires
+    add-t20
     same-length-4
-    returns-4)
+    returns-4
+    same-length-5
+    returns-5)

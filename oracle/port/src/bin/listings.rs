@@ -1,5 +1,5 @@
 //! Sheets through the port's C interface: the listing beside the checker's, the store beside the listing, and the listing
-//! read back; and damaged listings, which are refused at their first wrong line or are listings of other nodes.
+//! read back; and damaged listings, which are refused at their first wrong or missing line or are listings of other nodes.
 //!
 //! usage: listings [SEED] [COUNT]
 
@@ -12,6 +12,8 @@ use port::sheets::{FirstLine, Reading, list, read, run_fresh};
 /// The listing program's store (01).
 const WORDS: usize = 512 * WORDS_PER_NODE;
 const SLOTS: usize = 1_024;
+/// The lines of a listing are counted from 1; that of node 0 is the second.
+const FIRST_NODE_LINE: usize = 2;
 const MODES: [Mode; 4] = [Mode::Domain, Mode::Any, Mode::Damaged, Mode::Limits];
 
 #[derive(Default)]
@@ -63,21 +65,26 @@ fn same<T: PartialEq + std::fmt::Debug>(what: &str, ours: &T, expected: &T) -> R
     if ours == expected { Ok(()) } else { Err(format!("{what}: {ours:?}, expected {expected:?}")) }
 }
 
-/// A listing with a byte changed, taken out or put in: what is read must be what stands there, and a refused line must be the
-/// first wrong one.
+/// A listing with a byte changed, taken out or put in, or cut at a line's end: what is read must be what stands there, with an
+/// answer among its nodes, and a refused line must be the first wrong one.
 fn damaged(random: &mut Random, mut bytes: Vec<u8>, tally: &mut Tally) -> Result<(), String> {
     let at = random.below(bytes.len());
     let byte = random.pick(b"0123456789AFaf -\nokspentrefusedat\0\xff");
-    match random.below(3) {
+    match random.below(4) {
         0 => bytes[at] = byte,
         1 => drop(bytes.remove(at)),
-        _ => bytes.insert(at, byte),
+        2 => bytes.insert(at, byte),
+        _ => bytes.truncate(line_end(&bytes, at)),
     }
     tally.damaged += 1;
     let text = String::from_utf8_lossy(&bytes).into_owned();
     let shown = |error: String| format!("{error}\n{text}");
     match read(&bytes, WORDS + WORDS_PER_NODE) {
-        Reading::Read(first, words) => same("listing of what was read", &written(first, &words), &bytes).map_err(shown),
+        Reading::Read(first, words) => {
+            let count = words.len() / WORDS_PER_NODE;
+            same("answer is a node", &first.is_listed(count), &true).map_err(shown)?;
+            same("listing of what was read", &written(first, &words), &bytes).map_err(shown)
+        }
         Reading::Wrong(line) => {
             tally.refused += 1;
             wrong_line(&bytes, line as usize).map_err(shown)
@@ -86,24 +93,33 @@ fn damaged(random: &mut Random, mut bytes: Vec<u8>, tally: &mut Tally) -> Result
     }
 }
 
-/// The lines before the refused one are read, without regard to an answer that is none of their nodes, and with it they are not.
+/// The place after the line that a byte is in.
+fn line_end(bytes: &[u8], at: usize) -> usize {
+    bytes[at..].iter().position(|byte| *byte == b'\n').map_or(bytes.len(), |further| at + further + 1)
+}
+
+/// The first line is wrong only if it says nothing. The lines before a later one are read, without regard to an answer that is
+/// none of their nodes; and with it they are not, or it is missing and the answer is none of their nodes.
 fn wrong_line(bytes: &[u8], line: usize) -> Result<(), String> {
     let lines: Vec<&[u8]> = bytes.split_inclusive(|byte| *byte == b'\n').collect();
-    if line == 0 || line > lines.len() {
+    if line == 0 || line > lines.len() + 1 {
         return Err(format!("line {line} is refused of {}", lines.len()));
     }
-    if line == 1 {
-        return match std::str::from_utf8(lines[0]).ok().and_then(FirstLine::of_text) {
-            Some(first) => Err(format!("line 1 is refused, but says {first:?}")),
-            None => Ok(()),
-        };
-    }
+    let first = lines.first().and_then(|text| std::str::from_utf8(text).ok()).and_then(FirstLine::of_text);
+    let (Some(first), 2..) = (first, line) else {
+        return same("the first line is refused", &(first, line), &(None, 1));
+    };
     let before = [b"ok -\n", &lines[1..line - 1].concat()[..]].concat();
-    let with_it = [&before[..], lines[line - 1]].concat();
-    match (read(&before, WORDS + WORDS_PER_NODE), read(&with_it, WORDS + WORDS_PER_NODE)) {
-        (Reading::Read(..), Reading::Wrong(again)) if again as usize == line => Ok(()),
-        other => Err(format!("line {line} is refused, but the lines before it and it alone give {other:?}")),
-    }
+    let read_before = read(&before, WORDS + WORDS_PER_NODE);
+    let Reading::Read(..) = read_before else {
+        return Err(format!("line {line} is refused, but the lines before it give {read_before:?}"));
+    };
+    let Some(it) = lines.get(line - 1) else {
+        let is_listed = first.is_listed(line - FIRST_NODE_LINE);
+        return same("the answer of a listing cut short is a node", &is_listed, &false);
+    };
+    let with_it = [&before[..], it].concat();
+    same("the refused line by itself", &read(&with_it, WORDS + WORDS_PER_NODE), &Reading::Wrong(line as u64))
 }
 
 /// The listing of a first line and nodes, by this program.
