@@ -16,17 +16,14 @@ use arena::MOST_NODES;
 use arena::NODE_WORDS;
 use arena::store_node;
 pub use auditing::audit;
+use definitions::refusals::NO_NODE_PLACE;
+use definitions::refusals::NO_SLOT_PLACE;
 use filling::place;
 use filling::rehash;
 use probing::Place;
 use probing::probe;
 use probing::slot_id;
 use sizes::load_limit;
-
-// 01: "21 no place for a new node", "22 a new node needs a doubling and the lent slots are too few".
-pub const NO_PLACE: u64 = 21;
-
-pub const NO_SLOTS: u64 = 22;
 
 // The id of an old node or of a new one, or the number of a refusal.
 pub enum Answer {
@@ -65,10 +62,10 @@ fn insert(
     let count = arena.count;
     let size = arena.size;
     if MOST_NODES <= count {
-        return refused(NO_PLACE, arena);
+        return refused(NO_NODE_PLACE, arena);
     }
     if nodes.len() < count as usize * NODE_WORDS + NODE_WORDS {
-        return refused(NO_PLACE, arena);
+        return refused(NO_NODE_PLACE, arena);
     }
     if (count as usize) < load_limit(size) {
         slots[free] = (count + 1) as u32;
@@ -82,7 +79,7 @@ fn insert(
         };
     }
     if slots.len() / 2 < size {
-        return refused(NO_SLOTS, arena);
+        return refused(NO_SLOT_PLACE, arena);
     }
     let doubled = size * 2;
     rehash(nodes, slots, doubled, count);
@@ -117,6 +114,6 @@ pub fn get_or_insert(
         },
         Place::Free(at) => insert(nodes, slots, arena, key, at),
         // A table within its load limit has an empty slot, so a search does not end here.
-        Place::Nowhere => refused(NO_SLOTS, arena),
+        Place::Nowhere => refused(NO_SLOT_PLACE, arena),
     }
 }

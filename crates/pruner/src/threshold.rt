@@ -3,8 +3,8 @@ ghost use mathlib.Core.Path.{_≡_};
 ghost use Rattle.definitions.specs.Threshold as T;
 ghost use Rattle.definitions.specs.Settings as Settings;
 ghost use Rattle.pruner.specs.Answers.{thresholdOf};
-use crate::refusals::BAD_SETTING;
-use crate::refusals::BAD_THRESHOLD;
+use definitions::refusals::BAD_SETTING;
+use definitions::refusals::BAD_THRESHOLD;
 
 // The bits of the largest threshold, infinity. Every number above them has a NaN's bits or the sign bit.
 const INFINITY_BITS: u64 = 0x7ff0_0000_0000_0000;

@@ -12,8 +12,8 @@ use crate::MOST_RECORDS;
 use crate::Ran;
 use crate::performing::Answer;
 use crate::performing::perform;
-use crate::refusals::TOO_MANY_RECORDS;
 use arena::DagArena;
+use definitions::refusals::TOO_MANY_RECORDS;
 use listing_lines::Outcome;
 use records::Cursor;
 
