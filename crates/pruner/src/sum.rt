@@ -3,6 +3,7 @@ ghost use Prim.Native.Nat.{_<_};
 ghost use Rattle.store.specs.View.{Sound};
 ghost use Rattle.pruner.specs.Sums.{Summable, Zero, Adds, Sums};
 use arena::DagArena;
+use arena::REORDERABLE;
 use arena::kind::ADD;
 use arena::kind::CONSTANT;
 use store::Answer;
@@ -10,8 +11,8 @@ use store::Built;
 
 // The binary64 bits of 0.0.
 const BITS_OF_ZERO: u64 = 0;
-// 01: "`add` and `mul` give flags 3".
-const ADD_FLAGS: u64 = 3;
+// The flags that `add` gives.
+const ADD_FLAGS: u64 = REORDERABLE;
 
 // 0.0, which stands for no terms.
 fn zero(nodes: &mut [u64], slots: &mut [u32], arena: DagArena) -> Built
