@@ -20,7 +20,7 @@ use crate::PAYLOAD;
 use crate::kind::CONSTANT;
 
 // The binary64 bits of 1.0.
-const BITS_OF_ONE: u64 = 4_607_182_418_800_017_408;
+pub const BITS_OF_ONE: u64 = 0x3ff0_0000_0000_0000;
 
 // A node by value carries its child places; unused ones are 0.
 pub struct DagNode {

@@ -6,11 +6,10 @@ use arena::DagArena;
 use arena::REORDERABLE;
 use arena::kind::ADD;
 use arena::kind::CONSTANT;
+use fold::BITS_OF_ZERO;
 use store::Answer;
 use store::Built;
 
-// The binary64 bits of 0.0.
-const BITS_OF_ZERO: u64 = 0;
 // The flags that `add` gives.
 const ADD_FLAGS: u64 = REORDERABLE;
 
