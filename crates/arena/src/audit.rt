@@ -1,5 +1,5 @@
 // The audit of nodes, for refusal 20.
-ghost use Rattle.arena.specs.Says.{Says};
+ghost use Rattle.definitions.specs.Says.{Says};
 ghost use Rattle.arena.specs.Nodes.{LowerChildren, WellFormed, AllWellFormed};
 use crate::DagNode;
 use crate::FLAGS_END;

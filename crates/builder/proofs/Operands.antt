@@ -12,7 +12,7 @@ use native.Mathlib.Decide.{decLt}
 use borrow.Author.Count.{below-more}
 use borrow.Author.Tests.{lt-ltb, le-ltb, ltb-true}
 use Rattle.arena.specs.Layout.{mostChildren}
-use Rattle.arena.proofs.Deciding.{both}
+use Rattle.definitions.proofs.Deciding.{both}
 use Rattle.definitions.specs.Machine.{allBelow}
 use Rattle.store.specs.Lookup.{Places}
 

@@ -2,7 +2,7 @@
 // count exceed floor(size·7/10)".
 ghost use mathlib.Core.Path.{_≡_};
 ghost use Prim.Native.Nat.{_%_};
-ghost use Rattle.arena.specs.Says.{Says};
+ghost use Rattle.definitions.specs.Says.{Says};
 ghost use Rattle.definitions.specs.Intern.{capacity};
 ghost use Rattle.dedup.specs.Table.{TableSize};
 

@@ -7,7 +7,7 @@ ghost use mathlib.Core.List.{[]};
 ghost use Prim.Native.Nat.{_*_, _≤_};
 ghost use lib.ListN.{length};
 ghost use Rattle.definitions.specs.Names.{entryBytes, internName, lookupName};
-ghost use Rattle.names.specs.Says.{Says};
+ghost use Rattle.definitions.specs.Says.{Says};
 ghost use Rattle.names.specs.Sound.{Sound};
 ghost use Rattle.names.specs.Calls.{answerOf, Allowed, Finds, Called, NameCalled};
 use definitions::refusals::BAD_NAME_LENGTH;

@@ -16,13 +16,13 @@ use Rattle.definitions.specs.Refusals.{badRecord, tooManyRecords}
 use Rattle.definitions.specs.Intern.{Lent}
 use Rattle.definitions.specs.Machine as M
 use Rattle.definitions.specs.Sheet as Sheet
-use Rattle.definitions.specs.Listing.{lastOf}
+use Rattle.definitions.proofs.Listing.{last-more}
 use Rattle.store.specs.Memory.{Memory, memory, model, Stays}
 use Rattle.store.proofs.Staying.{stays-refl, stays-trans}
 use Rattle.store.proofs.Viewing.{plain-length}
 use Rattle.arena.specs.declared.DagArena.{DagArena}
 use Rattle.records.specs.declared.Record.{Record}
-use Rattle.records.specs.Reading.{callOf, withRest, ReadsRecord}
+use Rattle.records.specs.Reading.{callOf, ReadsRecord}
 use Rattle.listing_lines.specs.declared.Outcome.{Outcome}
 use Rattle.listing_lines.specs.declared.Outcome.the-variants.{Ok, Empty, Spent, Refused as RefusedAt}
 use Rattle.listing_lines.specs.Outcome.{answeredAs, outcomeOf}
@@ -69,13 +69,9 @@ records-step more l al st (b ∷ bs) h = go (Sheet.recordCall (Sheet.cut (b ∷ 
 
 -- ---- answers
 
-last-snoc : (b : M.Answer) (al : List M.Answer) (a : M.Answer) → lastOf b (al ++ a ∷ []) ≡ a
-last-snoc b [] a = refl
-last-snoc b (c ∷ al) a = last-snoc c al a
-
 outcome-snoc : (al : List M.Answer) (a : M.Answer) → outcomeOf none (al ++ a ∷ []) ≡ answeredAs a
 outcome-snoc [] a = refl
-outcome-snoc (b ∷ al) a = ap answeredAs (last-snoc b al a)
+outcome-snoc (b ∷ al) a = ap answeredAs (last-more b al a)
 
 -- an answered record's answer, taken apart
 record Told (a : M.Answer) (id : ℕ) (spent : Bool) : Type 0 where
@@ -169,10 +165,10 @@ module _ (s : List ℕ) (plain : Sheet.Ran) (m : Memory) (p : Progress) (m′ : 
       abbrev k : ℕ
       k = mostRecords - (p .done + 1)
 
-      stepped : (o : Option M.Call) → callOf s (r .body) ≡ o → afterRecord k l al st (withRest o (drop (r .next .at) s)) ≡ plain
+      stepped : (o : Option M.Call) → callOf s (r .body) ≡ o → afterRecord k l al st (Sheet.withRest o (drop (r .next .at) s)) ≡ plain
       stepped o e =
           let n : suc k ≡ mostRecords - p .done = omega arith in
-          ap (λ (c : Option M.Call). afterRecord k l al st (withRest c (drop (r .next .at) s))) (sym e)
+          ap (λ (c : Option M.Call). afterRecord k l al st (Sheet.withRest c (drop (r .next .at) s))) (sym e)
           ∙ ap (afterRecord k l al st) (x .is)
           ∙ sym (records-step k l al st (drop (p .at) s) left)
           ∙ ap (λ (i : ℕ). Sheet.records i l al st (drop (p .at) s)) n

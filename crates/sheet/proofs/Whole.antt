@@ -21,7 +21,7 @@ use Rattle.store.proofs.Staying.{stays-refl}
 use Rattle.store.proofs.Sizes.{grown-is}
 use Rattle.builder.specs.declared.opening.FreshStore.{FreshStore}
 use Rattle.builder.specs.declared.opening.FreshStore.the-variants.{Store, Refused as RefusedStore}
-use Rattle.builder.specs.Opens.{freshAnswer, freshSlots, Opens}
+use Rattle.builder.specs.Opens.{freshAnswer, freshSlots, freshMemory, Opens}
 use Rattle.records.specs.declared.Cursor.{Cursor}
 use Rattle.records.specs.declared.Opened.{Opened}
 use Rattle.records.specs.declared.Opened.the-variants.{Records, Refused as RefusedSheet}
@@ -31,7 +31,7 @@ use Rattle.listing_lines.specs.declared.Outcome.the-variants.{Refused as Refuse
 use Rattle.listing_lines.proofs.Lines.{listing-of-memory}
 use Rattle.sheet.specs.declared.Ran.{Ran}
 use Rattle.sheet.specs.Running.{Finishes}
-use Rattle.sheet.specs.Sheets.{Runs, refusedAtStart, freshMemory, noStore, RunsFresh}
+use Rattle.sheet.specs.Sheets.{Runs, refusedAtStart, noStore, RunsFresh}
 use Rattle.sheet.proofs.Onward.{finish}
 
 pub runs-unsound : (s : List ℕ) (m : Memory) → (model .Sound m → ⊥) → Runs s m (RefusedAt notSound 0) m

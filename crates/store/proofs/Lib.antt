@@ -4,6 +4,7 @@ pub mod Keeping
 pub mod Refining
 pub mod Reading
 pub mod NewNodes
+pub mod Fitting
 pub mod Marking
 pub mod Leaving
 pub mod Staying
