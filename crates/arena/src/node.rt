@@ -34,7 +34,7 @@ pub struct DagNode {
 }
 
 // 01: "Coefficient: a constant's value, else 1.0."
-pub fn coefficient_of(kind: u64, payload: u64) -> u64
+pub(crate) fn coefficient_of(kind: u64, payload: u64) -> u64
     ensures { λ r. ⌜ r ≡ coefficient kind payload ⌝ }
 {
     if kind == CONSTANT {

@@ -36,7 +36,7 @@ fn keeps(nodes: &[u64], count: u64, threshold: u64, id: u64) -> bool
 }
 
 // The first `found` terms without those that are dropped, in order, in the first places; the answer is their number.
-pub fn filter(
+pub(crate) fn filter(
     nodes: &[u64],
     count: u64,
     threshold: u64,

@@ -138,7 +138,7 @@ pub fn prune_sound(
 }
 
 // 01: "a prune by setting is the prune at that threshold"; on a store that is known to be sound.
-pub fn prune_sound_by_setting(
+fn prune_sound_by_setting(
     nodes: &mut [u64],
     slots: &mut [u32],
     arena: DagArena,

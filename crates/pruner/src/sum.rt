@@ -48,7 +48,12 @@ fn add(nodes: &mut [u64], slots: &mut [u32], arena: DagArena, left: u64, right: 
 }
 
 // The sum of at most 4,096 terms. What was interned before a refusal stays.
-pub fn balanced_add(nodes: &mut [u64], slots: &mut [u32], arena: DagArena, terms: &[u64]) -> Built
+pub(crate) fn balanced_add(
+    nodes: &mut [u64],
+    slots: &mut [u32],
+    arena: DagArena,
+    terms: &[u64],
+) -> Built
     requires { ⌜ Summable (now nodes) (now slots) arena (now terms) ⌝ }
     ensures { λ r. ⌜ Sums (now (nodes .entry)) (now (slots .entry)) arena (now (terms .entry)) (now (nodes .exit)) (now (slots .exit)) r ⌝ }
 {

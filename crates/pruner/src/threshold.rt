@@ -16,7 +16,7 @@ pub enum Threshold {
 
 // 01: 7 is "threshold NaN or sign bit set". The largest threshold is infinity: every number above its bits has a NaN's bits
 // or the sign bit.
-pub fn given(bits: u64) -> Threshold
+pub(crate) fn given(bits: u64) -> Threshold
     ensures { λ r. ⌜ thresholdOf r ≡ T.given bits ⌝ }
 {
     if bits <= BITS_OF_INFINITY {
@@ -27,7 +27,7 @@ pub fn given(bits: u64) -> Threshold
 }
 
 // 01: "a prune by setting is the prune at that threshold".
-pub fn of_setting(setting: u32) -> Threshold
+pub(crate) fn of_setting(setting: u32) -> Threshold
     ensures { λ r. ⌜ thresholdOf r ≡ Settings.setting setting ⌝ }
 {
     match settings::threshold(setting) {
