@@ -9,11 +9,11 @@ use native.Mathlib.Omega.{arith}
 use native.Mathlib.Decide.{decLt}
 use Rattle.arena.specs.declared.node.DagNode.{DagNode}
 use Rattle.arena.specs.Layout.{mostChildren}
-use Rattle.arena.specs.Says.{Says}
+use Rattle.definitions.specs.Says.{Says}
 use Rattle.arena.specs.Kind.{listed}
 use Rattle.arena.specs.Node.{flagsEnd, nodeHash, coefficient}
 use Rattle.arena.specs.Nodes.{LowerChildren, WellFormed}
-use Rattle.arena.proofs.Deciding.{says-no, says-map, says-eq}
+use Rattle.definitions.proofs.Deciding.{says-no, says-map, says-eq}
 
 -- a child place that is as it should be
 abbrev pub Place : ℕ → ℕ → List ℕ → ℕ → Type 0

@@ -1,4 +1,3 @@
-pub mod Deciding
 pub mod Listing
 pub mod Words
 pub mod OneNode

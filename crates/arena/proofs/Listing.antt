@@ -8,7 +8,7 @@ use native.Mathlib.Omega.{arith}
 use borrow.Author.Tests.{eq-eqb, ne-eqb, le-leb, lt-leb, lt-ltb, le-ltb, eqb-true, leb-true}
 use Rattle.arena.specs.Layout.{mostChildren}
 use Rattle.arena.specs.Kind.{operatorArity, controlArity, listed, isNumber}
-use Rattle.arena.proofs.Deciding.{both}
+use Rattle.definitions.proofs.Deciding.{both}
 
 module _ (kind arity : ℕ) where
   several : (kind ≡ 2) ⊎ (kind ≡ 4) → leb 1 arity && leb arity 4 ≡ operatorArity kind arity

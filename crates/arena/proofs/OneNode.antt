@@ -10,7 +10,7 @@ use borrow.Author.Tests.{eq-eqb, eqb-true}
 use Rattle.arena.specs.declared.node.DagNode.{DagNode}
 use Rattle.definitions.specs.Node.{sameChildren}
 use Rattle.arena.specs.Node.{one, nodeHash, canonical}
-use Rattle.arena.proofs.Deciding.{both, is-false, same-test}
+use Rattle.definitions.proofs.Deciding.{both, is-false, same-test}
 
 pub children-eq : (a b : List ℕ) → sameChildren a b ≡ true → a ≡ b
 children-eq [] [] h = refl

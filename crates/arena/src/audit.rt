@@ -1,5 +1,5 @@
 // The audit of nodes, for refusal 20.
-ghost use Rattle.arena.specs.Says.{Says};
+ghost use Rattle.definitions.specs.Says.{Says};
 ghost use Rattle.arena.specs.Nodes.{LowerChildren, WellFormed, AllWellFormed};
 use crate::DagNode;
 use crate::FLAGS_END;
@@ -33,7 +33,7 @@ pub fn lower_children(children: [u64; MOST_CHILDREN], arity: u64, id: u64) -> bo
 }
 
 // Whether a node is as listed. The children are tested before they are cut to 4 bytes for the hash.
-pub fn well_formed(id: u64, node: DagNode) -> bool
+fn well_formed(id: u64, node: DagNode) -> bool
     ensures { λ r. ⌜ Says r (WellFormed id node) ⌝ }
 {
     if !is_listed(node.kind, node.payload, node.arity) {

@@ -39,7 +39,7 @@ pub const NUMBERS: u64 = 4_294_967_296;
 pub const MOST_OPERANDS: u64 = 4;
 
 // Whether an operator has so many children.
-pub fn operator_arity(kind: u64, arity: u64) -> bool
+fn operator_arity(kind: u64, arity: u64) -> bool
     ensures { λ r. ⌜ r ≡ operatorArity kind arity ⌝ }
 {
     match kind {
@@ -56,7 +56,7 @@ pub fn operator_arity(kind: u64, arity: u64) -> bool
 }
 
 // Whether a control has so many children.
-pub fn control_arity(control: u64, arity: u64) -> bool
+fn control_arity(control: u64, arity: u64) -> bool
     ensures { λ r. ⌜ r ≡ controlArity control arity ⌝ }
 {
     match control {

@@ -37,6 +37,8 @@ pub const MOST_NODES: u64 = 65_536;
 pub const COMMUTATIVE: u64 = 1;
 
 pub const ASSOCIATIVE: u64 = 2;
+// 01: "`add` and `mul` give flags 3". No call gives others.
+pub const REORDERABLE: u64 = COMMUTATIVE + ASSOCIATIVE;
 
 pub const CANONICAL: u64 = 4;
 

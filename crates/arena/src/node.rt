@@ -20,7 +20,7 @@ use crate::PAYLOAD;
 use crate::kind::CONSTANT;
 
 // The binary64 bits of 1.0.
-const BITS_OF_ONE: u64 = 4_607_182_418_800_017_408;
+pub const BITS_OF_ONE: u64 = 0x3ff0_0000_0000_0000;
 
 // A node by value carries its child places; unused ones are 0.
 pub struct DagNode {
@@ -34,7 +34,7 @@ pub struct DagNode {
 }
 
 // 01: "Coefficient: a constant's value, else 1.0."
-pub fn coefficient_of(kind: u64, payload: u64) -> u64
+pub(crate) fn coefficient_of(kind: u64, payload: u64) -> u64
     ensures { λ r. ⌜ r ≡ coefficient kind payload ⌝ }
 {
     if kind == CONSTANT {

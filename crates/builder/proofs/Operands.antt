@@ -11,7 +11,7 @@ use native.Mathlib.Numerals.{add-one}
 use native.Mathlib.Decide.{decLt}
 use borrow.Author.Tests.{lt-ltb, le-ltb, ltb-true}
 use Rattle.arena.specs.Layout.{mostChildren}
-use Rattle.arena.proofs.Deciding.{both}
+use Rattle.definitions.proofs.Deciding.{both}
 use Rattle.definitions.specs.Machine.{allBelow}
 use Rattle.store.specs.Lookup.{Places}
 

@@ -10,7 +10,7 @@ use Rattle.definitions.specs.Refusals.{noSlotPlace}
 use Rattle.definitions.specs.Machine.{freshRefused}
 use Rattle.definitions.specs.Promise.{Fresh}
 use Rattle.store.specs.View.{lent}
-use Rattle.store.specs.Memory.{memory, model}
+use Rattle.store.specs.Memory.{Memory, memory, model}
 use Rattle.builder.specs.declared.opening.FreshStore.{FreshStore}
 use Rattle.builder.specs.declared.opening.FreshStore.the-variants.{Store, Refused}
 
@@ -22,6 +22,10 @@ freshAnswer false = Store (record { count = 0; size = firstTableSize })
 abbrev pub freshSlots : Bool → List ℕ → List ℕ
 freshSlots true slots = slots
 freshSlots false slots = replicate firstTableSize 0 ++ drop firstTableSize slots
+
+-- the memory of a fresh store
+abbrev pub freshMemory : List ℕ → List ℕ → Memory
+freshMemory words slots = memory words (freshSlots false slots) (record { count = 0; size = firstTableSize })
 
 -- the answer, the slots after it, and "A fresh store is sound"
 pub record Opens (words slots : List ℕ) (r : FreshStore) (slots′ : List ℕ) : Type 0 where

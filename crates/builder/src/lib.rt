@@ -29,13 +29,3 @@ pub use operators::sub;
 pub use reading::Found;
 pub use reading::NodeRead;
 pub use reading::node;
-
-// 01, "Refusals": 4 operand not earlier, or id not below the count; 5 operator, flags or control value not listed;
-// 6 number of children; 20 store not sound.
-pub const BAD_OPERAND: u64 = 4;
-
-pub const BAD_CODE: u64 = 5;
-
-pub const BAD_CHILD_COUNT: u64 = 6;
-
-pub const NOT_SOUND: u64 = 20;

@@ -1,9 +1,9 @@
 // A fresh store.
 ghost use Rattle.builder.specs.Opens.{Opens};
 use arena::DagArena;
-use dedup::NO_SLOTS;
 use dedup::filling::rehash;
 use dedup::sizes::FIRST_SIZE;
+use definitions::refusals::NO_SLOT_PLACE;
 
 // The counts of a fresh store, or the number of a refusal.
 pub enum FreshStore {
@@ -16,7 +16,7 @@ pub fn fresh(nodes: &[u64], slots: &mut [u32]) -> FreshStore
     ensures { λ r. ⌜ Opens (now (nodes .entry)) (now (slots .entry)) r (now (slots .exit)) ⌝ }
 {
     if slots.len() < FIRST_SIZE {
-        return FreshStore::Refused(NO_SLOTS);
+        return FreshStore::Refused(NO_SLOT_PLACE);
     }
     rehash(nodes, slots, FIRST_SIZE, 0);
     FreshStore::Store(DagArena {

@@ -6,9 +6,8 @@ ghost use Rattle.definitions.specs.Node.{lastOperator, bothFlags};
 ghost use Rattle.definitions.specs.Machine as M;
 ghost use Rattle.builder.specs.Stores.{Stores};
 use crate::building::build;
-use arena::ASSOCIATIVE;
-use arena::COMMUTATIVE;
 use arena::DagArena;
+use arena::REORDERABLE;
 use arena::kind::ADD;
 use arena::kind::DIV;
 use arena::kind::MOD;
@@ -18,8 +17,6 @@ use arena::kind::POW;
 use arena::kind::SUB;
 use store::Built;
 
-// The flags of `add` and `mul`, the highest that a call may give.
-const REORDERABLE: u64 = COMMUTATIVE + ASSOCIATIVE;
 // Operator codes run from 0 Add to 6 Neg.
 const LAST_OPERATOR: u64 = NEG - ADD;
 

@@ -1,12 +1,12 @@
 // A node read back.
 ghost use Rattle.builder.specs.Reads.{Reads, refusedRead};
 ghost use mathlib.Core.Path.{_≡_};
-use crate::BAD_OPERAND;
-use crate::NOT_SOUND;
 use arena::DagArena;
 use arena::DagNode;
 use arena::MOST_CHILDREN;
 use arena::load;
+use definitions::refusals::BAD_OPERAND;
+use definitions::refusals::NOT_SOUND;
 use store::audit;
 
 // The node of an id, or the number of a refusal.

@@ -9,7 +9,7 @@ use native.Mathlib.Nat.{mod-lt}
 use native.Mathlib.Decide.{decLt, ℕ-discrete}
 use Rattle.arena.specs.Node.{nodeAt}
 use Rattle.arena.specs.Nodes.{AllWellFormed, Nodes}
-use Rattle.arena.proofs.Deciding.{is-false}
+use Rattle.definitions.proofs.Deciding.{is-false}
 use Rattle.arena.proofs.OneNode.{one-hash}
 use Rattle.definitions.specs.Intern.{capacity}
 use Rattle.dedup.specs.Table.{TableSize, slotFrom, Placed, Table, hashAt}

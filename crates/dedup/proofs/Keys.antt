@@ -10,7 +10,7 @@ use native.Mathlib.Decide.{decLt}
 use Rattle.arena.specs.declared.node.DagNode.{DagNode}
 use Rattle.arena.specs.Node.{nodeAt, one, nodeHash, find}
 use Rattle.arena.specs.Nodes.{AllWellFormed, Nodes}
-use Rattle.arena.proofs.Deciding.{is-false}
+use Rattle.definitions.proofs.Deciding.{is-false}
 use Rattle.arena.proofs.OneNode.{one-hash}
 use Rattle.arena.proofs.Finding.{find-none, find-one}
 use Rattle.dedup.specs.Table.{slotFrom, Placed, Table, hashAt}

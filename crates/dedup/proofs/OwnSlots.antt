@@ -9,9 +9,9 @@ use lib.Dec.{ltb, eqb}
 use native.Mathlib.Omega.{arith}
 use native.Mathlib.Decide.{decLt}
 use Rattle.arena.specs.declared.node.DagNode.{DagNode}
-use Rattle.arena.specs.Says.{Says}
+use Rattle.definitions.specs.Says.{Says}
 use Rattle.arena.specs.Node.{nodeAt, one}
-use Rattle.arena.proofs.Deciding.{says-no, says-map, says-eq}
+use Rattle.definitions.proofs.Deciding.{says-no, says-map, says-eq}
 use Rattle.arena.proofs.OneNode.{one-refl, one-same}
 use Rattle.dedup.specs.Table.{slotFrom}
 use Rattle.dedup.specs.Probe.{holds, Passed, Reaches, Frees, Finds}

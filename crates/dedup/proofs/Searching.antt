@@ -12,7 +12,7 @@ use borrow.Author.Tests.{lt-ltb, le-ltb, ltb-true}
 use Rattle.arena.specs.declared.node.DagNode.{DagNode}
 use Rattle.arena.specs.Node.{nodeAt, one, nodeHash}
 use Rattle.arena.specs.Nodes.{AllWellFormed}
-use Rattle.arena.proofs.Deciding.{both}
+use Rattle.definitions.proofs.Deciding.{both}
 use Rattle.arena.proofs.OneNode.{not-one, one-is, one-hash}
 use Rattle.dedup.specs.declared.probing.Place.{Place}
 use Rattle.dedup.specs.declared.probing.Place.the-variants.{Here, Free, Nowhere}

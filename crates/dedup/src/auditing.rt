@@ -2,7 +2,7 @@
 ghost use mathlib.Core.Path.{_≡_};
 ghost use Prim.Native.Nat.{_≤_, _<_};
 ghost use lib.ListN.{length};
-ghost use Rattle.arena.specs.Says.{Says};
+ghost use Rattle.definitions.specs.Says.{Says};
 ghost use Rattle.arena.specs.Nodes.{AllWellFormed, Nodes};
 ghost use Rattle.dedup.specs.Table.{Table, hashAt};
 ghost use Rattle.dedup.specs.Audit.{usedSlots, Fit, MeetsOwn, AllMeetOwn};

@@ -14,7 +14,7 @@ use arena::DagNode;
 use arena::load;
 
 // An id in the first free place from its key's hash. No node is compared.
-pub fn place(nodes: &[u64], slots: &mut [u32], size: usize, key: DagNode, id: u64)
+pub(crate) fn place(nodes: &[u64], slots: &mut [u32], size: usize, key: DagNode, id: u64)
     requires { ⌜ (id < mostNodes) × (key .hash ≡ nodeHash key) × Room (now slots) size ⌝ }
     ensures { λ r. ⌜ Taken (now (slots .entry)) size (key .hash) id (now (slots .exit)) ⌝ }
 {

@@ -1,7 +1,7 @@
 // The duplicate table of a store (dedup.rs): one node, one id. 01: "A slot is a 32-bit id + 1, or 0."
 ghost use mathlib.Core.Path.{_≡_};
 ghost use Rattle.arena.specs.Layout.{arenaOf};
-ghost use Rattle.arena.specs.Says.{Says};
+ghost use Rattle.definitions.specs.Says.{Says};
 ghost use Rattle.arena.specs.Nodes.{WellFormed, Nodes};
 ghost use Rattle.dedup.specs.Table.{Table, hashAt};
 ghost use Rattle.dedup.specs.Intern.{answered, Interns, Absent, HasRoom, InternsInRoom};
@@ -18,17 +18,14 @@ use arena::MOST_NODES;
 use arena::NODE_WORDS;
 use arena::store_node;
 pub use auditing::audit;
+use definitions::refusals::NO_NODE_PLACE;
+use definitions::refusals::NO_SLOT_PLACE;
 use filling::place;
 use filling::rehash;
 use probing::Place;
 use probing::probe;
 use probing::slot_id;
 use sizes::load_limit;
-
-// 01: "21 no place for a new node", "22 a new node needs a doubling and the lent slots are too few".
-pub const NO_PLACE: u64 = 21;
-
-pub const NO_SLOTS: u64 = 22;
 
 // What `get_or_insert_in_room` answers in place of an id: every id is below it.
 pub const NO_ROOM: u64 = MOST_NODES;
@@ -70,10 +67,10 @@ fn insert(
     let count = arena.count;
     let size = arena.size;
     if MOST_NODES <= count {
-        return refused(NO_PLACE, arena);
+        return refused(NO_NODE_PLACE, arena);
     }
     if nodes.len() < count as usize * NODE_WORDS + NODE_WORDS {
-        return refused(NO_PLACE, arena);
+        return refused(NO_NODE_PLACE, arena);
     }
     if (count as usize) < load_limit(size) {
         slots[free] = (count + 1) as u32;
@@ -87,7 +84,7 @@ fn insert(
         };
     }
     if slots.len() / 2 < size {
-        return refused(NO_SLOTS, arena);
+        return refused(NO_SLOT_PLACE, arena);
     }
     let doubled = size * 2;
     rehash(nodes, slots, doubled, count);
@@ -122,7 +119,7 @@ pub fn get_or_insert(
         },
         Place::Free(at) => insert(nodes, slots, arena, key, at),
         // A table within its load limit has an empty slot, so a search does not end here.
-        Place::Nowhere => refused(NO_SLOTS, arena),
+        Place::Nowhere => refused(NO_SLOT_PLACE, arena),
     }
 }
 

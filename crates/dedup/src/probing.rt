@@ -20,7 +20,7 @@ pub enum Place {
 }
 
 // The id that a slot in use holds.
-pub fn slot_id(slot: u32) -> u64
+pub(crate) fn slot_id(slot: u32) -> u64
     requires { ⌜ 0 < slot ⌝ }
     ensures { λ r. ⌜ r ≡ slot - 1 ⌝ }
 {
@@ -64,7 +64,7 @@ fn slot_holds(nodes: &[u64], slot: u32, key: DagNode, greatest: u64, known: u64)
 
 // The first slot from the key's hash onward, round the end, that is empty or holds a node that is one with the
 // key. Only nodes below `known` are compared.
-pub fn probe(nodes: &[u64], slots: &[u32], size: usize, key: DagNode, known: u64) -> Place
+pub(crate) fn probe(nodes: &[u64], slots: &[u32], size: usize, key: DagNode, known: u64) -> Place
     requires { ⌜ Ready (now nodes) known (now slots) size key ⌝ }
     ensures { λ r. ⌜ Probed (now (nodes .entry)) known (now (slots .entry)) size key r ⌝ }
 {

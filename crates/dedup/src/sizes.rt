@@ -2,7 +2,7 @@
 // count exceed floor(size·7/10)".
 ghost use mathlib.Core.Path.{_≡_};
 ghost use Prim.Native.Nat.{_%_};
-ghost use Rattle.arena.specs.Says.{Says};
+ghost use Rattle.definitions.specs.Says.{Says};
 ghost use Rattle.definitions.specs.Intern.{capacity};
 ghost use Rattle.dedup.specs.Table.{TableSize};
 
@@ -13,14 +13,14 @@ const LOAD: usize = 7;
 const LOAD_OF: usize = 10;
 
 // floor(size·7/10), by parts that cannot overflow.
-pub fn load_limit(size: usize) -> usize
+pub(crate) fn load_limit(size: usize) -> usize
     ensures { λ r. ⌜ r ≡ capacity size ⌝ }
 {
     size / LOAD_OF * LOAD + size % LOAD_OF * LOAD / LOAD_OF
 }
 
 // Whether a size is a power of two from 64 up.
-pub fn is_table_size(size: usize) -> bool
+pub(crate) fn is_table_size(size: usize) -> bool
     ensures { λ r. ⌜ Says r (TableSize size) ⌝ }
 {
     let mut rest = size;
@@ -34,7 +34,7 @@ pub fn is_table_size(size: usize) -> bool
 }
 
 // A number modulo the size.
-pub fn modulo_size(x: usize, size: usize) -> usize
+pub(crate) fn modulo_size(x: usize, size: usize) -> usize
     requires { ⌜ TableSize size ⌝ }
     ensures { λ r. ⌜ r ≡ x % size ⌝ }
 {

@@ -1,3 +1,4 @@
+pub mod Deciding
 pub mod Stable
 pub mod Intern
 pub mod Walk
@@ -22,3 +23,4 @@ pub mod Instance
 pub mod FractionBits
 pub mod KnownNames
 pub mod SheetCalls
+pub mod Listing

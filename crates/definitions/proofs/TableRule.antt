@@ -1,29 +1,17 @@
 -- A table's rule, shown at all of its entries by one test that antt computes over the whole table. Assumes nothing.
 use mathlib.Core.Path.{_∙_, subst, sym}
-use mathlib.Core.Bool.{Bool, true, false}
+use mathlib.Core.Bool.{Bool, true, _&&_}
 use mathlib.Core.List.{List, [], _∷_}
 use Prim.Native.Nat.{ℕ, zero, suc, _+_, _<_}
 use native.Mathlib.Nat.{add-zero, add-suc, suc-add, le-of-suc-le-suc, not-suc-le-zero}
 use lib.Dec.{T}
+use lib.Ieee.Fits.{and-l, and-r}
 use lib.ListN.{length, getD}
-
--- Both tests pass. The first alone decides which side is computed.
-abbrev both : Bool → Bool → Bool
-both true second = second
-both false second = false
-
-both-left : (first second : Bool) → T (both first second) → T first
-both-left true second passed = tt
-both-left false second passed = passed
-
-both-right : (first second : Bool) → T (both first second) → T second
-both-right true second passed = passed
-both-right false second passed = absurd passed
 
 -- the test passes at each entry and its number, where the first entry has the number `first`
 unfoldable pub every : (ℕ → ℕ → Bool) → ℕ → List ℕ → Bool
 every test first [] = true
-every test first (x ∷ xs) = both (test first x) (every test (suc first) xs)
+every test first (x ∷ xs) = test first x && every test (suc first) xs
 
 -- it passes at the entry in place k
 pub entry : (test : ℕ → ℕ → Bool) (first : ℕ) (table : List ℕ) → T (every test first table) → (k : ℕ) → k < length table
@@ -31,7 +19,7 @@ pub entry : (test : ℕ → ℕ → Bool) (first : ℕ) (table : List ℕ) → T
 unfolding every
 entry test first [] passed k inside = absurd (not-suc-le-zero inside)
 entry test first (x ∷ xs) passed zero inside =
-    subst (λ (n : ℕ). T (test n x)) (sym (add-zero first)) (both-left (test first x) (every test (suc first) xs) passed)
+    subst (λ (n : ℕ). T (test n x)) (sym (add-zero first)) (and-l (test first x) (every test (suc first) xs) passed)
 entry test first (x ∷ xs) passed (suc k) inside =
     subst (λ (n : ℕ). T (test n (getD xs k 0))) (suc-add first k ∙ sym (add-suc first k))
-    (entry test (suc first) xs (both-right (test first x) (every test (suc first) xs) passed) k (le-of-suc-le-suc inside))
+    (entry test (suc first) xs (and-r (test first x) (every test (suc first) xs) passed) k (le-of-suc-le-suc inside))

@@ -60,9 +60,10 @@ dash = 45 ∷ []
 
 -- ---- the first line
 
-abbrev pub lastOf : Answer → List Answer → Answer
-lastOf a [] = a
-lastOf a (b ∷ bs) = lastOf b bs
+-- the last of a list, or what stood before it
+abbrev pub lastOf : {A : Type 0} → A → List A → A
+lastOf x [] = x
+lastOf x (y ∷ ys) = lastOf y ys
 
 -- "`ok` and the last answer's id", or "`spent` and the id if the last record ran out"
 unfoldable pub answered : Answer → List ℕ

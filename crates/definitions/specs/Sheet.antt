@@ -137,9 +137,14 @@ cut [] = none
 cut (a ∷ []) = none
 cut (a ∷ b ∷ r) = let n = bigEndian (a ∷ b ∷ []) in cond (leb n (length r)) (some (take n r, drop n r)) none
 
+-- a call and what follows it
+abbrev pub withRest : Option Call → List ℕ → Option (Call × List ℕ)
+withRest none rest = none
+withRest (some c) rest = some (c, rest)
+
 abbrev pub recordCall : Option (List ℕ × List ℕ) → Option (Call × List ℕ)
 recordCall none = none
-recordCall (some br) = elim (body (br .0)) [ none ↦ none | some c ↦ some (c, br .1) ]
+recordCall (some br) = withRest (body (br .0)) (br .1)
 
 abbrev pub refusalOf : Answer → Option ℕ
 refusalOf (stored i) = none

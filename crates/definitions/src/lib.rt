@@ -1,5 +1,7 @@
-// The crate holds definitions only (specs/) and the proof of the promise over them (proofs/).
+// The crate holds definitions (specs/), the proof of the promise over them (proofs/) and the numbers of the refusals.
 // A crate has at least one function: this one says how many children a node has at most.
+pub mod refusals;
+
 ghost use mathlib.Core.Path.{_≡_};
 ghost use Rattle.definitions.specs.Limits.{mostChildren};
 

@@ -9,10 +9,8 @@ use arena::kind::DIV;
 use arena::kind::MUL;
 use arena::kind::SUB;
 
-// The bits of 0.0 and 1.0.
+// The bits of 0.0.
 pub const BITS_OF_ZERO: u64 = 0;
-
-pub const BITS_OF_ONE: u64 = 0x3ff0_0000_0000_0000;
 // With the sign's bit off, the patterns above the infinity's are those of NaN.
 pub const BITS_OF_INFINITY: u64 = 0x7ff0_0000_0000_0000;
 // 01: "A fold or merge to NaN stores 7FF8000000000000 (hex)."

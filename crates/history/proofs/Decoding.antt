@@ -9,7 +9,8 @@ use lib.Dec.{leb}
 use native.Mathlib.Omega.{arith}
 use borrow.Author.Tests.{leb-true}
 use Rattle.definitions.specs.Machine.{Call}
-use Rattle.history.specs.Encoding.{callOfCode, withRest, firstCall, Decoded, decoded, withFirst, decodeFrom, decode, unread}
+use Rattle.definitions.specs.Sheet.{withRest}
+use Rattle.history.specs.Encoding.{callOfCode, firstCall, Decoded, decoded, withFirst, decodeFrom, decode, unread}
 
 -- the rest after a call is shorter
 pub shorter : (ws : List ℕ) (c : Call) (r : List ℕ) → firstCall ws ≡ some (c, r) → length r < length ws

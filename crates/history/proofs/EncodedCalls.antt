@@ -11,7 +11,8 @@ use native.Mathlib.Omega.{arith}
 use borrow.Author.Tests.{le-leb}
 use Rattle.definitions.specs.Machine.{variable, constant, add, sub, mul, div, pow, modulo, neg, operator, function, select, ifElse, forLoop, control, Call, store, simplify, prune, pruneBySetting}
 use Rattle.definitions.specs.Promise.{All}
-use Rattle.history.specs.Encoding.{headerWords, wordValues, callOfCode, withRest, firstCall, decode, unread, readWords, wordsOf, encodeCall, encode, Word, WideWord, OperandsWithin, CallWithin, Encodes}
+use Rattle.definitions.specs.Sheet.{withRest}
+use Rattle.history.specs.Encoding.{headerWords, wordValues, callOfCode, firstCall, decode, unread, readWords, wordsOf, encodeCall, encode, Word, WideWord, OperandsWithin, CallWithin, Encodes}
 use Rattle.history.proofs.Decoding.{decode-none, decode-some, unread-none, unread-some, none-in-nothing}
 
 -- ---- the first call of a call's words and more

@@ -12,7 +12,8 @@ use native.Mathlib.Nat.{add-zero}
 use borrow.Author.Tests.{le-leb, lt-leb, leb-true}
 use Rattle.definitions.specs.Machine as M
 use Rattle.history.specs.declared.finding.Next.the-variants.{Call, Stop}
-use Rattle.history.specs.Encoding.{headerWords, lastCode, callOfCode, known, withRest, firstCall}
+use Rattle.definitions.specs.Sheet.{withRest}
+use Rattle.history.specs.Encoding.{headerWords, lastCode, callOfCode, known, firstCall}
 use Rattle.history.specs.Calling.{callBetween, WholeCall, FindsCall}
 use Rattle.history.proofs.CodeCalls.{known-has, unknown-has-none}
 

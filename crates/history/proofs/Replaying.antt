@@ -13,21 +13,22 @@ use Rattle.definitions.specs.Limits.{firstTableSize}
 use Rattle.definitions.specs.Refusals.{noSlotPlace}
 use Rattle.definitions.specs.Promise.{Fresh, Promise}
 use Rattle.definitions.proofs.Histories.{demand3}
+use Rattle.definitions.proofs.Listing.{last-more}
 use Rattle.store.specs.View.{lent}
 use Rattle.store.specs.Memory.{Memory, memory, model, Leaves, Stays}
 use Rattle.store.proofs.Keeping.{later}
 use Rattle.store.proofs.Staying.{grown-up, least-size}
 use Rattle.builder.specs.declared.opening.FreshStore.{FreshStore}
 use Rattle.builder.specs.declared.opening.FreshStore.the-variants as F
-use Rattle.builder.specs.Opens.{freshAnswer, freshSlots, Opens}
+use Rattle.builder.specs.Opens.{freshAnswer, freshSlots, freshMemory, Opens}
 use Rattle.history.specs.declared.reply.Answered.{Answered}
 use Rattle.history.specs.declared.reply.Reply.the-variants.{Nothing}
 use Rattle.history.specs.declared.Run.{Run}
 use Rattle.history.specs.declared.Replayed.the-variants.{Done, Refused}
 use Rattle.history.specs.Encoding.{firstCall, decode, unread, readWords}
 use Rattle.history.specs.Calling.{replyOf, RunsCallAt, WholeCall}
-use Rattle.history.specs.Replaying.{done, Continues, RunsAll, freshMemory, Promised, Replays}
-use Rattle.history.proofs.Turns.{turns-more, history-of, stays-in-turn, last-more, last-is}
+use Rattle.history.specs.Replaying.{done, Continues, RunsAll, Promised, Replays}
+use Rattle.history.proofs.Turns.{turns-more, history-of, stays-in-turn, last-is}
 use Rattle.history.proofs.Decoding.{decode-none, decode-some, unread-none, unread-some, none-in-nothing}
 
 -- the calls before a place were run, so many of them, and with those from there on they are all

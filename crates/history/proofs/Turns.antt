@@ -4,9 +4,11 @@ use mathlib.Core.Option.{some}
 use mathlib.Core.List.{List, [], _∷_, _++_}
 use Rattle.definitions.specs.Machine.{Call, Answer}
 use Rattle.definitions.specs.Promise as Promise
+use Rattle.definitions.specs.Listing.{lastOf}
+use Rattle.definitions.proofs.Listing.{last-more}
 use Rattle.store.specs.Memory.{Memory, model, Leaves, Stays}
 use Rattle.store.proofs.Staying.{stays-refl, stays-trans, leaves-stays}
-use Rattle.history.specs.Replaying.{lastOf, last, LeavesInTurn, done, next}
+use Rattle.history.specs.Replaying.{last, LeavesInTurn, done, next}
 
 pub turns-more : {m : Memory} {cs : List Call} {al : List Answer} {ms : List Memory} {c : Call} {a : Answer} {m′ : Memory}
     → LeavesInTurn m cs al ms → Leaves c (lastOf m ms) a m′ → LeavesInTurn m (cs ++ c ∷ []) (al ++ a ∷ []) (ms ++ m′ ∷ [])
@@ -22,10 +24,6 @@ stays-in-turn {m = m} done h = stays-refl m h
 stays-in-turn {m = m} {ms = m″ ∷ ms} (next {m′ = m′} {c = c} {a = a} l t) h =
     let one = leaves-stays c m a m′ h l in
     stays-trans m m′ (lastOf m′ ms) one (stays-in-turn t (one .sound))
-
-pub last-more : {A : Type 0} (m : A) (ms : List A) (x : A) → lastOf m (ms ++ x ∷ []) ≡ x
-last-more m [] x = refl
-last-more m (y ∷ ms) x = last-more y ms x
 
 pub last-is : {A : Type 0} (xs : List A) (x : A) → last (xs ++ x ∷ []) ≡ some x
 last-is [] x = refl

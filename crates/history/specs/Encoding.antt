@@ -7,6 +7,7 @@ use mathlib.Core.List.{List, [], _∷_, _++_}
 use lib.ListN.{length, getD, take, drop}
 use lib.Dec.{leb, eqb}
 use Rattle.definitions.specs.Machine.{Store, variable, constant, add, sub, mul, div, pow, modulo, neg, operator, function, select, ifElse, forLoop, control, Call, store, simplify, prune, pruneBySetting}
+use Rattle.definitions.specs.Sheet.{withRest}
 use Rattle.definitions.specs.Promise.{All}
 
 abbrev pub headerWords : ℕ
@@ -55,10 +56,6 @@ callOfCode code a b high low operands =
 -- whether a code has a call
 abbrev pub known : ℕ → Bool
 known code = leb code lastCode
-
-abbrev pub withRest : Option Call → List ℕ → Option (Call × List ℕ)
-withRest none r = none
-withRest (some c) r = some (c, r)
 
 -- the first call of the words and the words after it; none where no whole call with a known code stands
 unfoldable pub firstCall : List ℕ → Option (Call × List ℕ)

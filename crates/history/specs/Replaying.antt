@@ -6,25 +6,20 @@ use mathlib.Core.Option.{Option, none, some}
 use mathlib.Core.List.{List, [], _∷_, map}
 use lib.ListN.{length, drop}
 use Rattle.arena.specs.Layout.{nodeWords}
-use Rattle.definitions.specs.Limits.{firstTableSize}
 use Rattle.definitions.specs.Refusals.{noSlotPlace}
 use Rattle.definitions.specs.Intern.{tableSize}
 use Rattle.definitions.specs.Machine as M
+use Rattle.definitions.specs.Listing.{lastOf}
 use Rattle.definitions.specs.Promise.{Fresh, Promise, All}
 use Rattle.store.specs.View.{lent}
 use Rattle.store.specs.Memory.{Memory, memory, model, Leaves}
-use Rattle.builder.specs.Opens.{freshSlots}
+use Rattle.builder.specs.Opens.{freshMemory}
 use Rattle.history.specs.declared.reply.Answered.{Answered}
 use Rattle.history.specs.declared.Run.{Run}
 use Rattle.history.specs.declared.Replayed.{Replayed}
 use Rattle.history.specs.declared.Replayed.the-variants.{Done, Refused}
 use Rattle.history.specs.Encoding.{firstCall, decode, readWords}
 use Rattle.history.specs.Calling.{replyOf}
-
--- the last of a list, or what stood before it
-abbrev pub lastOf : {A : Type 0} → A → List A → A
-lastOf x [] = x
-lastOf x (y ∷ ys) = lastOf y ys
 
 -- the last of a list, if there is one
 abbrev pub last : {A : Type 0} → List A → Option A
@@ -58,11 +53,7 @@ pub record RunsAll (m : Memory) (calls : List ℕ) (r : Run) (m′ : Memory) : T
   pub continues : Continues m (decode calls) (r .last) m′
   pub counts : Counts calls r
 
--- "the first gets a fresh store": the memory that the calls begin from
-abbrev pub freshMemory : List ℕ → List ℕ → Memory
-freshMemory words slots = memory words (freshSlots false slots) (record { count = 0; size = firstTableSize })
-
--- The calls were run from a fresh store, and keep the promise of demand 3, with every store on the way sound.
+-- "the first gets a fresh store": the calls were run from it, and keep the promise of demand 3, with every store on the way sound.
 pub record Promised (words slots : List ℕ) (cs : List M.Call) (r : Answered) (words′ slots′ : List ℕ) : Type 0 where
   pub fresh : Fresh model (freshMemory words slots)
   pub run : Continues (freshMemory words slots) cs r (memory words′ slots′ (r .arena))

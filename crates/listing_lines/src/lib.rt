@@ -3,7 +3,6 @@ mod all;
 mod digits;
 mod line;
 mod node;
-mod refusals;
 
 pub use all::all_lines;
 pub use digits::BEFORE_LETTERS;
@@ -20,6 +19,8 @@ ghost use Rattle.listing_lines.specs.Line.{Holds};
 ghost use Rattle.listing_lines.specs.Outcome.{firstLineOf};
 ghost use Rattle.listing_lines.specs.Answers.{Lists, Refuses};
 use arena::DagArena;
+use definitions::refusals::BAD_OPERAND;
+use definitions::refusals::NOT_SOUND;
 use digits::with_number;
 use line::new;
 use line::with_bytes;
@@ -77,10 +78,10 @@ pub fn node_line(nodes: &[u64], slots: &[u32], arena: DagArena, id: u32) -> Node
     ensures { λ r. ⌜ Lists (memory (now (nodes .entry)) (now (slots .entry)) arena) id r ⌝ }
 {
     if !store::audit(nodes, slots, arena) {
-        return refused(refusals::NOT_SOUND);
+        return refused(NOT_SOUND);
     }
     if arena.count <= id as u64 {
-        return refused(refusals::BAD_OPERAND);
+        return refused(BAD_OPERAND);
     }
     let line = node_line_sound(nodes, arena.count, id as u64);
     NodeLine {

@@ -10,7 +10,7 @@ use native.Mathlib.Omega.{arith}
 use native.Mathlib.Numerals.{add-one}
 use native.Mathlib.Decide.{decLt}
 use borrow.Author.Tests.{leb-true, le-leb, lt-leb}
-use Rattle.arena.proofs.Deciding.{both}
+use Rattle.definitions.proofs.Deciding.{both}
 use Rattle.listing_reader.specs.Numbers.{isDigit}
 
 -- only a place of the list has a byte that is not 0

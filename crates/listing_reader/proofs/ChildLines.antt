@@ -1,5 +1,5 @@
 -- The children of a node's line, one at a time, and the line's end.
-use Prim.Native.Nat.{ℕ, zero, suc, _+_, _≤_, _<_}
+use Prim.Native.Nat.{ℕ, suc, _+_, _≤_, _<_}
 use mathlib.Core.Path.{_≡_, refl, sym, ap, ap₂, _∙_, subst}
 use mathlib.Core.Bool.{Bool, true, false}
 use mathlib.Core.List.{List, [], _∷_, _++_, append-assoc}
@@ -11,6 +11,7 @@ use lib.Dec.{eqb}
 use borrow.Author.Tests.{eqb-true, eqb-false}
 use Rattle.definitions.specs.Listing.{space, lineFeed, decimal, childrenPart}
 use Rattle.arena.specs.Layout.{mostChildren}
+use Rattle.store.proofs.Fitting.{no-children}
 use Rattle.listing_reader.specs.declared.number.Number as N
 use Rattle.listing_reader.specs.declared.number.Number.the-variants as NV
 use Rattle.listing_reader.specs.declared.node.Children.{Children}
@@ -74,17 +75,10 @@ pub record ChildrenRead (bytes : List ℕ) (at : ℕ) (places : List ℕ) (count
 pub none-read : (bytes : List ℕ) (at : ℕ) → ChildrenRead bytes at (0 ∷ 0 ∷ 0 ∷ 0 ∷ []) 0 at
 unfolding childrenPart
 none-read bytes at = record {
-  placed = record { four = refl; few = omega arith; unused = λ j l. zeros j; small = λ j. let z = zeros j in omega arith };
+  placed = record { four = refl; few = omega arith; unused = λ j l. no-children j; small = λ j. let z = no-children j in omega arith };
   text = refl;
   first = λ cs rest h e. record { more = cs; is = refl; text = e };
 }
-  where
-    zeros : (j : ℕ) → _≡_ {A = ℕ} (getD (0 ∷ 0 ∷ 0 ∷ 0 ∷ []) j 0) 0
-    zeros zero = refl
-    zeros (suc zero) = refl
-    zeros (suc (suc zero)) = refl
-    zeros (suc (suc (suc zero))) = refl
-    zeros (suc (suc (suc (suc j)))) = refl
 
 module _ {bytes : List ℕ} {at : ℕ} {places : List ℕ} {count next : ℕ} (c : ChildrenRead bytes at places count next) where
   done-long : length (take count places) ≡ count

@@ -10,7 +10,7 @@ use native.Mathlib.Omega.{arith}
 use borrow.Author.Tests.{ltb-true, ltb-false}
 use Rattle.definitions.specs.Listing.{lineFeed, space, decimal, okWord, spentWord, refusedWord, atWord, dash, nodeLine, nodeLines}
 use Rattle.arena.specs.declared.node.DagNode.{DagNode}
-use Rattle.arena.specs.Says.{Says}
+use Rattle.definitions.specs.Says.{Says}
 use Rattle.arena.specs.Layout.{nodeWords, mostNodes, mostChildren}
 use Rattle.arena.specs.Node.{nodeAt, put}
 use Rattle.arena.specs.Nodes.{WellFormed}

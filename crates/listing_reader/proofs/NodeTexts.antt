@@ -13,7 +13,7 @@ use Rattle.definitions.specs.Listing.{space, lineFeed, decimal, hex, childrenPa
 use Rattle.hash.specs.Fnv.{nodeHashOf}
 use Rattle.arena.specs.declared.node.DagNode.{DagNode}
 use Rattle.arena.specs.Layout.{mostChildren}
-use Rattle.arena.specs.Says.{Says}
+use Rattle.definitions.specs.Says.{Says}
 use Rattle.arena.specs.Kind.{listed}
 use Rattle.arena.specs.Node.{flagsEnd, newNode, nodeHash, coefficient}
 use Rattle.arena.specs.Nodes.{LowerChildren, WellFormed}

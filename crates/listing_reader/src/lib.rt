@@ -5,7 +5,7 @@ mod node;
 mod number;
 mod word;
 
-ghost use Rattle.arena.specs.Says.{Says};
+ghost use Rattle.definitions.specs.Says.{Says};
 ghost use Rattle.listing_reader.specs.Listing.{AnswerListed, Reading};
 ghost use Rattle.listing_reader.specs.First.{FirstAt};
 use arena::MOST_NODES;

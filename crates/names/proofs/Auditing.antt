@@ -6,10 +6,10 @@ use mathlib.Core.List.{List}
 use native.Mathlib.Omega.{arith}
 use borrow.Author.Count.{below-more}
 use Rattle.definitions.specs.Names.{mostNames}
-use Rattle.names.specs.Says.{Says}
+use Rattle.definitions.specs.Says.{Says}
 use Rattle.names.specs.Entry.{entryAt, SoundEntry, IsEntry}
 use Rattle.names.specs.Sound.{Sound, EntriesSound, NoNameTwice, lentEntries}
-use Rattle.names.proofs.Deciding.{says-no, says-map}
+use Rattle.definitions.proofs.Deciding.{says-no, says-map}
 
 module _ (bytes : List ℕ) (i : ℕ) (e : List ℕ) (r : Bool) (at : IsEntry bytes i e) (s : Says r (SoundEntry e)) where
   pub entry-bad : (count : ℕ) → i < count → r ≡ false → Says false (EntriesSound bytes count)

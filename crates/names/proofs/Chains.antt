@@ -11,8 +11,8 @@ use native.Mathlib.Omega.{arith}
 use native.Mathlib.Decide.{decLt, ℕ-discrete}
 use Rattle.definitions.specs.Names.{entryBytes, mostNames}
 use Rattle.names.specs.Entry.{entryAt, IsWord, IsByte, IsEntry}
-use Rattle.names.specs.Says.{Says}
-use Rattle.names.proofs.Deciding.{says-yes}
+use Rattle.definitions.specs.Says.{Says}
+use Rattle.definitions.proofs.Deciding.{says-yes}
 use Rattle.names.specs.Entry.{nameIn, entryOf}
 use Rattle.names.specs.Sound.{EntriesSound, NoNameTwice}
 use Rattle.names.proofs.Entries.{entry-length, sound-entry}

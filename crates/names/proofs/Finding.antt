@@ -6,7 +6,7 @@ use mathlib.Core.List.{List}
 use native.Mathlib.Omega.{arith}
 use borrow.Author.Count.{below-more}
 use Rattle.names.specs.declared.Found.the-variants.{At, Nothing}
-use Rattle.names.specs.Says.{Says}
+use Rattle.definitions.specs.Says.{Says}
 use Rattle.names.specs.Entry.{entryAt, IsEntry}
 use Rattle.names.specs.Calls.{Finds}
 

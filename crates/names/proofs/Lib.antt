@@ -1,4 +1,3 @@
-pub mod Deciding
 pub mod Words
 pub mod Entries
 pub mod Chains

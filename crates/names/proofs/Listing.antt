@@ -1,7 +1,7 @@
 -- The names of a list, and the number of a name among them.
 use Prim.Native.Nat.{ℕ, zero, suc, _+_, _<_}
 use mathlib.Core.Path.{_≡_, refl, sym, ap, _∙_, subst}
-use mathlib.Core.Bool.{Bool, true, false, _&&_, false≢true}
+use mathlib.Core.Bool.{Bool, true, false, false≢true}
 use mathlib.Core.Option.{none, some}
 use mathlib.Core.List.{List, [], _∷_, _++_}
 use lib.ListN.{length, getD, length-append, List·getD-append}
@@ -13,16 +13,13 @@ use native.Mathlib.Omega.{arith}
 use native.Mathlib.Decide.{decLt}
 use borrow.Author.Tests.{eq-eqb, eqb-true}
 use Rattle.definitions.specs.Names.{sameName, numberFrom}
+use Rattle.definitions.proofs.Deciding.{both}
 use Rattle.names.specs.Sound.{namesOf, nameAt}
 
 same-self : (a : List ℕ) → sameName a a ≡ true
 unfolding sameName
 same-self [] = refl
 same-self (x ∷ a) = rw (eq-eqb x x refl, same-self a) refl
-
-both : (p q : Bool) → (p && q) ≡ true → (p ≡ true) × (q ≡ true)
-both true q e = (refl, e)
-both false q e = absurd (false≢true e)
 
 same-one : (a b : List ℕ) → sameName a b ≡ true → a ≡ b
 unfolding sameName

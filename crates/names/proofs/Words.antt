@@ -10,9 +10,9 @@ use native.Mathlib.Nat.{add-zero}
 use native.Mathlib.Omega.{arith}
 use native.Mathlib.Decide.{decLt}
 use Rattle.definitions.specs.Names.{entryBytes}
-use Rattle.names.specs.Says.{Says}
+use Rattle.definitions.specs.Says.{Says}
 use Rattle.names.specs.Entry.{byteValues, wordBytes, nameWords, halfWordBytes, halfWordValues, halfWordAt, wordAt, IsWord}
-use Rattle.names.proofs.Deciding.{says-no, says-map, says-eq}
+use Rattle.definitions.proofs.Deciding.{says-no, says-map, says-eq}
 
 -- the lowest digit of a number, and the rest
 digit : (a b x y : ℕ) → a < byteValues → b < byteValues → a + byteValues * x ≡ b + byteValues * y → (a ≡ b) × (x ≡ y)

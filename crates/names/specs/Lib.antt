@@ -1,4 +1,3 @@
-pub mod Says
 pub mod Entry
 pub mod Sound
 pub mod Buckets

@@ -4,7 +4,7 @@ ghost use mathlib.Core.Path.{_≡_};
 ghost use Prim.Native.Nat.{_*_, _≤_};
 ghost use lib.ListN.{length};
 ghost use Rattle.definitions.specs.Names.{entryBytes, mostNames};
-ghost use Rattle.names.specs.Says.{Says};
+ghost use Rattle.definitions.specs.Says.{Says};
 ghost use Rattle.names.specs.Sound.{Sound, EntriesSound, NoNameTwice};
 ghost use Rattle.names.specs.Buckets.{Chained, StandsBefore};
 

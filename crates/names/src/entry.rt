@@ -3,7 +3,7 @@ ghost use mathlib.Core.Path.{_≡_};
 ghost use Prim.Native.Nat.{_+_, _*_, _≤_, _<_};
 ghost use lib.ListN.{length, getD, drop};
 ghost use Rattle.definitions.specs.Names.{longestName, entryBytes};
-ghost use Rattle.names.specs.Says.{Says};
+ghost use Rattle.definitions.specs.Says.{Says};
 ghost use Rattle.names.specs.Entry.{putEntry, SoundEntry, IsEntry, IsEntryOf, IsByte, halfWordBytes, IsHalfWord, wordBytes, IsWord};
 ghost use Rattle.names.specs.Buckets.{IsBucket};
 

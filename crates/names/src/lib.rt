@@ -7,16 +7,12 @@ ghost use mathlib.Core.List.{[]};
 ghost use Prim.Native.Nat.{_*_, _≤_};
 ghost use lib.ListN.{length};
 ghost use Rattle.definitions.specs.Names.{entryBytes, internName, lookupName};
-ghost use Rattle.names.specs.Says.{Says};
+ghost use Rattle.definitions.specs.Says.{Says};
 ghost use Rattle.names.specs.Sound.{Sound};
 ghost use Rattle.names.specs.Calls.{answerOf, Allowed, Finds, Called, NameCalled};
-
-// The refusals of 01 that a name call has.
-const BAD_NAME_LENGTH: u64 = 9;
-
-const NOT_SOUND: u64 = 20;
-
-const NO_NAME_PLACE: u64 = 24;
+use definitions::refusals::BAD_NAME_LENGTH;
+use definitions::refusals::NO_NAME_PLACE;
+use definitions::refusals::NOT_SOUND;
 
 // What a call answers: a name's number, none such, the length of a name that stands beside it, or a refusal's number.
 pub enum Answer {

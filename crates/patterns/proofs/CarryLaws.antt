@@ -1,17 +1,15 @@
 -- Building what a replacement says, one node after another.
-use Prim.Native.Nat.{ℕ, zero, suc, _/_, _≤_, _<_}
+use Prim.Native.Nat.{ℕ, _/_, _<_}
 use mathlib.Core.Path.{_≡_, refl, sym, ap, ap₂, _∙_, subst}
 use mathlib.Core.Bool.{Bool}
-use mathlib.Core.List.{List, [], _∷_}
+use mathlib.Core.List.{List}
 use mathlib.Core.Option.{Option, some}
-use lib.ListN.{getD}
 use native.Mathlib.Omega.{arith}
 use Rattle.arena.specs.declared.DagArena.{DagArena}
 use Rattle.arena.specs.Layout.{nodeWords}
 use Rattle.definitions.specs.Node as N
 use Rattle.definitions.specs.Intern as I
-use Rattle.arena.specs.Kind.{operatorArity}
-use Rattle.store.specs.View.{nodesIn, lent, Sound, Builds, plainBuilt, listed}
+use Rattle.store.specs.View.{nodesIn, lent, Sound, Builds, plainBuilt}
 use Rattle.store.specs.View as View
 use Rattle.store.specs.Lookup.{Fits}
 use Rattle.store.specs.declared.Built.{Built}
@@ -27,40 +25,6 @@ use Rattle.patterns.specs.declared.PatternResult.{PatternResult}
 use Rattle.patterns.specs.declared.PatternResult.the-variants as R
 use Rattle.patterns.specs.declared.Applied.{Applied}
 use Rattle.patterns.specs.declared.Matched.the-variants as M
-
--- ---- nodes that may be interned
--- unused child places are 0
-pub no-children : (j : ℕ) → _≡_ {A = ℕ} (getD (0 ∷ 0 ∷ 0 ∷ 0 ∷ []) j 0) 0
-no-children zero = refl
-no-children (suc zero) = refl
-no-children (suc (suc zero)) = refl
-no-children (suc (suc (suc zero))) = refl
-no-children (suc (suc (suc (suc j)))) = refl
-
-pub constant-fits : (count b : ℕ) → Fits count N.constantKind b 0 0 (0 ∷ 0 ∷ 0 ∷ 0 ∷ [])
-unfolding listed operatorArity
-constant-fits count b = record { listing = refl; unmarked = omega arith; few = omega arith; lower = λ j h. absurd (omega arith); unused = λ j h. no-children j }
-
-both-low : (a b count : ℕ) → a < count → b < count → (j : ℕ) → j < 2 → getD (a ∷ b ∷ 0 ∷ 0 ∷ []) j 0 < count
-both-low a b count x y zero l = x
-both-low a b count x y (suc zero) l = y
-both-low a b count x y (suc (suc j)) l = absurd (omega arith)
-
-none-after : (a b j : ℕ) → 2 ≤ j → getD (a ∷ b ∷ 0 ∷ 0 ∷ []) j 0 ≡ 0
-none-after a b zero h = absurd (omega arith)
-none-after a b (suc zero) h = absurd (omega arith)
-none-after a b (suc (suc zero)) h = refl
-none-after a b (suc (suc (suc zero))) h = refl
-none-after a b (suc (suc (suc (suc j)))) h = refl
-
-pub operator-fits : (count k a b : ℕ) → TwoOperands count k a b → Fits count k 0 3 2 (a ∷ b ∷ 0 ∷ 0 ∷ [])
-operator-fits count k a b h = record {
-  listing = h .listing;
-  unmarked = omega arith;
-  few = omega arith;
-  lower = both-low a b count (h .left) (h .right);
-  unused = none-after a b;
-}
 
 -- ---- an answer of the store, as one of try_apply
 matched-is : (a : Answer) (ns : List N.Node) → plainMatched (matchedOf a) ns ≡ some (plainBuilt a ns)

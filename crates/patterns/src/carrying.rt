@@ -3,16 +3,12 @@ ghost use mathlib.Core.List.{[], _∷_};
 ghost use Rattle.store.specs.View.{Sound};
 ghost use Rattle.patterns.specs.Carrying.{BuildsBy, constantOf, operatorOf, besideConstant, carried, ReplacementLow, Operand, TwoOperands};
 use crate::Replacement;
-use arena::ASSOCIATIVE;
-use arena::COMMUTATIVE;
 use arena::DagArena;
 use arena::MOST_CHILDREN;
+use arena::REORDERABLE;
 use arena::kind::CONSTANT;
 use store::Answer;
 use store::Built;
-
-// 01: "`add` and `mul` give flags 3".
-pub const ADD_AND_MUL_FLAGS: u64 = COMMUTATIVE + ASSOCIATIVE;
 
 fn intern_constant(nodes: &mut [u64], slots: &mut [u32], arena: DagArena, bits: u64) -> Built
     requires { ⌜ Sound (now nodes) (now slots) arena ⌝ }
@@ -48,7 +44,7 @@ fn intern_operator(
         arena,
         kind,
         0,
-        ADD_AND_MUL_FLAGS,
+        REORDERABLE,
         2,
         [lhs, rhs, 0, 0],
     )

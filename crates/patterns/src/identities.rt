@@ -16,7 +16,7 @@ use arena::kind::MUL;
 use arena::kind::NEG;
 use arena::kind::POW;
 use arena::kind::SUB;
-use fold::BITS_OF_ONE;
+use arena::node::BITS_OF_ONE;
 use fold::BITS_OF_ZERO;
 
 // `x + 0 -> x` and `0 + x -> x`.

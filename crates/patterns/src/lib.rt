@@ -6,7 +6,6 @@ mod folding;
 mod identities;
 mod merging;
 
-pub use carrying::ADD_AND_MUL_FLAGS;
 ghost use mathlib.Core.Path.{_≡_};
 ghost use mathlib.Core.List.{[], _∷_};
 ghost use lib.ListN.{take};

@@ -1,7 +1,7 @@
 -- What is read of a sound store's nodes.
 use Prim.Native.Nat.{ℕ, _<_, _≤_}
-use mathlib.Core.Path.{_≡_, refl, subst}
-use mathlib.Core.Bool.{Bool, true, false, _&&_, false≢true}
+use mathlib.Core.Path.{_≡_, subst}
+use mathlib.Core.Bool.{true, _&&_}
 use mathlib.Core.List.{List}
 use lib.ListN.{length}
 use lib.Dec.{leb, eqb}
@@ -9,6 +9,7 @@ use native.Mathlib.Omega.{arith}
 use borrow.Author.Tests.{leb-true}
 use Rattle.definitions.specs.Limits.{mostChildren}
 use Rattle.definitions.specs.Node.{addKind}
+use Rattle.definitions.proofs.Deciding.{both}
 use Rattle.arena.specs.declared.DagArena.{DagArena}
 use Rattle.arena.specs.Kind.{operatorArity}
 use Rattle.store.specs.View.{nodesIn, Sound, listed}
@@ -17,10 +18,6 @@ use Rattle.store.proofs.Reading as R
 use Rattle.pruner.specs.Terms.{childrenIn, Readable}
 use Rattle.pruner.proofs.Below.{lower-of}
 use Rattle.pruner.proofs.Chains.{Layered}
-
-both : (a b : Bool) → a && b ≡ true → (a ≡ true) × (b ≡ true)
-both true b h = (refl, h)
-both false b h = absurd (false≢true h)
 
 -- "Add and Mul one to four" children
 add-filled : (kind payload arity : ℕ) → listed kind payload arity ≡ true → kind ≡ addKind → 0 < arity

@@ -1,11 +1,11 @@
 -- The sum of terms in memory, from the sums of its halves.
-use Prim.Native.Nat.{ℕ, zero, suc, _-_, _/_, _<_, _≤_}
+use Prim.Native.Nat.{ℕ, _-_, _/_, _<_, _≤_}
 use mathlib.Core.Path.{_≡_, refl, sym, ap, _∙_, subst}
 use mathlib.Core.List.{List, [], _∷_}
 use lib.ListN.{length, getD, take, drop, length-take, length-drop}
 use lib.Seq.{take-all}
 use native.Mathlib.Omega.{arith}
-use Rattle.definitions.specs.Node.{Node, constantKind, addKind}
+use Rattle.definitions.specs.Node.{Node}
 use Rattle.definitions.specs.Intern as I
 use Rattle.definitions.specs.Intern.{Lent, then}
 use Rattle.definitions.specs.Patterns.{internAdd}
@@ -13,13 +13,11 @@ use Rattle.definitions.specs.Prune.{sumOfKept}
 use Rattle.definitions.proofs.Stable.{Lower}
 use Rattle.definitions.proofs.Intern.{lower-up}
 use Rattle.arena.specs.declared.DagArena.{DagArena}
-use Rattle.arena.specs.Kind.{operatorArity}
 use Rattle.arena.specs.Layout.{mostNodes}
 use Rattle.store.specs.declared.Built.{Built}
 use Rattle.store.specs.declared.Answer.{Answer}
 use Rattle.store.specs.declared.Answer.the-variants.{Id, Refused}
-use Rattle.store.specs.View.{nodesIn, lent, Sound, Kept, Builds, plainBuilt, listed}
-use Rattle.store.specs.Lookup.{Fits}
+use Rattle.store.specs.View.{nodesIn, lent, Sound, Kept, Builds, plainBuilt}
 use Rattle.store.proofs.Keeping.{kept-refl, kept-trans}
 use Rattle.store.proofs.Decoding.{is-id, number-stays, refusal-stays}
 use Rattle.pruner.specs.Sums.{Summable, Zero, Adds, Sums, AddsNumber, SumsNumber}
@@ -49,34 +47,6 @@ right-half ids = take-all (length ids - length ids / 2) (drop (length ids / 2) i
 -- ---- what a kept store has
 pub lent-same : (words slots : List ℕ) (s : DagArena) (words′ slots′ : List ℕ) (t : DagArena) → Kept words slots s words′ slots′ t → lent words′ slots′ ≡ lent words slots
 lent-same words slots s words′ slots′ t k = rw (k .long, k .wide) refl
-
--- ---- the nodes that are interned
-pub zero-fits : (count : ℕ) → Fits count constantKind 0 0 0 (0 ∷ 0 ∷ 0 ∷ 0 ∷ [])
-unfolding listed operatorArity
-zero-fits count = record { listing = refl; unmarked = omega arith; few = omega arith; lower = λ j h. absurd (omega arith); unused = λ j h. unused j }
-  where
-    unused : (j : ℕ) → _≡_ {A = ℕ} (getD (0 ∷ 0 ∷ 0 ∷ 0 ∷ []) j 0) 0
-    unused zero = refl
-    unused (suc zero) = refl
-    unused (suc (suc zero)) = refl
-    unused (suc (suc (suc zero))) = refl
-    unused (suc (suc (suc (suc j)))) = refl
-
-pub add-fits : (count a b : ℕ) → a < count → b < count → Fits count addKind 0 3 2 (a ∷ b ∷ 0 ∷ 0 ∷ [])
-unfolding listed operatorArity
-add-fits count a b la lb = record { listing = refl; unmarked = omega arith; few = omega arith; lower = lower; unused = unused }
-  where
-    lower : (j : ℕ) → j < 2 → getD (a ∷ b ∷ 0 ∷ 0 ∷ []) j 0 < count
-    lower zero h = la
-    lower (suc zero) h = lb
-    lower (suc (suc j)) h = absurd (omega arith)
-
-    unused : (j : ℕ) → 2 ≤ j → getD (a ∷ b ∷ 0 ∷ 0 ∷ []) j 0 ≡ 0
-    unused zero h = absurd (omega arith)
-    unused (suc zero) h = absurd (omega arith)
-    unused (suc (suc zero)) h = refl
-    unused (suc (suc (suc zero))) h = refl
-    unused (suc (suc (suc (suc j)))) h = refl
 
 module _ (words slots : List ℕ) (s : DagArena) (ts : List ℕ) (sm : Summable words slots s ts) where
   abbrev l : Lent

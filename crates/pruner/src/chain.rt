@@ -54,7 +54,12 @@ fn push_siblings(
 
 // The terms under an id. The terms found stand in the first places, and the ids that wait in the last ones, from `top`
 // on. Each of these and `id` give a term at least, so that there are too many terms exactly if there is no place.
-pub fn flatten(nodes: &[u64], count: u64, root: u64, terms: &mut [u64; MOST_TERMS]) -> Flattened
+pub(crate) fn flatten(
+    nodes: &[u64],
+    count: u64,
+    root: u64,
+    terms: &mut [u64; MOST_TERMS],
+) -> Flattened
     requires { ⌜ (root < count) × Readable (now nodes) count × (length (now terms) ≡ mostTerms) ⌝ }
     ensures { λ r. ⌜ Flattens (chain (nodesIn (now (nodes .entry)) count) root) r (now (terms .exit)) ⌝ }
 {

@@ -13,9 +13,7 @@ ghost use Rattle.store.specs.Lookup.{Lookup};
 ghost use Rattle.pruner.specs.Terms.{Readable, AllBelow, Filters};
 use crate::chain::MOST_TERMS;
 use arena::kind::CONSTANT;
-
-// The binary64 bits of 1.0.
-const BITS_OF_ONE: u64 = 0x3ff0_0000_0000_0000;
+use arena::node::BITS_OF_ONE;
 
 // The bits of a number whose absolute value is the term's magnitude.
 fn magnitude_of_term(nodes: &[u64], count: u64, id: u64) -> u64
@@ -38,7 +36,7 @@ fn keeps(nodes: &[u64], count: u64, threshold: u64, id: u64) -> bool
 }
 
 // The first `found` terms without those that are dropped, in order, in the first places; the answer is their number.
-pub fn filter(
+pub(crate) fn filter(
     nodes: &[u64],
     count: u64,
     threshold: u64,

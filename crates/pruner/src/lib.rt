@@ -1,7 +1,6 @@
 // Pruning (01, "simplifier: pruning"): an additive chain without the terms whose magnitude is below a threshold.
 pub mod chain;
 pub mod filter;
-pub mod refusals;
 pub mod sum;
 pub mod threshold;
 
@@ -14,6 +13,9 @@ use arena::DagArena;
 use arena::kind::ADD;
 use chain::Flattened;
 use chain::MOST_TERMS;
+use definitions::refusals::BAD_OPERAND;
+use definitions::refusals::NOT_SOUND;
+use definitions::refusals::TOO_MANY_TERMS;
 use threshold::Threshold;
 
 pub enum Answer {
@@ -44,7 +46,7 @@ fn prune_chain(
     let count = arena.count;
     match chain::flatten(nodes, count, root, &mut terms) {
         Flattened::TooMany => Outcome {
-            answer: Answer::Refused(refusals::TOO_MANY_TERMS),
+            answer: Answer::Refused(TOO_MANY_TERMS),
             arena,
         },
         Flattened::Terms(found) => {
@@ -108,7 +110,7 @@ fn prune_call(
     let id = root as u64;
     if arena.count <= id {
         return Outcome {
-            answer: Answer::Refused(refusals::BAD_OPERAND),
+            answer: Answer::Refused(BAD_OPERAND),
             arena,
         };
     }
@@ -136,7 +138,7 @@ pub fn prune_sound(
 }
 
 // 01: "a prune by setting is the prune at that threshold"; on a store that is known to be sound.
-pub fn prune_sound_by_setting(
+fn prune_sound_by_setting(
     nodes: &mut [u64],
     slots: &mut [u32],
     arena: DagArena,
@@ -161,7 +163,7 @@ pub fn prune(
 {
     if !store::audit(nodes, slots, arena) {
         return Outcome {
-            answer: Answer::Refused(refusals::NOT_SOUND),
+            answer: Answer::Refused(NOT_SOUND),
             arena,
         };
     }
@@ -180,7 +182,7 @@ pub fn prune_by_setting(
 {
     if !store::audit(nodes, slots, arena) {
         return Outcome {
-            answer: Answer::Refused(refusals::NOT_SOUND),
+            answer: Answer::Refused(NOT_SOUND),
             arena,
         };
     }

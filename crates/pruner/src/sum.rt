@@ -5,16 +5,16 @@ ghost use Rattle.arena.specs.Layout.{arenaOf};
 ghost use Rattle.store.specs.View.{Sound};
 ghost use Rattle.pruner.specs.Sums.{Summable, Zero, Sums, AddsNumber, SumsNumber};
 use arena::DagArena;
+use arena::REORDERABLE;
 use arena::kind::ADD;
 use arena::kind::CONSTANT;
+use fold::BITS_OF_ZERO;
 use store::Answer;
 use store::Built;
 use store::REFUSALS;
 
-// The binary64 bits of 0.0.
-const BITS_OF_ZERO: u64 = 0;
-// 01: "`add` and `mul` give flags 3".
-const ADD_FLAGS: u64 = 3;
+// The flags that `add` gives.
+const ADD_FLAGS: u64 = REORDERABLE;
 
 // 0.0, which stands for no terms.
 fn zero(nodes: &mut [u64], slots: &mut [u32], arena: DagArena) -> Built
@@ -99,7 +99,12 @@ fn sum(
 }
 
 // The sum of at most 4,096 terms. What was interned before a refusal stays.
-pub fn balanced_add(nodes: &mut [u64], slots: &mut [u32], arena: DagArena, terms: &[u64]) -> Built
+pub(crate) fn balanced_add(
+    nodes: &mut [u64],
+    slots: &mut [u32],
+    arena: DagArena,
+    terms: &[u64],
+) -> Built
     requires { ⌜ Summable (now nodes) (now slots) arena (now terms) ⌝ }
     ensures { λ r. ⌜ Sums (now (nodes .entry)) (now (slots .entry)) arena (now (terms .entry)) (now (nodes .exit)) (now (slots .exit)) r ⌝ }
 {

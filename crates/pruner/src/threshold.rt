@@ -3,11 +3,9 @@ ghost use mathlib.Core.Path.{_≡_};
 ghost use Rattle.definitions.specs.Threshold as T;
 ghost use Rattle.definitions.specs.Settings as Settings;
 ghost use Rattle.pruner.specs.Answers.{thresholdOf};
-use crate::refusals::BAD_SETTING;
-use crate::refusals::BAD_THRESHOLD;
-
-// The bits of the largest threshold, infinity. Every number above them has a NaN's bits or the sign bit.
-const INFINITY_BITS: u64 = 0x7ff0_0000_0000_0000;
+use definitions::refusals::BAD_SETTING;
+use definitions::refusals::BAD_THRESHOLD;
+use fold::BITS_OF_INFINITY;
 
 pub enum Threshold {
     // The binary64 bits of a threshold.
@@ -16,11 +14,12 @@ pub enum Threshold {
     Refusing(u64),
 }
 
-// 01: 7 is "threshold NaN or sign bit set".
-pub fn given(bits: u64) -> Threshold
+// 01: 7 is "threshold NaN or sign bit set". The largest threshold is infinity: every number above its bits has a NaN's bits
+// or the sign bit.
+pub(crate) fn given(bits: u64) -> Threshold
     ensures { λ r. ⌜ thresholdOf r ≡ T.given bits ⌝ }
 {
-    if bits <= INFINITY_BITS {
+    if bits <= BITS_OF_INFINITY {
         Threshold::Bits(bits)
     } else {
         Threshold::Refusing(BAD_THRESHOLD)
@@ -28,7 +27,7 @@ pub fn given(bits: u64) -> Threshold
 }
 
 // 01: "a prune by setting is the prune at that threshold".
-pub fn of_setting(setting: u32) -> Threshold
+pub(crate) fn of_setting(setting: u32) -> Threshold
     ensures { λ r. ⌜ thresholdOf r ≡ Settings.setting setting ⌝ }
 {
     match settings::threshold(setting) {

@@ -8,9 +8,9 @@ ghost use Rattle.rebuild.specs.Memory.{memory};
 ghost use Rattle.rebuild.specs.Rebuild.{Rebuildable, newChildren, Finishes};
 use arena::DagArena;
 use arena::MOST_CHILDREN;
+use arena::REORDERABLE;
 use arena::kind::ADD;
 use arena::kind::MUL;
-use patterns::ADD_AND_MUL_FLAGS;
 use patterns::Matched;
 use store::Answer;
 use store::Built;
@@ -29,10 +29,10 @@ fn rebuilt_flags(kind: u64, arity: u64) -> u64
         return OTHER_FLAGS;
     }
     if kind == ADD {
-        return ADD_AND_MUL_FLAGS;
+        return REORDERABLE;
     }
     if kind == MUL {
-        return ADD_AND_MUL_FLAGS;
+        return REORDERABLE;
     }
     OTHER_FLAGS
 }

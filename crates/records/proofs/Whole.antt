@@ -1,9 +1,9 @@
 -- A record whole: its length and its body; and how a sheet starts.
-use Prim.Native.Nat.{ℕ, zero, suc, _+_, _-_, _≤_, _<_}
+use Prim.Native.Nat.{ℕ, suc, _+_, _-_, _≤_, _<_}
 use mathlib.Core.Path.{_≡_, refl, sym, ap, ap₂, _∙_, subst}
 use mathlib.Core.Bool.{Bool, true, false, _&&_, cond, and-false}
 use mathlib.Core.List.{List, [], _∷_}
-use mathlib.Core.Option.{Option, none, some}
+use mathlib.Core.Option.{none, some}
 use lib.ListN.{length, getD, take, drop, length-drop}
 use lib.Seq.{drop-cons, drop-drop}
 use lib.Dec.{leb, eqb}
@@ -13,12 +13,12 @@ use borrow.Author.Tests.{eq-eqb, ne-eqb, le-leb, lt-leb}
 use Rattle.definitions.specs.Limits.{mostRecords, mostSheetBytes}
 use Rattle.definitions.specs.Refusals.{badSheet}
 use Rattle.definitions.specs.Intern.{Lent}
-use Rattle.definitions.specs.Machine.{Call, State}
-use Rattle.definitions.specs.Sheet.{bigEndian, cut, recordCall, body, Ran, ran, records, sheet}
+use Rattle.definitions.specs.Machine.{State}
+use Rattle.definitions.specs.Sheet.{bigEndian, cut, withRest, recordCall, body, Ran, ran, records, sheet}
 use Rattle.records.specs.declared.Body.{Body}
 use Rattle.records.specs.declared.Cursor.{Cursor}
 use Rattle.records.specs.declared.Opened.the-variants.{Records, Refused}
-use Rattle.records.specs.Reading.{part, operandFrom, callOf, withRest, Decodes, isSheet, OpensSheet}
+use Rattle.records.specs.Reading.{part, operandFrom, callOf, Decodes, isSheet, OpensSheet}
 use Rattle.records.proofs.Operands.{part-two}
 
 drop-two : (s : List ℕ) (at : ℕ) → at + 2 ≤ length s → drop at s ≡ getD s at 0 ∷ getD s (at + 1) 0 ∷ drop (at + 2) s
@@ -35,10 +35,6 @@ short (a ∷ b ∷ l) h = absurd (omega arith)
 
 pub record-short : (s : List ℕ) (at : ℕ) → length s < at + 2 → recordCall (cut (drop at s)) ≡ none
 record-short s at h = short (drop at s) (let e : length (drop at s) ≡ length s - at = length-drop at s in omega arith)
-
-rest-is : (c : Option Call) (r : List ℕ) → elim c [ none ↦ none | some d ↦ some (d, r) ] ≡ withRest c r
-rest-is none r = refl
-rest-is (some d) r = refl
 
 module _ (s : List ℕ) (at n : ℕ) (h : at + 2 ≤ length s) (e : n ≡ operandFrom s at) where
   long : length (drop (at + 2) s) ≡ length s - (at + 2)
@@ -57,7 +53,6 @@ module _ (s : List ℕ) (at n : ℕ) (h : at + 2 ≤ length s) (e : n ≡ operan
   record-whole l b d =
       sym
       (ap recordCall (cut-is ∙ ap (λ (t : Bool). cond t (some (take n (drop (at + 2) s), drop n (drop (at + 2) s))) none) (le-leb n _ (subst (λ (m : ℕ). n ≤ m) (sym long) l)))
-      ∙ rest-is (body (part s (at + 2) n)) (drop n (drop (at + 2) s))
       ∙ ap₂ withRest (sym (d .is)) (drop-drop n (at + 2) s))
 
 -- ---- how a sheet starts

@@ -10,7 +10,7 @@ use Rattle.definitions.specs.Limits.{mostRecords, mostSheetBytes}
 use Rattle.definitions.specs.Refusals.{badSheet}
 use Rattle.definitions.specs.Intern.{Lent}
 use Rattle.definitions.specs.Machine.{variable, constant, operator, function, control, Call, store, simplify, prune, State}
-use Rattle.definitions.specs.Sheet.{bigEndian, cut, recordCall, Ran, ran, records, sheet}
+use Rattle.definitions.specs.Sheet.{bigEndian, cut, withRest, recordCall, Ran, ran, records, sheet}
 use Rattle.records.specs.declared.Body.{Body}
 use Rattle.records.specs.declared.Body.the-variants.{Variable, Constant, Operator, Function, Control, Simplify, Prune, Malformed}
 use Rattle.records.specs.declared.Opened.{Opened}
@@ -61,10 +61,6 @@ OperandsInSheet long Malformed = Unit {0}
 pub record Decodes (s : List ℕ) (call : Option Call) (r : Body) : Type 0 where
   pub is : callOf s r ≡ call
   pub within : OperandsInSheet (length s) r
-
-abbrev pub withRest : Option Call → List ℕ → Option (Call × List ℕ)
-withRest none rest = none
-withRest (some c) rest = some (c, rest)
 
 -- the record at a place: its call, and the bytes after it
 pub record ReadsRecord (s : List ℕ) (at : ℕ) (r : Record) : Type 0 where

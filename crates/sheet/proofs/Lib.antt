@@ -1,5 +1,5 @@
 pub mod Clamping
-pub mod Filling
+pub mod Placing
 pub mod Calls
 pub mod Onward
 pub mod Whole

@@ -16,13 +16,13 @@ use Rattle.definitions.specs.Refusals.{badRecord, tooManyRecords}
 use Rattle.definitions.specs.Intern.{Lent}
 use Rattle.definitions.specs.Machine as M
 use Rattle.definitions.specs.Sheet as Sheet
-use Rattle.definitions.specs.Listing.{lastOf}
+use Rattle.definitions.proofs.Listing.{last-more}
 use Rattle.store.specs.Memory.{Memory, memory, model, Stays}
 use Rattle.store.proofs.Staying.{stays-refl, stays-trans}
 use Rattle.store.proofs.Viewing.{plain-length}
 use Rattle.arena.specs.declared.DagArena.{DagArena}
 use Rattle.records.specs.declared.Record.{Record}
-use Rattle.records.specs.Reading.{callOf, withRest, ReadsRecord}
+use Rattle.records.specs.Reading.{callOf, ReadsRecord}
 use Rattle.listing_lines.specs.declared.Outcome.{Outcome}
 use Rattle.listing_lines.specs.declared.Outcome.the-variants.{Ok, Empty, Spent, Refused as RefusedAt}
 use Rattle.listing_lines.specs.Outcome.{answeredAs, outcomeOf}
@@ -30,7 +30,7 @@ use Rattle.sheet.specs.declared.performing.Answer.{Answer}
 use Rattle.sheet.specs.declared.performing.Answer.the-variants.{Answered, Refused}
 use Rattle.sheet.specs.declared.running.Progress.{Progress}
 use Rattle.sheet.specs.declared.running.Turn.the-variants.{More, Refused as RefusedTurn}
-use Rattle.sheet.specs.Running.{answerAs, Performs, PerformsBody, idOf, finishedAs, Doing, Finishes, Turned}
+use Rattle.sheet.specs.Running.{answerAs, Performs, PerformsBody, idOf, finishedAs, Doing, RunsRecords, Turned}
 
 -- ---- the plain machine's records
 
@@ -69,13 +69,9 @@ records-step more l al st (b ∷ bs) h = go (Sheet.recordCall (Sheet.cut (b ∷ 
 
 -- ---- answers
 
-last-snoc : (b : M.Answer) (al : List M.Answer) (a : M.Answer) → lastOf b (al ++ a ∷ []) ≡ a
-last-snoc b [] a = refl
-last-snoc b (c ∷ al) a = last-snoc c al a
-
 outcome-snoc : (al : List M.Answer) (a : M.Answer) → outcomeOf none (al ++ a ∷ []) ≡ answeredAs a
 outcome-snoc [] a = refl
-outcome-snoc (b ∷ al) a = ap answeredAs (last-snoc b al a)
+outcome-snoc (b ∷ al) a = ap answeredAs (last-more b al a)
 
 -- an answered record's answer, taken apart
 record Told (a : M.Answer) (id : ℕ) (spent : Bool) : Type 0 where
@@ -118,7 +114,7 @@ module _ (done id : ℕ) (spent : Bool) (n : done ≡ 0 → ⊥) where
 
 -- ---- the end of a sheet
 
-pub finish : (plain : Sheet.Ran) (m m′ : Memory) (o : Outcome) (al : List M.Answer) (r : Option (ℕ × ℕ)) (st : M.State) → Sheet.ran al r st ≡ plain → o ≡ outcomeOf r al → model .view m′ ≡ st → Stays m m′ → Finishes plain m o m′
+pub finish : (plain : Sheet.Ran) (m m′ : Memory) (o : Outcome) (al : List M.Answer) (r : Option (ℕ × ℕ)) (st : M.State) → Sheet.ran al r st ≡ plain → o ≡ outcomeOf r al → model .view m′ ≡ st → Stays m m′ → RunsRecords plain m o m′
 finish plain m m′ o al r st e f v k = record {
   outcome = f ∙ ap (λ (x : Sheet.Ran). outcomeOf (x .refusal) (x .answers)) e;
   left = v ∙ ap (λ (x : Sheet.Ran). x .left) e;
@@ -147,7 +143,7 @@ module _ (s : List ℕ) (plain : Sheet.Ran) (m : Memory) (p : Progress) (m′ : 
   abbrev st : M.State
   st = model .view m′
 
-  pub doing-end : length s ≤ p .at → (o : Outcome) → o ≡ finishedAs (p .done) (p .id) (p .spent) → Finishes plain m o m′
+  pub doing-end : length s ≤ p .at → (o : Outcome) → o ≡ finishedAs (p .done) (p .id) (p .spent) → RunsRecords plain m o m′
   doing-end h o e =
       finish plain m m′ o al none st (sym (records-none (mostRecords - p .done) l al st (drop (p .at) s) (drop-of-length-le s h)) ∙ d .goes) (e ∙ sym (d .last)) refl (d .stays)
 
@@ -158,7 +154,7 @@ module _ (s : List ℕ) (plain : Sheet.Ran) (m : Memory) (p : Progress) (m′ : 
     refused-at : (number : ℕ) → RefusedAt number (p .done) ≡ outcomeOf (some (number, length al)) al
     refused-at number = ap (RefusedAt number) (sym (d .long))
 
-    pub doing-full : p .done ≡ mostRecords → Finishes plain m (RefusedAt tooManyRecords (p .done)) m′
+    pub doing-full : p .done ≡ mostRecords → RunsRecords plain m (RefusedAt tooManyRecords (p .done)) m′
     doing-full e =
         let z : mostRecords - p .done ≡ 0 = omega arith in
         finish plain m m′ _ al (some (tooManyRecords, length al)) st
@@ -169,10 +165,10 @@ module _ (s : List ℕ) (plain : Sheet.Ran) (m : Memory) (p : Progress) (m′ : 
       abbrev k : ℕ
       k = mostRecords - (p .done + 1)
 
-      stepped : (o : Option M.Call) → callOf s (r .body) ≡ o → afterRecord k l al st (withRest o (drop (r .next .at) s)) ≡ plain
+      stepped : (o : Option M.Call) → callOf s (r .body) ≡ o → afterRecord k l al st (Sheet.withRest o (drop (r .next .at) s)) ≡ plain
       stepped o e =
           let n : suc k ≡ mostRecords - p .done = omega arith in
-          ap (λ (c : Option M.Call). afterRecord k l al st (withRest c (drop (r .next .at) s))) (sym e)
+          ap (λ (c : Option M.Call). afterRecord k l al st (Sheet.withRest c (drop (r .next .at) s))) (sym e)
           ∙ ap (afterRecord k l al st) (x .is)
           ∙ sym (records-step k l al st (drop (p .at) s) left)
           ∙ ap (λ (i : ℕ). Sheet.records i l al st (drop (p .at) s)) n
@@ -190,20 +186,20 @@ module _ (s : List ℕ) (plain : Sheet.Ran) (m : Memory) (p : Progress) (m′ : 
         after : (c : M.Call) (a : Answer) → Performs (Sheet.callOn (idOf ids (p .done) (m′ .arena .count)) c) m′ a m″ → Performs (Sheet.callOn (Sheet.operandId (length (st .nodes)) al) c) m′ a m″
         after c a q = subst (λ (f : ℕ → ℕ). Performs (Sheet.callOn f c) m′ a m″) operand-same q
 
-        passed-refused : (number : ℕ) (c : M.Call) → callOf s (r .body) ≡ some c → Performs (Sheet.callOn (Sheet.operandId (length (st .nodes)) al) c) m′ (Refused number) m″ → Finishes plain m (RefusedAt number (p .done)) m″
+        passed-refused : (number : ℕ) (c : M.Call) → callOf s (r .body) ≡ some c → Performs (Sheet.callOn (Sheet.operandId (length (st .nodes)) al) c) m′ (Refused number) m″ → RunsRecords plain m (RefusedAt number (p .done)) m″
         passed-refused number c e q =
             let a = M.call l st (Sheet.callOn (Sheet.operandId (length (st .nodes)) al) c) in
             finish plain m m″ _ al (some (number, length al)) (a .left)
             (sym (ap (λ (o : Option ℕ). elim o [ none ↦ Sheet.records k l (al ++ a .answer ∷ []) (a .left) (drop (r .next .at) s) | some n ↦ Sheet.ran al (some (n, length al)) (a .left) ]) (refusal-of (a .answer) number (q .answer))) ∙ stepped (some c) e)
             (refused-at number) (q .left) (stays-trans m m′ m″ (d .stays) (q .stays))
 
-        pub doing-refused : (number : ℕ) (a : Answer) → a ≡ Refused number → PerformsBody s (r .body) ids (p .done) m′ a m″ → Finishes plain m (RefusedAt number (p .done)) m″
+        pub doing-refused : (number : ℕ) (a : Answer) → a ≡ Refused number → PerformsBody s (r .body) ids (p .done) m′ a m″ → RunsRecords plain m (RefusedAt number (p .done)) m″
         doing-refused number a t whole = go (callOf s (r .body)) refl
           where
             q : PerformsBody s (r .body) ids (p .done) m′ (Refused number) m″
             q = subst (λ (x : Answer). PerformsBody s (r .body) ids (p .done) m′ x m″) t whole
 
-            go : (o : Option M.Call) → callOf s (r .body) ≡ o → Finishes plain m (RefusedAt number (p .done)) m″
+            go : (o : Option M.Call) → callOf s (r .body) ≡ o → RunsRecords plain m (RefusedAt number (p .done)) m″
             go none e =
                 let same = q .malformed e in
                 let n : number ≡ badRecord = (let f = same .0 in cc) in
@@ -273,8 +269,8 @@ module _ (s : List ℕ) (plain : Sheet.Ran) (m : Memory) (done : ℕ) (words slo
     refused = λ number arena f. absurd (let z : _≡_ {A = ℕ} 0 1 = cc in omega arith);
   }
 
-  pub turned-refused : (number : ℕ) (arena : DagArena) → Finishes plain m (RefusedAt number done) (memory words slots arena) → Turned s plain m done (RefusedTurn number arena) words slots ids
+  pub turned-refused : (number : ℕ) (arena : DagArena) → RunsRecords plain m (RefusedAt number done) (memory words slots arena) → Turned s plain m done (RefusedTurn number arena) words slots ids
   turned-refused number arena d = record {
     more = λ q f. absurd (let z : _≡_ {A = ℕ} 0 1 = cc in omega arith);
-    refused = λ n a f. let e : number ≡ n = cc in let g : arena ≡ a = cc in subst (λ (x : DagArena). Finishes plain m (RefusedAt n done) (memory words slots x)) g (subst (λ (x : ℕ). Finishes plain m (RefusedAt x done) (memory words slots arena)) e d);
+    refused = λ n a f. let e : number ≡ n = cc in let g : arena ≡ a = cc in subst (λ (x : DagArena). RunsRecords plain m (RefusedAt n done) (memory words slots x)) g (subst (λ (x : ℕ). RunsRecords plain m (RefusedAt x done) (memory words slots arena)) e d);
   }

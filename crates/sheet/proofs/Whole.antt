@@ -21,7 +21,7 @@ use Rattle.store.proofs.Staying.{stays-refl}
 use Rattle.store.proofs.Sizes.{grown-is}
 use Rattle.builder.specs.declared.opening.FreshStore.{FreshStore}
 use Rattle.builder.specs.declared.opening.FreshStore.the-variants.{Store, Refused as RefusedStore}
-use Rattle.builder.specs.Opens.{freshAnswer, freshSlots, Opens}
+use Rattle.builder.specs.Opens.{freshAnswer, freshSlots, freshMemory, Opens}
 use Rattle.records.specs.declared.Cursor.{Cursor}
 use Rattle.records.specs.declared.Opened.{Opened}
 use Rattle.records.specs.declared.Opened.the-variants.{Records, Refused as RefusedSheet}
@@ -30,8 +30,8 @@ use Rattle.listing_lines.specs.declared.Outcome.{Outcome}
 use Rattle.listing_lines.specs.declared.Outcome.the-variants.{Refused as RefusedAt}
 use Rattle.listing_lines.proofs.Lines.{listing-of-memory}
 use Rattle.sheet.specs.declared.Ran.{Ran}
-use Rattle.sheet.specs.Running.{Finishes}
-use Rattle.sheet.specs.Sheets.{Runs, refusedAtStart, freshMemory, noStore, RunsFresh}
+use Rattle.sheet.specs.Running.{RunsRecords}
+use Rattle.sheet.specs.Sheets.{Runs, refusedAtStart, noStore, RunsFresh}
 use Rattle.sheet.proofs.Onward.{finish}
 
 pub runs-unsound : (s : List ℕ) (m : Memory) → (model .Sound m → ⊥) → Runs s m (RefusedAt notSound 0) m
@@ -55,7 +55,7 @@ pub runs-at-start : (s words slots : List ℕ) (arena : DagArena) (number : ℕ)
 runs-at-start s words slots arena number r e k = subst (λ (x : Ran). Runs s (memory words slots arena) (x .outcome) (memory words slots (x .arena))) (sym e) k
 
 module _ (s : List ℕ) (m : Memory) (h : model .Sound m) where
-  runs : (o : Outcome) (m′ : Memory) → Finishes (Sheet.sheet (model .lent m) (model .view m) s) m o m′ → (isSheet s ≡ false → m′ ≡ m) → Runs s m o m′
+  runs : (o : Outcome) (m′ : Memory) → RunsRecords (Sheet.sheet (model .lent m) (model .view m) s) m o m′ → (isSheet s ≡ false → m′ ≡ m) → Runs s m o m′
   runs o m′ f u = record {
     unsound = λ n. absurd (n h);
     outcome = λ _. f .outcome;
@@ -79,9 +79,9 @@ module _ (s : List ℕ) (m : Memory) (h : model .Sound m) where
       (λ _. refl)
 
   -- the records of a sheet that starts well
-  pub runs-records : (r : Opened) (c : Cursor) → r ≡ Records c → OpensSheet s r → (o : Outcome) (m′ : Memory) → Finishes (Sheet.records mostRecords (model .lent m) [] (model .view m) (drop (c .at) s)) m o m′ → Runs s m o m′
+  pub runs-records : (r : Opened) (c : Cursor) → r ≡ Records c → OpensSheet s r → (o : Outcome) (m′ : Memory) → RunsRecords (Sheet.records mostRecords (model .lent m) [] (model .view m) (drop (c .at) s)) m o m′ → Runs s m o m′
   runs-records r c e x o m′ f =
-      runs o m′ (subst (λ (plain : Sheet.Ran). Finishes plain m o m′) (ap (afterOpening (model .lent m) (model .view m) s) (sym e) ∙ x .is (model .lent m) (model .view m)) f)
+      runs o m′ (subst (λ (plain : Sheet.Ran). RunsRecords plain m o m′) (ap (afterOpening (model .lent m) (model .view m) s) (sym e) ∙ x .is (model .lent m) (model .view m)) f)
       (λ n. absurd (let t : false ≡ true = sym n ∙ x .tells ∙ ap isOpened e in let z : _≡_ {A = ℕ} 0 1 = cc in omega arith))
 
 -- ---- on a fresh store

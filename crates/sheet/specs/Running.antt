@@ -91,7 +91,7 @@ pub record Doing (s : List ℕ) (plain : Sheet.Ran) (m : Memory) (p : Progress) 
   pub stays : Stays m m′
 
 -- the whole of a sheet's records
-pub record Finishes (plain : Sheet.Ran) (m : Memory) (o : Outcome) (m′ : Memory) : Type 0 where
+pub record RunsRecords (plain : Sheet.Ran) (m : Memory) (o : Outcome) (m′ : Memory) : Type 0 where
   pub outcome : o ≡ outcomeOf (plain .refusal) (plain .answers)
   pub left : model .view m′ ≡ plain .left
   pub stays : Stays m m′
@@ -99,8 +99,8 @@ pub record Finishes (plain : Sheet.Ran) (m : Memory) (o : Outcome) (m′ : Memor
 -- one more record, or the end of the sheet by a refusal
 pub record Turned (s : List ℕ) (plain : Sheet.Ran) (m : Memory) (done : ℕ) (t : Turn) (words slots ids : List ℕ) : Type 0 where
   pub more : (p : Progress) → t ≡ More p → (p .done ≡ done + 1) × Doing s plain m p (memory words slots (p .arena)) ids
-  pub refused : (number : ℕ) (arena : DagArena) → t ≡ RefusedTurn number arena → Finishes plain m (RefusedAt number done) (memory words slots arena)
+  pub refused : (number : ℕ) (arena : DagArena) → t ≡ RefusedTurn number arena → RunsRecords plain m (RefusedAt number done) (memory words slots arena)
 
 -- a turn, whatever was done before it
-pub record Steps (s : List ℕ) (p : Progress) (words slots ids : List ℕ) (t : Turn) (words′ slots′ ids′ : List ℕ) : Type 0 where
+pub record NextRecord (s : List ℕ) (p : Progress) (words slots ids : List ℕ) (t : Turn) (words′ slots′ ids′ : List ℕ) : Type 0 where
   pub turned : (plain : Sheet.Ran) (m : Memory) → Doing s plain m p (memory words slots (p .arena)) ids → Turned s plain m (p .done) t words′ slots′ ids′

@@ -8,7 +8,7 @@ use Rattle.arena.specs.Layout.{nodeWords}
 use Rattle.arena.specs.Nodes.{Nodes}
 use Rattle.arena.specs.declared.DagArena.{DagArena}
 use Rattle.dedup.specs.Table.{UsedStay}
-use Rattle.definitions.specs.Limits.{mostDoublings, firstTableSize}
+use Rattle.definitions.specs.Limits.{mostDoublings}
 use Rattle.definitions.specs.Refusals.{notSound, noSlotPlace}
 use Rattle.definitions.specs.Intern.{tableSizeFrom}
 use Rattle.definitions.specs.Machine.{empty, freshRefused}
@@ -16,7 +16,7 @@ use Rattle.definitions.specs.Sheet.{sheet}
 use Rattle.definitions.specs.Listing as Listing
 use Rattle.store.specs.View.{lent}
 use Rattle.store.specs.Memory.{Memory, memory, model}
-use Rattle.builder.specs.Opens.{freshSlots}
+use Rattle.builder.specs.Opens.{freshMemory}
 use Rattle.records.specs.Reading.{isSheet}
 use Rattle.listing_lines.specs.declared.Outcome.{Outcome}
 use Rattle.listing_lines.specs.declared.Outcome.the-variants.{Refused}
@@ -48,10 +48,6 @@ pub record Runs (s : List ℕ) (m : Memory) (o : Outcome) (m′ : Memory) : Type
   pub unchanged : isSheet s ≡ false → m′ ≡ m
 
 -- ---- on a fresh store
-
--- "A fresh store has no nodes and 64 empty slots."
-abbrev pub freshMemory : List ℕ → List ℕ → Memory
-freshMemory words slots = memory words (freshSlots false slots) (record { count = 0; size = firstTableSize })
 
 -- the counts beside a refusal to open a store
 abbrev pub noStore : DagArena

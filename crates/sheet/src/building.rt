@@ -12,8 +12,6 @@ use crate::MOST_RECORDS;
 use crate::operands::operand_ids;
 use crate::performing::Answer;
 use crate::performing::Performed;
-use crate::refusals::BAD_CHILD_COUNT;
-use crate::refusals::BAD_CODE;
 use arena::DagArena;
 use arena::MOST_CHILDREN;
 use arena::kind::ADD;
@@ -21,6 +19,8 @@ use arena::kind::CONTROL;
 use arena::kind::FOR_LOOP;
 use builder::build_sound;
 use builder::is_operator;
+use definitions::refusals::BAD_CHILD_COUNT;
+use definitions::refusals::BAD_CODE;
 
 // A node that a record wants, but for its operands, and whether its operator, flags or control value is listed.
 pub struct Request {

@@ -2,7 +2,6 @@
 mod building;
 mod operands;
 mod performing;
-mod refusals;
 mod running;
 
 ghost use Rattle.store.specs.Memory.{memory};
@@ -10,10 +9,10 @@ ghost use mathlib.Core.Path.{_≡_};
 ghost use Rattle.sheet.specs.Sheets.{Runs, RunsFresh, refusedAtStart};
 use arena::DagArena;
 use builder::FreshStore;
+use definitions::refusals::BAD_SHEET;
+use definitions::refusals::NOT_SOUND;
 use listing_lines::Outcome;
 use records::Opened;
-use refusals::BAD_SHEET;
-use refusals::NOT_SOUND;
 use running::run_records;
 
 // 01, refusal 3: "record 1,024 reached".

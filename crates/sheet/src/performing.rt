@@ -14,11 +14,11 @@ use crate::building::build;
 use crate::building::control_request;
 use crate::building::operator_request;
 use crate::operands::operand_id;
-use crate::refusals::BAD_RECORD;
 use arena::DagArena;
 use arena::kind::CONSTANT;
 use arena::kind::FUNCTION;
 use arena::kind::VARIABLE;
+use definitions::refusals::BAD_RECORD;
 use records::Body;
 
 // A record's id, and whether its budget ran out; or the number of a refusal.

@@ -7,13 +7,13 @@ ghost use Rattle.definitions.specs.Limits.{mostRecords};
 ghost use Rattle.definitions.specs.Sheet as Sheet;
 ghost use Rattle.store.specs.Sound.{Sound};
 ghost use Rattle.store.specs.Memory.{memory, model};
-ghost use Rattle.sheet.specs.Running.{Steps, Finishes, finishedAs};
+ghost use Rattle.sheet.specs.Running.{NextRecord, RunsRecords, finishedAs};
 use crate::MOST_RECORDS;
 use crate::Ran;
 use crate::performing::Answer;
 use crate::performing::perform;
-use crate::refusals::TOO_MANY_RECORDS;
 use arena::DagArena;
+use definitions::refusals::TOO_MANY_RECORDS;
 use listing_lines::Outcome;
 use records::Cursor;
 
@@ -42,7 +42,7 @@ fn step(
     progress: Progress,
 ) -> Turn
     requires { ⌜ (progress .at < length (now sheet)) × (length (now ids) ≡ mostRecords) × (progress .done ≤ mostRecords) × Sound (now nodes) (now slots) (progress .arena) ⌝ }
-    ensures { λ r. ⌜ Steps (now (sheet .entry)) progress (now (nodes .entry)) (now (slots .entry)) (now (ids .entry)) r (now (nodes .exit)) (now (slots .exit)) (now (ids .exit)) ⌝ }
+    ensures { λ r. ⌜ NextRecord (now (sheet .entry)) progress (now (nodes .entry)) (now (slots .entry)) (now (ids .entry)) r (now (nodes .exit)) (now (slots .exit)) (now (ids .exit)) ⌝ }
 {
     let done = progress.done;
     let at = progress.at;
@@ -99,7 +99,7 @@ pub(crate) fn run_records(
     arena: DagArena,
 ) -> Ran
     requires { ⌜ Sound (now nodes) (now slots) arena ⌝ }
-    ensures { λ r. ⌜ Finishes (Sheet.records mostRecords (model .lent (memory (now (nodes .entry)) (now (slots .entry)) arena)) [] (model .view (memory (now (nodes .entry)) (now (slots .entry)) arena)) (drop start (now (sheet .entry)))) (memory (now (nodes .entry)) (now (slots .entry)) arena) (r .outcome) (memory (now (nodes .exit)) (now (slots .exit)) (r .arena)) ⌝ }
+    ensures { λ r. ⌜ RunsRecords (Sheet.records mostRecords (model .lent (memory (now (nodes .entry)) (now (slots .entry)) arena)) [] (model .view (memory (now (nodes .entry)) (now (slots .entry)) arena)) (drop start (now (sheet .entry)))) (memory (now (nodes .entry)) (now (slots .entry)) arena) (r .outcome) (memory (now (nodes .exit)) (now (slots .exit)) (r .arena)) ⌝ }
 {
     let mut ids = [0; MOST_RECORDS];
     let mut progress = Progress {

@@ -7,6 +7,7 @@ pub mod Numbers
 pub mod Decoding
 pub mod Reading
 pub mod NewNodes
+pub mod Fitting
 pub mod Marking
 pub mod Leaving
 pub mod Staying

@@ -12,7 +12,7 @@ pub use lookup::is_canonical;
 pub use lookup::kind;
 pub use lookup::mark;
 pub use lookup::payload;
-ghost use Rattle.arena.specs.Says.{Says};
+ghost use Rattle.definitions.specs.Says.{Says};
 ghost use Rattle.store.specs.Sound.{Sound};
 use arena::DagArena;
 use arena::MOST_NODES;

@@ -17,7 +17,7 @@ use Rattle.store.proofs.Reading as R
 use Rattle.store.proofs.Viewing.{plain-length}
 use Rattle.walk.specs.declared.state.Progress.{Progress}
 use Rattle.walk.specs.declared.state.Status.the-variants.{Going}
-use Rattle.walk.specs.Stack.{Stack, stack, framesOf, valuesOf, framesIn, valuesIn, topId, topCursor, topFrame, framesUnder, AllBelow, held, Waiting, Valid}
+use Rattle.walk.specs.Stack.{Stack, stack, framesOf, valuesOf, framesIn, valuesIn, topId, topCursor, topFrame, framesUnder, ValuesBelow, held, Waiting, Valid}
 use Rattle.walk.specs.Turns.{Descendable, Descends}
 use Rattle.walk.proofs.Stacks as S
 

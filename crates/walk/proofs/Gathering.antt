@@ -7,7 +7,7 @@ use lib.Seq.{getD-set-same, getD-set-other}
 use native.Mathlib.Omega.{arith}
 use native.Mathlib.Decide.{ℕ-discrete}
 use Rattle.definitions.specs.Limits.{mostChildren}
-use Rattle.patterns.proofs.CarryLaws.{no-children}
+use Rattle.store.proofs.Fitting.{no-children}
 use Rattle.walk.specs.Stack.{Gathered}
 
 -- the first j of n places are filled

@@ -11,7 +11,7 @@ use native.Mathlib.Numerals.{add-one}
 use Rattle.definitions.specs.Limits.{mostChildren}
 use Rattle.definitions.specs.Node.{Node, at}
 use Rattle.definitions.specs.Walk.{Frame, frame, reverseOnto}
-use Rattle.walk.specs.Stack.{framesOf, valuesOf, AllBelow, Waiting, held, Valid, Gathered}
+use Rattle.walk.specs.Stack.{framesOf, valuesOf, ValuesBelow, Waiting, held, Valid, Gathered}
 
 -- ---- writes above what is read
 
@@ -79,16 +79,16 @@ gathered vs from n places l few g =
 
 -- ---- what holds between turns
 
-pub below-up : (m n : ℕ) → m ≤ n → (vs : List ℕ) → AllBelow m vs → AllBelow n vs
+pub below-up : (m n : ℕ) → m ≤ n → (vs : List ℕ) → ValuesBelow m vs → ValuesBelow n vs
 below-up m n l [] h = tt
 below-up m n l (v ∷ vs) h = (omega (arith, h .0), below-up m n l vs (h .1))
 
-pub below-drop : (m n : ℕ) (vs : List ℕ) → AllBelow m vs → AllBelow m (drop n vs)
+pub below-drop : (m n : ℕ) (vs : List ℕ) → ValuesBelow m vs → ValuesBelow m (drop n vs)
 below-drop m zero vs h = h
 below-drop m (suc n) [] h = tt
 below-drop m (suc n) (v ∷ vs) h = below-drop m n vs (h .1)
 
-pub below-at : (m : ℕ) (vs : List ℕ) (n i : ℕ) → AllBelow m (valuesOf vs n) → i < n → getD vs i 0 < m
+pub below-at : (m : ℕ) (vs : List ℕ) (n i : ℕ) → ValuesBelow m (valuesOf vs n) → i < n → getD vs i 0 < m
 below-at m vs zero i h l = absurd (omega arith)
 below-at m vs (suc n) i h l = go (eq-or-lt-of-le (le-of-suc-le-suc l)) (below-at m vs n i (h .1))
   where
@@ -103,7 +103,7 @@ waiting-up ns ms l k (f ∷ fs) h =
     (omega (arith, h .0), h .1, subst (λ (c : List ℕ). f .cursor ≤ length c) (sym (k (f .id) (h .0))) (h .2), waiting-up ns ms l k fs (h .3))
 
 -- a value for the frame that waits
-pub popped : (ns : List Node) (i : ℕ) (fs : List Frame) (vs : List ℕ) → i < length ns → Waiting ns fs → length vs ≡ held fs → AllBelow (length ns) vs → Valid ns fs (i ∷ vs)
+pub popped : (ns : List Node) (i : ℕ) (fs : List Frame) (vs : List ℕ) → i < length ns → Waiting ns fs → length vs ≡ held fs → ValuesBelow (length ns) vs → Valid ns fs (i ∷ vs)
 popped ns i [] vs l b e a = (ap suc e, (l, a))
 popped ns i (g ∷ gs) vs l b e a = (b .0, b .2, b .3, omega (arith, b .1), (l, a))
 

@@ -25,7 +25,7 @@ use Rattle.walk.specs.declared.state.Status.{Status}
 use Rattle.walk.specs.declared.state.Status.the-variants.{Going, Stopped}
 use Rattle.rebuild.specs.Memory.{Memory, memory, Sound, nodesOf, lentOf, Keeps}
 use Rattle.rebuild.specs.Rebuild.{Rebuildable, newChildren, finished, Finishes}
-use Rattle.walk.specs.Stack.{mostFrames, mostValues, Stack, stack, framesOf, valuesOf, framesIn, valuesIn, topId, topCursor, topFrame, framesUnder, AllBelow, held, Valid, Whole, Invariant, Gatherable, Gathered}
+use Rattle.walk.specs.Stack.{mostFrames, mostValues, Stack, stack, framesOf, valuesOf, framesIn, valuesIn, topId, topCursor, topFrame, framesUnder, ValuesBelow, held, Valid, Whole, Invariant, Gatherable, Gathered}
 use Rattle.walk.specs.Turns.{Descendable, Descends, Ready, turned, turnOf, Turns}
 use Rattle.walk.proofs.Stacks as S
 use Rattle.walk.proofs.Descending.{frames-are}
@@ -148,8 +148,8 @@ module _ (m : Memory) (limit : ℕ) (k : Stack) (r : Ready m limit k) where
   under-length : length (valuesOf (k .values) from) ≡ held fs
   under-length = S.values-length (k .values) from ∙ (let h = filled-is in omega arith)
 
-  under-below : AllBelow (length ns) (valuesOf (k .values) from)
-  under-below = subst (AllBelow (length ns)) under (S.below-drop (length ns) cursor vs (valid .4))
+  under-below : ValuesBelow (length ns) (valuesOf (k .values) from)
+  under-below = subst (ValuesBelow (length ns)) under (S.below-drop (length ns) cursor vs (valid .4))
 
   -- the top frame leaves a value
   module _ (m′ : Memory) (kept : Keeps m m′) (i : ℕ) (low : i < m′ .arena .count) where

@@ -57,9 +57,9 @@ framesUnder k = framesOf (k .ids) (k .cursors) (k .frames - 1)
 -- ---- what holds between turns
 
 -- values are ids of the store
-abbrev pub AllBelow : ℕ → List ℕ → Type 0
-AllBelow n [] = Unit {0}
-AllBelow n (v ∷ vs) = (v < n) × AllBelow n vs
+abbrev pub ValuesBelow : ℕ → List ℕ → Type 0
+ValuesBelow n [] = Unit {0}
+ValuesBelow n (v ∷ vs) = (v < n) × ValuesBelow n vs
 
 -- frames that wait for the value of a child, which their cursors count already
 abbrev pub Waiting : List Node → List Frame → Type 0
@@ -73,9 +73,9 @@ held (f ∷ fs) = f .cursor - 1 + held fs
 
 -- the top frame has a value for each child that was taken; without a frame, the one value is the result
 abbrev pub Valid : List Node → List Frame → List ℕ → Type 0
-Valid ns [] vs = (length vs ≡ 1) × AllBelow (length ns) vs
+Valid ns [] vs = (length vs ≡ 1) × ValuesBelow (length ns) vs
 Valid ns (f ∷ fs) vs =
-    (f .id < length ns) × (f .cursor ≤ length (at ns (f .id) .children)) × Waiting ns fs × (length vs ≡ f .cursor + held fs) × AllBelow (length ns) vs
+    (f .id < length ns) × (f .cursor ≤ length (at ns (f .id) .children)) × Waiting ns fs × (length vs ≡ f .cursor + held fs) × ValuesBelow (length ns) vs
 
 -- the arrays are whole
 pub record Whole (k : Stack) : Type 0 where

@@ -5,12 +5,14 @@ ghost use Rattle.store.specs.Memory.{memory, Leaves};
 ghost use Rattle.rebuild.specs.Memory.{Sound};
 ghost use Rattle.walk.specs.Answers.{meaning};
 
-mod refusals;
 mod run;
 pub mod state;
 mod turn;
 
 use arena::DagArena;
+use definitions::refusals::BAD_CODE;
+use definitions::refusals::BAD_OPERAND;
+use definitions::refusals::NOT_SOUND;
 use state::MOST_DEPTH;
 use state::Walk;
 
@@ -51,11 +53,11 @@ pub fn simplify_sound(
     ensures { λ r. ⌜ Leaves (M.simplify root depth budget) (memory (now (nodes .entry)) (now (slots .entry)) arena) (meaning (r .answer)) (memory (now (nodes .exit)) (now (slots .exit)) (r .arena)) ⌝ }
 {
     if MOST_DEPTH < depth {
-        return refuse(refusals::BAD_CODE, arena);
+        return refuse(BAD_CODE, arena);
     }
     let id = root as u64;
     if arena.count <= id {
-        return refuse(refusals::BAD_OPERAND, arena);
+        return refuse(BAD_OPERAND, arena);
     }
     let walk = Walk::new(arena, id, depth as usize);
     run::run(nodes, slots, walk, id, budget)
@@ -73,7 +75,7 @@ pub fn simplify(
     ensures { λ r. ⌜ Leaves (M.simplify root depth budget) (memory (now (nodes .entry)) (now (slots .entry)) arena) (meaning (r .answer)) (memory (now (nodes .exit)) (now (slots .exit)) (r .arena)) ⌝ }
 {
     if !store::audit(nodes, slots, arena) {
-        return refuse(refusals::NOT_SOUND, arena);
+        return refuse(NOT_SOUND, arena);
     }
     simplify_sound(nodes, slots, arena, root, depth, budget)
 }

@@ -3,7 +3,7 @@ use native.Mathlib.Omega.{arith}
 use lib.ListN.{length}
 use borrow.Author.Tests.{leb-true, leb-false}
 use Rattle.definitions.specs.Names.{longestName}
-use Rattle.names.proofs.Deciding.{says-no}
+use Rattle.definitions.proofs.Deciding.{says-no}
 use Rattle.names.proofs.length_allowed.Statement.{statement}
 use Rattle.names.proofs.length_allowed.Tie as tie
 

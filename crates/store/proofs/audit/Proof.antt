@@ -1,4 +1,4 @@
-use Rattle.arena.proofs.Deciding.{says-map}
+use Rattle.definitions.proofs.Deciding.{says-map}
 use borrow.Author.Needs.{needs}
 use Rattle.store.proofs.audit.Statement.{statement}
 use Rattle.store.proofs.audit.Tie as tie

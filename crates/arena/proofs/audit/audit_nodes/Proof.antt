@@ -6,7 +6,7 @@ use borrow.Author.Count.{below-more}
 use borrow.Author.Tests.{not-true, not-false}
 use Rattle.arena.specs.Node.{nodeAt}
 use Rattle.arena.specs.Nodes.{WellFormed}
-use Rattle.arena.proofs.Deciding.{says-yes, says-no}
+use Rattle.definitions.proofs.Deciding.{says-yes, says-no}
 use Rattle.arena.proofs.Listing as L
 use Rattle.arena.proofs.audit.audit_nodes.Statement.{statement}
 use Rattle.arena.proofs.audit.audit_nodes.Tie as tie

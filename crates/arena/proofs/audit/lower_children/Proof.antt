@@ -5,7 +5,7 @@ use native.Mathlib.Omega.{arith}
 use borrow.Author.Needs.{needs}
 use borrow.Author.Count.{below-more}
 use Rattle.arena.specs.Layout.{mostChildren}
-use Rattle.arena.proofs.Deciding.{says-yes, says-no}
+use Rattle.definitions.proofs.Deciding.{says-yes, says-no}
 use Rattle.arena.proofs.Forming.{Place, places-passed}
 use Rattle.arena.proofs.Listing as L
 use Rattle.arena.proofs.audit.lower_children.Statement.{statement}

@@ -4,7 +4,7 @@ use native.Mathlib.Omega.{arith}
 use borrow.Author.Needs.{needs}
 use borrow.Author.Tests.{not-true, not-false}
 use Rattle.arena.specs.Node.{nodeHash}
-use Rattle.arena.proofs.Deciding.{says-no}
+use Rattle.definitions.proofs.Deciding.{says-no}
 use Rattle.arena.proofs.Forming.{not-listed, only-weighed}
 use Rattle.arena.proofs.Listing as L
 use Rattle.arena.proofs.audit.well_formed.Statement.{statement}

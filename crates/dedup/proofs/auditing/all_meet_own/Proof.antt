@@ -4,7 +4,7 @@ use native.Mathlib.Omega.{arith}
 use borrow.Author.Needs.{needs}
 use borrow.Author.Count.{below-more}
 use borrow.Author.Tests.{not-true, not-false}
-use Rattle.arena.proofs.Deciding.{says-yes, all-no}
+use Rattle.definitions.proofs.Deciding.{says-yes, all-no}
 use Rattle.dedup.specs.Audit.{MeetsOwn}
 use Rattle.dedup.proofs.auditing.all_meet_own.Statement.{statement}
 use Rattle.dedup.proofs.auditing.all_meet_own.Tie as tie

@@ -3,7 +3,7 @@ use mathlib.Core.Path.{sym, _∙_}
 use native.Mathlib.Omega.{arith}
 use borrow.Author.Needs.{needs}
 use borrow.Author.Tests.{not-true, not-false}
-use Rattle.arena.proofs.Deciding.{says-no, says-map}
+use Rattle.definitions.proofs.Deciding.{says-no, says-map}
 use Rattle.dedup.proofs.AuditedTable.{sound-of, meets-own, number-of}
 use Rattle.dedup.proofs.auditing.audit.Statement.{statement}
 use Rattle.dedup.proofs.auditing.audit.Tie as tie

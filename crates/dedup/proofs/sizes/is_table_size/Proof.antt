@@ -2,7 +2,7 @@
 use Prim.Native.Nat.{_%_}
 use mathlib.Core.Path.{_≡_}
 use native.Mathlib.Omega.{arith}
-use Rattle.arena.proofs.Deciding.{says-no, says-map, says-eq}
+use Rattle.definitions.proofs.Deciding.{says-no, says-map, says-eq}
 use Rattle.dedup.specs.Table.{TableSize}
 use Rattle.dedup.proofs.Doubling.{not-odd, halved, of-half, first-size, last-half}
 use Rattle.dedup.proofs.sizes.is_table_size.Statement.{statement}

@@ -4,7 +4,7 @@ use native.Mathlib.Omega.{arith}
 use borrow.Author.Needs.{needs}
 use borrow.Author.Tests.{not-true, not-false}
 use Rattle.names.specs.Sound.{EntriesSound}
-use Rattle.names.proofs.Deciding.{says-yes}
+use Rattle.definitions.proofs.Deciding.{says-yes}
 use Rattle.names.proofs.Auditing.{entry-bad, entry-good}
 use Rattle.names.proofs.audit.entries_sound.Statement.{statement}
 use Rattle.names.proofs.audit.entries_sound.Tie as tie

@@ -7,7 +7,7 @@ use lib.ListN.{length}
 use lib.ListN.{length-set}
 use Rattle.definitions.specs.Names.{mostNames}
 use Rattle.names.specs.Buckets.{buckets}
-use Rattle.names.proofs.Deciding.{says-yes, says-no}
+use Rattle.definitions.proofs.Deciding.{says-yes, says-no}
 use Rattle.names.proofs.Chains.{Sorted, sorted-none, chained, sorted-more, once-all, twice-no}
 use Rattle.names.proofs.audit.no_name_twice.Statement.{statement}
 use Rattle.names.proofs.audit.no_name_twice.Tie as tie

@@ -2,7 +2,7 @@
 use mathlib.Core.Path.{sym, subst}
 use native.Mathlib.Omega.{arith}
 use borrow.Author.Needs.{needs}
-use Rattle.names.proofs.Deciding.{says-no}
+use Rattle.definitions.proofs.Deciding.{says-no}
 use Rattle.names.proofs.Chains.{Walked, walk-starts, walk-goes-on, walk-ends, stands-here, stands-not, link-falls}
 use Rattle.names.proofs.audit.stands_before.Statement.{statement}
 use Rattle.names.proofs.audit.stands_before.Tie as tie

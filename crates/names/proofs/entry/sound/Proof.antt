@@ -6,7 +6,7 @@ use borrow.Author.Needs.{needs}
 use lib.ListN.{getD}
 use Rattle.definitions.specs.Names.{entryBytes}
 use Rattle.names.proofs.Entries.{unused-more}
-use Rattle.names.proofs.Deciding.{says-yes, says-no}
+use Rattle.definitions.proofs.Deciding.{says-yes, says-no}
 use Rattle.names.proofs.entry.sound.Statement.{statement}
 use Rattle.names.proofs.entry.sound.Tie as tie
 

@@ -1,10 +1,10 @@
 use borrow.Author.Needs.{needs}
-use Rattle.patterns.proofs.CarryLaws as Carries
+use Rattle.store.proofs.Fitting.{constant-fits}
 use Rattle.patterns.proofs.carrying.intern_constant.Statement.{statement}
 use Rattle.patterns.proofs.carrying.intern_constant.Tie as tie
 
 intern-requires : tie.Need-intern-requires
-intern-requires c κs = (Carries.constant-fits _ _, (c .before .before .before .before .pre))
+intern-requires c κs = (constant-fits _ _, (c .before .before .before .before .pre))
 
 same-length : tie.Need-same-length
 same-length c = search needs

@@ -1,10 +1,10 @@
 use borrow.Author.Needs.{needs}
-use Rattle.patterns.proofs.CarryLaws as Carries
+use Rattle.store.proofs.Fitting.{operator-fits}
 use Rattle.patterns.proofs.carrying.intern_operator.Statement.{statement}
 use Rattle.patterns.proofs.carrying.intern_operator.Tie as tie
 
 intern-requires : tie.Need-intern-requires
-intern-requires c κs = (Carries.operator-fits _ _ _ _ (c .before .before .before .before .pre .0), c .before .before .before .before .pre .1)
+intern-requires c κs = let operands = c .before .before .before .before .pre .0 in (operator-fits _ _ _ _ (operands .listing) (operands .left) (operands .right), c .before .before .before .before .pre .1)
 
 same-length : tie.Need-same-length
 same-length c = search needs

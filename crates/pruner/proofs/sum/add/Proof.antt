@@ -1,12 +1,16 @@
 -- `pruner::sum::add` meets its contract. Assumes nothing.
+use mathlib.Core.Path.{refl}
 use borrow.Author.Needs.{needs}
 use Rattle.definitions.specs.Patterns.{internAdd}
-use Rattle.pruner.proofs.Summing as Q
+use Rattle.arena.specs.Kind.{operatorArity}
+use Rattle.store.specs.View.{listed}
+use Rattle.store.proofs.Fitting.{operator-fits}
 use Rattle.pruner.proofs.sum.add.Statement.{statement}
 use Rattle.pruner.proofs.sum.add.Tie as tie
 
 intern-number-requires : tie.Need-intern-number-requires
-intern-number-requires c κs = (Q.add-fits _ _ _ (c .before .before .before .before .before .before .pre .0) (c .before .before .before .before .before .before .pre .1), c .before .before .before .before .before .before .pre .2)
+unfolding listed operatorArity
+intern-number-requires c κs = (operator-fits _ _ _ _ refl (c .before .before .before .before .before .before .pre .0) (c .before .before .before .before .before .before .pre .1), c .before .before .before .before .before .before .pre .2)
 
 same-length : tie.Need-same-length
 same-length c = search needs

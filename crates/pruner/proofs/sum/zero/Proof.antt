@@ -2,12 +2,12 @@
 use borrow.Author.Needs.{needs}
 use lib.Ieee.{toBits}
 use Rattle.definitions.specs.Patterns.{internConstant}
-use Rattle.pruner.proofs.Summing as Q
+use Rattle.store.proofs.Fitting.{constant-fits}
 use Rattle.pruner.proofs.sum.zero.Statement.{statement}
 use Rattle.pruner.proofs.sum.zero.Tie as tie
 
 intern-requires : tie.Need-intern-requires
-intern-requires c κs = (Q.zero-fits _, c .before .before .before .before .pre)
+intern-requires c κs = (constant-fits _ _, c .before .before .before .before .pre)
 
 same-length : tie.Need-same-length
 same-length c = search needs

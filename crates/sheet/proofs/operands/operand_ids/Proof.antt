@@ -6,7 +6,7 @@ use native.Mathlib.Omega.{arith}
 use denote.Ref.{now}
 use Rattle.records.specs.Reading.{operandsFrom}
 use Rattle.sheet.specs.Running.{idBelow}
-use Rattle.sheet.proofs.Filling.{Filled, filled-none, filled-more}
+use Rattle.sheet.proofs.Placing.{IdsPlaced, placed-none, placed-more}
 use Rattle.sheet.proofs.operands.operand_ids.Statement.{statement}
 use Rattle.sheet.proofs.operands.operand_ids.Tie as tie
 use Rattle.sheet.proofs.operands.operand_ids.Reads as reads
@@ -15,13 +15,13 @@ use Rattle.records.proofs.operand.Reads as operand-reads
 use Rattle.sheet.proofs.operands.operand_id.Reads as operand-id-reads
 
 abbrev Inv-loop : tie.InvT-loop
-Inv-loop sheet first operands ids done count children₀ k₀ children k = Filled (idBelow ids done count) sheet first operands children k
+Inv-loop sheet first operands ids done count children₀ k₀ children k = IdsPlaced (idBelow ids done count) sheet first operands children k
 
 abbrev μ-loop : tie.MeasureT-loop
 μ-loop sheet first operands ids done count children₀ k₀ children k = operands - k
 
 loop-holds : tie.Need-loop-holds Inv-loop μ-loop
-loop-holds c = filled-none _ _ _ _ _ refl
+loop-holds c = placed-none _ _ _ _ _ refl
 
 operand-requires : tie.Need-operand-requires Inv-loop μ-loop
 operand-requires c κs = omega arith
@@ -42,7 +42,7 @@ loop-less : tie.Need-loop-less Inv-loop μ-loop
 loop-less c = omega arith
 
 loop-again : tie.Need-loop-again Inv-loop μ-loop
-loop-again c = filled-more _ _ _ _ _ _ (c .before .before .before .loop .inv) (omega arith) (omega arith) _ _ (c .before .operand .ensures) (c .operand-id .ensures)
+loop-again c = placed-more _ _ _ _ _ _ (c .before .before .before .loop .inv) (omega arith) (omega arith) _ _ (c .before .operand .ensures) (c .operand-id .ensures)
 
 returns : tie.Need-returns Inv-loop μ-loop
 returns c =

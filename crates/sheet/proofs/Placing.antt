@@ -21,17 +21,17 @@ operands-snoc s first (suc n) =
     ap (λ (t : List ℕ). operandFrom s first ∷ t) (operands-snoc s (first + 2) n ∙ ap (λ (i : ℕ). operandsFrom s (first + 2) n ++ operandFrom s i ∷ []) e)
 
 -- so many places hold the ids of as many operands
-pub record Filled (f : ℕ → ℕ) (s : List ℕ) (first operands : ℕ) (children : List ℕ) (k : ℕ) : Type 0 where
+pub record IdsPlaced (f : ℕ → ℕ) (s : List ℕ) (first operands : ℕ) (children : List ℕ) (k : ℕ) : Type 0 where
   pub within : k ≤ operands
   pub long : length children ≡ mostChildren
   pub is : take k children ≡ map f (operandsFrom s first k)
 
-pub filled-none : (f : ℕ → ℕ) (s : List ℕ) (first operands : ℕ) (children : List ℕ) → length children ≡ mostChildren → Filled f s first operands children 0
+pub placed-none : (f : ℕ → ℕ) (s : List ℕ) (first operands : ℕ) (children : List ℕ) → length children ≡ mostChildren → IdsPlaced f s first operands children 0
 unfolding operandsFrom
-filled-none f s first operands children l = record { within = omega arith; long = l; is = refl }
+placed-none f s first operands children l = record { within = omega arith; long = l; is = refl }
 
-pub filled-more : (f : ℕ → ℕ) (s : List ℕ) (first operands : ℕ) (children : List ℕ) (k : ℕ) → Filled f s first operands children k → k < operands → operands ≤ mostChildren → (o v : ℕ) → o ≡ operandFrom s (first + k * 2) → v ≡ f o → Filled f s first operands (set children k v) (k + 1)
-filled-more f s first operands children k d h few o v e g =
+pub placed-more : (f : ℕ → ℕ) (s : List ℕ) (first operands : ℕ) (children : List ℕ) (k : ℕ) → IdsPlaced f s first operands children k → k < operands → operands ≤ mostChildren → (o v : ℕ) → o ≡ operandFrom s (first + k * 2) → v ≡ f o → IdsPlaced f s first operands (set children k v) (k + 1)
+placed-more f s first operands children k d h few o v e g =
     let long : length children ≡ mostChildren = d .long in
     record {
       within = omega arith;

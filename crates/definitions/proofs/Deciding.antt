@@ -4,7 +4,7 @@ use mathlib.Core.Path.{_≡_, refl, sym}
 use mathlib.Core.Bool.{Bool, true, false, _&&_, false≢true, true≢false}
 use lib.Dec.{eqb}
 use borrow.Author.Tests.{eqb-true, eqb-false}
-use Rattle.arena.specs.Says.{Says}
+use Rattle.definitions.specs.Says.{Says}
 
 pub says-yes : {P : Type 0} → P → Says true P
 says-yes p = record { yes = λ _. p; no = λ e. absurd (true≢false e) }
@@ -34,6 +34,7 @@ same-test true y f g = sym (f refl)
 same-test false true f g = g refl
 same-test false false f g = refl
 
+-- two tests that pass together pass each
 pub both : (x y : Bool) → x && y ≡ true → (x ≡ true) × (y ≡ true)
 both true y h = (refl, h)
 both false y h = absurd (false≢true h)

@@ -1,0 +1,44 @@
+-- Nodes that may be interned: a constant, and an operator of two operands with the flags that `add` and `mul` give.
+use Prim.Native.Nat.{ℕ, zero, suc, _≤_, _<_}
+use mathlib.Core.Path.{_≡_, refl}
+use mathlib.Core.Bool.{true}
+use mathlib.Core.List.{[], _∷_}
+use lib.ListN.{getD}
+use native.Mathlib.Omega.{arith}
+use Rattle.definitions.specs.Node.{constantKind, bothFlags}
+use Rattle.arena.specs.Kind.{operatorArity}
+use Rattle.store.specs.View.{listed}
+use Rattle.store.specs.Lookup.{Fits}
+
+-- unused child places are 0
+pub no-children : (j : ℕ) → _≡_ {A = ℕ} (getD (0 ∷ 0 ∷ 0 ∷ 0 ∷ []) j 0) 0
+no-children zero = refl
+no-children (suc zero) = refl
+no-children (suc (suc zero)) = refl
+no-children (suc (suc (suc zero))) = refl
+no-children (suc (suc (suc (suc j)))) = refl
+
+pub constant-fits : (count b : ℕ) → Fits count constantKind b 0 0 (0 ∷ 0 ∷ 0 ∷ 0 ∷ [])
+unfolding listed operatorArity
+constant-fits count b = record { listing = refl; unmarked = omega arith; few = omega arith; lower = λ j h. absurd (omega arith); unused = λ j h. no-children j }
+
+both-low : (a b count : ℕ) → a < count → b < count → (j : ℕ) → j < 2 → getD (a ∷ b ∷ 0 ∷ 0 ∷ []) j 0 < count
+both-low a b count x y zero l = x
+both-low a b count x y (suc zero) l = y
+both-low a b count x y (suc (suc j)) l = absurd (omega arith)
+
+none-after : (a b j : ℕ) → 2 ≤ j → getD (a ∷ b ∷ 0 ∷ 0 ∷ []) j 0 ≡ 0
+none-after a b zero h = absurd (omega arith)
+none-after a b (suc zero) h = absurd (omega arith)
+none-after a b (suc (suc zero)) h = refl
+none-after a b (suc (suc (suc zero))) h = refl
+none-after a b (suc (suc (suc (suc j)))) h = refl
+
+pub operator-fits : (count k a b : ℕ) → listed k 0 2 ≡ true → a < count → b < count → Fits count k 0 bothFlags 2 (a ∷ b ∷ 0 ∷ 0 ∷ [])
+operator-fits count k a b listing left right = record {
+  listing = listing;
+  unmarked = omega arith;
+  few = omega arith;
+  lower = both-low a b count left right;
+  unused = none-after a b;
+}
