@@ -3,7 +3,7 @@ use Prim.Native.Nat.{_≤_, _<_}
 use native.Mathlib.Omega.{arith}
 use borrow.Author.Needs.{needs}
 use borrow.Author.Tests.{ltb-true, ltb-false}
-use Rattle.arena.proofs.Deciding.{says-no}
+use Rattle.definitions.proofs.Deciding.{says-no}
 use Rattle.dedup.proofs.has_room.Statement.{statement}
 use Rattle.dedup.proofs.has_room.Tie as tie
 

@@ -1,6 +1,6 @@
 -- `listing_reader::is_answer_listed` meets its contract.
 use borrow.Author.Needs.{needs}
-use Rattle.arena.proofs.Deciding.{says-yes}
+use Rattle.definitions.proofs.Deciding.{says-yes}
 use Rattle.listing_reader.proofs.Listings.{listed-as, says-below}
 use Rattle.listing_reader.proofs.is_answer_listed.Statement.{statement}
 use Rattle.listing_reader.proofs.is_answer_listed.Tie as tie
