@@ -1,18 +1,17 @@
 -- No refusal has the number 0, which says that a call is answered.
-use Prim.Native.Nat.{ℕ, suc, _-_, min}
+use Prim.Native.Nat.{ℕ, _-_}
 use mathlib.Core.Path.{_≡_, refl, sym, subst}
 use mathlib.Core.Bool.{Bool, true, false, _&&_, cond}
 use mathlib.Core.List.{List}
-use mathlib.Core.Option.{Option, none, some}
-use mathlib.Core.Logic.{_⊎_, inl, inr, ⊎-elim}
+use mathlib.Core.Logic.{_⊎_, ⊎-elim}
 use native.Mathlib.Omega.{arith}
 use lib.ListN.{length}
 use lib.Dec.{leb, ltb, eqb}
 use lib.Ieee.{Float, binary64, ofBits}
-use Rattle.definitions.specs.Limits.{mostNodes, mostDepth, mostTerms, infinityBits}
-use Rattle.definitions.specs.Refusals.{notSound, badOperand, badCode, badChildCount, badThreshold, badSetting, tooManyTerms, noNodePlace, noSlotPlace}
+use Rattle.definitions.specs.Limits.{mostDepth, mostTerms, infinityBits}
+use Rattle.definitions.specs.Refusals.{notSound, badOperand, badCode, badChildCount, badThreshold, badSetting, tooManyTerms}
 use Rattle.definitions.specs.Node.{Node, at, addKind, childCountListed}
-use Rattle.definitions.specs.Intern.{Lent, Built, built, stopped, intern, find, noPlace, addNew, foundOrNew, tableSize}
+use Rattle.definitions.specs.Intern.{Lent, Built, built, stopped, intern}
 use Rattle.definitions.specs.Walk.{standard, walkRoot}
 use Rattle.definitions.specs.Prune.{chain, keeps, filter, sumOfKept}
 use Rattle.definitions.specs.Threshold.{Threshold, bits, refusing, given}
@@ -20,9 +19,10 @@ use Rattle.definitions.specs.Settings.{setting, threshold, firstSetting, lastSe
 use Rattle.definitions.specs.Machine as M
 use Rattle.definitions.specs.Machine.{Call, Answer, stored, simplified, pruned, refused, outcome, Request, State, call, storeCall, storedAs, simplifyCall, walkedAs, pruneChain, pruneAt, pruneCall, prunedAs, allBelow}
 use Rattle.definitions.specs.Promise.{Called}
+use Rattle.definitions.proofs.Stopping.{NoPlace, StopsForPlace, intern-stops}
 use Rattle.store.specs.Memory.{Memory, model}
-use Rattle.walk.proofs.Refusing.{FullStore, refused-full}
-use Rattle.pruner.proofs.Halving.{StopsForPlace, sum-stops}
+use Rattle.walk.proofs.Refusing.{refused-full}
+use Rattle.pruner.proofs.Halving.{sum-stops}
 
 -- an answer, or a refusal with a number from 1 on
 abbrev pub Numbered : Answer → Type 0
@@ -32,7 +32,7 @@ Numbered (pruned id kept dropped) = Unit {0}
 Numbered (refused number) = number ≡ 0 → ⊥
 
 -- the numbers 21 and 22
-place-numbered : (number : ℕ) → (number ≡ noNodePlace) ⊎ (number ≡ noSlotPlace) → number ≡ 0 → ⊥
+place-numbered : (number : ℕ) → NoPlace number → number ≡ 0 → ⊥
 place-numbered number p z = ⊎-elim (λ h. omega arith) (λ h. omega arith) p
 
 -- ---- store calls
@@ -40,23 +40,6 @@ place-numbered number p z = ⊎-elim (λ h. omega arith) (λ h. omega arith) p
 stored-numbered : (b : Built) → StopsForPlace b → Numbered (storedAs b .answer)
 stored-numbered (built ns i) s = tt
 stored-numbered (stopped ns number) s = place-numbered number s
-
-new-stops : (l : Lent) (ns : List Node) (n : Node) → StopsForPlace (addNew ns n (noPlace l (length ns)))
-unfolding noPlace
-new-stops l ns n = by (leb (min (l .nodes) mostNodes) (length ns)) (ltb (l .slots) (tableSize (suc (length ns))))
-  where
-    by : (a b : Bool) → StopsForPlace (addNew ns n (cond a (some noNodePlace) (cond b (some noSlotPlace) none)))
-    by true b = inl refl
-    by false true = inr refl
-    by false false = tt
-
-intern-stops : (l : Lent) (ns : List Node) (n : Node) → StopsForPlace (intern l ns n)
-unfolding intern
-intern-stops l ns n = by (find n ns 0)
-  where
-    by : (o : Option ℕ) → StopsForPlace (foundOrNew l ns n o)
-    by none = new-stops l ns n
-    by (some i) = tt
 
 stores-numbered : (l : Lent) (ns : List Node) (r : Request) → Numbered (storeCall l ns r .answer)
 unfolding storeCall
@@ -71,7 +54,7 @@ stores-numbered l ns r = by (r .listed) (childCountListed (r .node .kind) (r .no
 -- ---- simplify
 
 -- an answer is numbered if a refusal is 21 or 22
-full-numbered : (a : Answer) → ((number : ℕ) → a ≡ refused number → FullStore number) → Numbered a
+full-numbered : (a : Answer) → ((number : ℕ) → a ≡ refused number → NoPlace number) → Numbered a
 full-numbered (stored id) f = tt
 full-numbered (simplified id spent steps) f = tt
 full-numbered (pruned id kept dropped) f = tt

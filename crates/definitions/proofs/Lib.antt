@@ -1,6 +1,7 @@
 pub mod Deciding
 pub mod Stable
 pub mod Intern
+pub mod Stopping
 pub mod Walk
 pub mod Numbers
 pub mod Bounds

@@ -1,20 +1,16 @@
 -- The balanced sum of terms, over the sums of its halves.
-use Prim.Native.Nat.{ℕ, zero, suc, _/_, _^_, _≤_, min}
+use Prim.Native.Nat.{ℕ, zero, suc, _/_, _^_, _≤_}
 use mathlib.Core.Path.{_≡_, refl, ap, _∙_}
-use mathlib.Core.Bool.{Bool, true, false, cond}
-use mathlib.Core.Logic.{_⊎_, inl, inr}
-use mathlib.Core.Option.{Option, none, some}
 use mathlib.Core.List.{List, [], _∷_}
 use lib.ListN.{length, take, drop, length-take, length-drop}
-use lib.Dec.{leb, ltb}
 use native.Mathlib.Omega.{arith}
 use native.Mathlib.Nat.{pow-suc}
-use Rattle.definitions.specs.Limits.{mostNodes, mostTerms, mostHalvings}
-use Rattle.definitions.specs.Refusals.{noNodePlace, noSlotPlace}
+use Rattle.definitions.specs.Limits.{mostTerms, mostHalvings}
 use Rattle.definitions.specs.Node.{Node}
-use Rattle.definitions.specs.Intern.{Lent, Built, built, stopped, then, find, noPlace, addNew, foundOrNew, intern, tableSize}
+use Rattle.definitions.specs.Intern.{Lent, Built, built, stopped, then}
 use Rattle.definitions.specs.Patterns.{zero64, internConstant, internAdd}
 use Rattle.definitions.specs.Prune.{balancedAdd, sumOfKept}
+use Rattle.definitions.proofs.Stopping.{StopsForPlace, intern-stops, then-stops}
 
 then-same : (m : Built) (f g : List Node → ℕ → Built) → ((ns : List Node) (i : ℕ) → f ns i ≡ g ns i) → then m f ≡ then m g
 then-same (built ns i) f g h = h ns i
@@ -71,43 +67,7 @@ pub sum-of-one : (l : Lent) (ns : List Node) (a : ℕ) → sumOfKept l ns (a ∷
 unfolding sumOfKept balancedAdd
 sum-of-one l ns a = refl
 
--- ---- building stops by 21 or 22 alone
-abbrev pub NoPlace : ℕ → Type 0
-NoPlace number = (number ≡ noNodePlace) ⊎ (number ≡ noSlotPlace)
-
-abbrev pub StopsForPlace : Built → Type 0
-StopsForPlace (built ns i) = Unit {0}
-StopsForPlace (stopped ns number) = NoPlace number
-
-abbrev WithoutPlace : Option ℕ → Type 0
-WithoutPlace none = Unit {0}
-WithoutPlace (some number) = NoPlace number
-
-no-place : (l : Lent) (count : ℕ) → WithoutPlace (noPlace l count)
-unfolding noPlace
-no-place l count = go (leb (min (l .nodes) mostNodes) count) (ltb (l .slots) (tableSize (suc count)))
-  where
-    go : (a b : Bool) → WithoutPlace (cond a (some noNodePlace) (cond b (some noSlotPlace) none))
-    go true b = inl refl
-    go false true = inr refl
-    go false false = tt
-
-intern-stops : (l : Lent) (ns : List Node) (n : Node) → StopsForPlace (intern l ns n)
-unfolding intern
-intern-stops l ns n = go (find n ns 0)
-  where
-    new : (o : Option ℕ) → WithoutPlace o → StopsForPlace (addNew ns n o)
-    new none w = tt
-    new (some number) w = w
-
-    go : (o : Option ℕ) → StopsForPlace (foundOrNew l ns n o)
-    go (some i) = tt
-    go none = new (noPlace l (length ns)) (no-place l (length ns))
-
-then-stops : (m : Built) (f : List Node → ℕ → Built) → StopsForPlace m → ((ns : List Node) (i : ℕ) → StopsForPlace (f ns i)) → StopsForPlace (then m f)
-then-stops (built ns i) f s h = h ns i
-then-stops (stopped ns r) f s h = s
-
+-- ---- a sum stops by 21 or 22 alone
 balanced-stops : (d : ℕ) (l : Lent) (ns : List Node) (ts : List ℕ) → StopsForPlace (balancedAdd d l ns ts)
 unfolding balancedAdd internConstant internAdd
 balanced-stops zero l ns ts = intern-stops l ns _

@@ -40,7 +40,8 @@ use Rattle.pruner.specs.declared.Answer.the-variants.{Pruned, Refused}
 use Rattle.pruner.proofs.Below.{below-of, lower-filter}
 use Rattle.pruner.proofs.Chains.{chain-low}
 use Rattle.pruner.proofs.Reading.{readable, layered}
-use Rattle.pruner.proofs.Halving.{NoPlace, StopsForPlace, sum-stops}
+use Rattle.definitions.proofs.Stopping.{NoPlace, StopsForPlace}
+use Rattle.pruner.proofs.Halving.{sum-stops}
 
 -- 21 and 22 keep what was interned
 for-place : (number : ℕ) → NoPlace number → keepsInterned number ≡ true

@@ -1,34 +1,24 @@
 -- A walk is stopped by 21 or 22 alone.
-use Prim.Native.Nat.{ℕ, zero, suc, min}
-use mathlib.Core.Path.{_≡_, refl, sym, ap, _∙_, subst}
+use Prim.Native.Nat.{ℕ, zero, suc}
+use mathlib.Core.Path.{_≡_, subst}
 use mathlib.Core.Bool.{Bool, true, false, not, _&&_, _||_, cond}
 use mathlib.Core.List.{List, [], _∷_}
 use mathlib.Core.Option.{Option, none, some}
-use mathlib.Core.Logic.{_⊎_, inl, inr}
 use native.Mathlib.Omega.{arith}
 use lib.ListN.{length, getD, take, drop}
 use lib.Dec.{eqb, leb, ltb}
 use lib.Ieee.{Float, binary64, toBits}
-use Rattle.definitions.specs.Limits.{mostNodes}
-use Rattle.definitions.specs.Refusals.{noNodePlace, noSlotPlace}
 use Rattle.definitions.specs.Node.{Node, node, at, sameChildren, constantKind, addKind, mulKind}
-use Rattle.definitions.specs.Intern.{Lent, Built, built, stopped, then, intern, tableSize, noPlace, addNew, foundOrNew, find}
+use Rattle.definitions.specs.Intern.{Lent, Built, built, stopped, intern}
 use Rattle.definitions.specs.Patterns as P
 use Rattle.definitions.specs.Patterns.{orElse, when, tryApply, constantValue, isZero, isOne, isFinite, isPositive, zero64, one64, fold, internConstant, internAdd, internMul}
 use Rattle.definitions.specs.Walk.{Frame, frame, Turn, go, stop, standard, turn, descend, ascend, finish, takenUnwalked, rebuiltFlags, rebuilt, rebuildOrMatch, reverseOnto, Walked, walk, finished, spent, halted, walkRoot}
 use Rattle.definitions.specs.Machine as M
-
--- "A walk or prune stopped by 21 or 22"
-abbrev pub FullStore : ℕ → Type 0
-FullStore number = (number ≡ noNodePlace) ⊎ (number ≡ noSlotPlace)
-
-abbrev Stops : Built → Type 0
-Stops (built ns i) = Unit {0}
-Stops (stopped ns number) = FullStore number
+use Rattle.definitions.proofs.Stopping.{NoPlace, StopsForPlace, intern-stops, then-stops}
 
 abbrev Fires : Option Built → Type 0
 Fires none = Unit {0}
-Fires (some m) = Stops m
+Fires (some m) = StopsForPlace m
 
 -- ---- choices
 
@@ -36,50 +26,32 @@ or-fires : (x y : Option Built) → Fires x → Fires y → Fires (orElse x y)
 or-fires none y a b = b
 or-fires (some m) y a b = a
 
-when-fires : (b : Bool) (m : Built) → Stops m → Fires (when b m)
+when-fires : (b : Bool) (m : Built) → StopsForPlace m → Fires (when b m)
 when-fires true m s = s
 when-fires false m s = tt
 
-first-fires : (b : Bool) (m : Built) (o : Option Built) → Stops m → Fires o → Fires (orElse (when b m) o)
+first-fires : (b : Bool) (m : Built) (o : Option Built) → StopsForPlace m → Fires o → Fires (orElse (when b m) o)
 first-fires b m o s f = or-fires (when b m) o (when-fires b m s) f
 
 cond-fires : (b : Bool) (x y : Option Built) → Fires x → Fires y → Fires (cond b x y)
 cond-fires true x y f g = f
 cond-fires false x y f g = g
 
-then-stops : (m : Built) (f : List Node → ℕ → Built) → Stops m → ((ns : List Node) (i : ℕ) → Stops (f ns i)) → Stops (then m f)
-then-stops (built ns i) f s t = t ns i
-then-stops (stopped ns number) f s t = s
-
 module _ (l : Lent) where
   -- ---- interning
 
-  new-stops : (ns : List Node) (n : Node) → Stops (addNew ns n (noPlace l (length ns)))
-  unfolding noPlace
-  new-stops ns n = by (leb (min (l .nodes) mostNodes) (length ns)) (ltb (l .slots) (tableSize (suc (length ns))))
-    where
-      by : (a b : Bool) → Stops (addNew ns n (cond a (some noNodePlace) (cond b (some noSlotPlace) none)))
-      by true b = inl refl
-      by false true = inr refl
-      by false false = tt
+  interns : (ns : List Node) (n : Node) → StopsForPlace (intern l ns n)
+  interns = intern-stops l
 
-  interns : (ns : List Node) (n : Node) → Stops (intern l ns n)
-  unfolding intern
-  interns ns n = by (find n ns 0)
-    where
-      by : (o : Option ℕ) → Stops (foundOrNew l ns n o)
-      by none = new-stops ns n
-      by (some i) = tt
-
-  constants : (ns : List Node) (x : Float) → Stops (internConstant l ns x)
+  constants : (ns : List Node) (x : Float) → StopsForPlace (internConstant l ns x)
   unfolding internConstant
   constants ns x = interns ns (node constantKind (toBits binary64 x) 0 [])
 
-  adds : (ns : List Node) (a b : ℕ) → Stops (internAdd l ns a b)
+  adds : (ns : List Node) (a b : ℕ) → StopsForPlace (internAdd l ns a b)
   unfolding internAdd
   adds ns a b = interns ns (node addKind 0 3 (a ∷ b ∷ []))
 
-  muls : (ns : List Node) (a b : ℕ) → Stops (internMul l ns a b)
+  muls : (ns : List Node) (a b : ℕ) → StopsForPlace (internMul l ns a b)
   unfolding internMul
   muls ns a b = interns ns (node mulKind 0 3 (a ∷ b ∷ []))
 
@@ -98,10 +70,10 @@ module _ (l : Lent) where
     abbrev one-node : Built
     one-node = internConstant l ns one64
 
-    zero-stops : Stops zero-node
+    zero-stops : StopsForPlace zero-node
     zero-stops = constants ns zero64
 
-    one-stops : Stops one-node
+    one-stops : StopsForPlace one-node
     one-stops = constants ns one64
 
     add-zero : Fires (P.addZero l ns a b)
@@ -231,23 +203,23 @@ module _ (l : Lent) where
 
   -- ---- the walk
 
-  rebuilds : (ns : List Node) (i : ℕ) (c : List ℕ) → Stops (rebuildOrMatch l ns i c)
+  rebuilds : (ns : List Node) (i : ℕ) (c : List ℕ) → StopsForPlace (rebuildOrMatch l ns i c)
   unfolding rebuildOrMatch
   rebuilds ns i c = by (tryApply l ns (at ns i .kind) c) (tries ns (at ns i .kind) c)
     where
-      plain : (b : Bool) (n : Node) → Stops (cond b (built ns i) (intern l ns n))
+      plain : (b : Bool) (n : Node) → StopsForPlace (cond b (built ns i) (intern l ns n))
       plain true n = tt
       plain false n = interns ns n
 
-      by : (o : Option Built) → Fires o → Stops (rebuilt l ns i c o)
+      by : (o : Option Built) → Fires o → StopsForPlace (rebuilt l ns i c o)
       by none f = plain (sameChildren (at ns i .children) c) (node (at ns i .kind) (at ns i .payload) (rebuiltFlags (at ns i .kind) (length c)) c)
       by (some m) f = f
 
   abbrev TurnStops : Turn → Type 0
   TurnStops (go ns fs vs) = Unit {0}
-  TurnStops (stop ns number) = FullStore number
+  TurnStops (stop ns number) = NoPlace number
 
-  finishes : (fs : List Frame) (vs : List ℕ) (m : Built) → Stops m → TurnStops (finish standard fs vs m)
+  finishes : (fs : List Frame) (vs : List ℕ) (m : Built) → StopsForPlace m → TurnStops (finish standard fs vs m)
   finishes fs vs (built ns i) s = tt
   finishes fs vs (stopped ns number) s = s
 
@@ -276,7 +248,7 @@ module _ (l : Lent) where
   abbrev WalkStops : Walked → Type 0
   WalkStops (finished ns i k) = Unit {0}
   WalkStops (spent ns k) = Unit {0}
-  WalkStops (halted ns number) = FullStore number
+  WalkStops (halted ns number) = NoPlace number
 
   walks : (limit b k : ℕ) (ns : List Node) (fs : List Frame) (vs : List ℕ) → WalkStops (walk standard l limit b k ns fs vs)
   unfolding walk
@@ -291,11 +263,11 @@ module _ (l : Lent) where
       by (stop ms r) s rec = s
 
   -- a walk's refusal
-  pub refused-full : (limit budget : ℕ) (ns : List Node) (root number : ℕ) → M.walkedAs root (walkRoot standard l limit budget ns root) .answer ≡ M.refused number → FullStore number
+  pub refused-full : (limit budget : ℕ) (ns : List Node) (root number : ℕ) → M.walkedAs root (walkRoot standard l limit budget ns root) .answer ≡ M.refused number → NoPlace number
   unfolding walkRoot
   refused-full limit budget ns root number = by (walk standard l limit budget 0 ns (frame root 0 0 ∷ []) []) (walks limit budget 0 ns (frame root 0 0 ∷ []) [])
     where
-      by : (w : Walked) → WalkStops w → M.walkedAs root w .answer ≡ M.refused number → FullStore number
+      by : (w : Walked) → WalkStops w → M.walkedAs root w .answer ≡ M.refused number → NoPlace number
       by (finished ms i k) s e = let z : _≡_ {A = ℕ} 0 1 = cc in absurd (omega arith)
       by (spent ms k) s e = let z : _≡_ {A = ℕ} 0 1 = cc in absurd (omega arith)
-      by (halted ms r) s e = let q : r ≡ number = cc in subst FullStore q s
+      by (halted ms r) s e = let q : r ≡ number = cc in subst NoPlace q s
