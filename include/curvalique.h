@@ -1,7 +1,8 @@
 /*
  * Curvalique: a formula store, rewriter and pruner in memory that the caller
- * lends. Every function here is proved to do what document 01 says, for every
- * content of the lent lists; "01" below is that document.
+ * lends. Every function here is proved to do what document 01 says, or, where 01
+ * has no such call, what is said at it, for every content of the lent lists; "01"
+ * below is that document.
  *
  * Linking: `rt staticlib curvalique` writes target/staticlib/libcurvalique.a,
  * for x86-64 Linux. It needs memcpy and memset of C's library and nothing else.
@@ -35,7 +36,7 @@
  * and an array is as long as its declaration says. The floating-point
  * environment is C's default: rounding to nearest, subnormal numbers kept; in
  * another one a simplify folds constants otherwise. No content is asked for:
- * damaged lists and counts are refused, with 20. No function keeps a pointer,
+ * damaged stores and name lists are refused, with 20. No function keeps a pointer,
  * allocates, or touches other memory, but for its stack: as compiled now, the
  * listing of a sheet takes about 290 KB of it, a sheet 43 KB, a prune 35 KB, a
  * name call 17 KB, a simplify 13 KB and any other call under 1 KB.
@@ -385,20 +386,23 @@ void curvalique_list_sheet(
 
 /*
  * Reads a listing back: writes the words of its nodes, ten each, with their
- * hashes and coefficients, and no table. Returns 0 if the bytes are a listing:
- * `count` is then the number of nodes and `form` that of the first line; with
- * CURVALIQUE_FORM_OK or CURVALIQUE_FORM_SPENT `id` is the line's id, with
- * CURVALIQUE_FORM_REFUSED `number` and `record` are the line's; what it does not
- * have, and `line`, stay as they were. The id is below the count. It is not asked
- * that no two nodes are one, nor that a refusal's number and record are such as
- * 01 has: only that they are words of 64 bits. Else reading ends at the first
- * line that is wrong, is missing or whose node has no place, and all these stay.
- * Refusals: CURVALIQUE_WRONG_LINE if the line is not as 01 has it (but for what
- * is not asked), comes after 65,536 nodes, or is missing, where the bytes end
- * before the node of the first line's id; `line` is its number, from 1, and the
- * nodes before it are written. CURVALIQUE_TOO_FEW_WORDS if the node has no place
- * in the lent words; as many nodes as have place are written, and `line` stays.
- * Words past the written nodes stay.
+ * hashes and coefficients, and no table. Returns 0 if the bytes are a listing
+ * whose nodes have place: `count` is then the number of nodes and `form` that of
+ * the first line; with CURVALIQUE_FORM_OK or CURVALIQUE_FORM_SPENT `id` is the
+ * line's id, which is below the count; with CURVALIQUE_FORM_REFUSED `number` and
+ * `record` are the line's; what it does not have, and `line`, stay as they were.
+ * It is not asked that no two nodes are one, nor that a refusal's number and
+ * record are such as 01 has: only that they are words of 64 bits. Nodes may also
+ * follow `ok -`. Else reading ends at the first line that is wrong, is missing or
+ * whose node has no place, and all these but `line` stay. Refusals:
+ * CURVALIQUE_WRONG_LINE if the line is not as 01 has it (but for what is not
+ * asked), comes after 65,536 nodes, or is missing, where the bytes end before
+ * the first line or before the node of its id; `line` is its number, from 1, and
+ * the nodes before it are written. CURVALIQUE_TOO_FEW_WORDS if the node has no
+ * place in the lent words; as many nodes as have place are written, and `line`
+ * stays. Words past the written nodes stay. A listing cut at the end of a line
+ * is refused only if the cut is before the node of its id: a later cut leaves
+ * the listing of fewer nodes, with the same formula under the id.
  */
 uint64_t curvalique_read_listing(
     const uint8_t *bytes, size_t bytes_length, uint64_t *nodes, size_t node_words,
