@@ -79,11 +79,11 @@ module _ (l : Lent) where
 
   -- what the calls of each sort say
   store-says : (s s' : State) (c : Store) (id : ℕ) → Sound (s .nodes) → call l s (store c) .answer ≡ stored id → call l s (store c) .left ≡ s'
-      → formula (s' .nodes) id ≡ requestedFormula s c
+      → (id < length (s' .nodes)) × (formula (s' .nodes) id ≡ requestedFormula s c)
   unfolding call
   store-says s s' c id h ea es =
-      subst (λ x. formula (x .nodes) id ≡ requestedFormula s c) es
-      (subst (StoreSays (s .nodes) (requested c .node) (call l s (store c) .left .nodes)) ea (builds l (s .nodes) (requested c) h .says) .1)
+      subst (λ x. (id < length (x .nodes)) × (formula (x .nodes) id ≡ requestedFormula s c)) es
+      (subst (StoreSays (s .nodes) (requested c .node) (call l s (store c) .left .nodes)) ea (builds l (s .nodes) (requested c) h .says))
 
   simplify-says : (s s' : State) (root depth budget id steps : ℕ) (spent : Bool) → Sound (s .nodes)
       → call l s (simplify root depth budget) .answer ≡ simplified id spent steps → call l s (simplify root depth budget) .left ≡ s'
@@ -131,7 +131,7 @@ plain-promise l cs = record {
         → nth cs j ≡ some p → prunes p ≡ some (id, t) → nth (answers l empty cs) j ≡ some (pruned answer k d)
         → nth (states l empty cs) i ≡ some s1 → nth (states l empty cs) j ≡ some s3
         → T (le (ofBits binary64 t) one64) → Exact (formula (s0 .nodes) root) → SimplifySays (s0 .nodes) root (s1 .nodes) (simplified id spent steps)
-        → Balanced (formula (s0 .nodes) root) (formula (s1 .nodes) id) (formula (s3 .nodes) answer) (ofBits binary64 t) k d
+        → Exact (formula (s1 .nodes) id) × Balanced (formula (s0 .nodes) root) (formula (s1 .nodes) id) (formula (s3 .nodes) answer) (ofBits binary64 t) k d
     balanced i j root depth budget id steps t answer k d spent p s0 s1 s3 lt ep eq ea' e1 e3 tu ex simple =
         let g = simple .2 ex in
         let (s2, e2) = some-before l empty cs j p ep in
@@ -141,7 +141,7 @@ plain-promise l cs = record {
         let same : formula (s2 .nodes) id ≡ formula (s1 .nodes) id = st .kept id (simple .1) in
         let b = says .1 tu (subst Exact (sym same) (g .exact)) in
         let b' = subst (λ u. Balanced u u (formula (s3 .nodes) answer) (ofBits binary64 t) k d) same b in
-        record { value = λ r. sym (g .equal r) ∙ b' .value r; counts = b' .counts; shape = b' .shape }
+        (g .exact, record { value = λ r. sym (g .equal r) ∙ b' .value r; counts = b' .counts; shape = b' .shape })
 
 -- ---- a chain of calls that meet their contracts is the plain machine's run
 module _ (M : Model) where

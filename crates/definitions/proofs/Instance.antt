@@ -47,4 +47,4 @@ pub instance : Balanced (formula (stateAfter 7 .nodes) 6)
 unfolding answers states run call addFloat mulFloat le lt eq ofBits formula
 instance =
     kept-promise .balance 7 9 6 255 100 8 9 0x3FF0000000000000 0 1 1 false (prune 8 0x3FF0000000000000) (stateAfter 7) (stateAfter 8) (stateAfter 10) (lit< tt)
-    refl refl refl refl refl refl refl refl tt old-is-exact
+    refl refl refl refl refl refl refl refl tt old-is-exact .1

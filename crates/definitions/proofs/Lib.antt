@@ -22,6 +22,7 @@ pub mod NearestNumber
 pub mod SettingAnswers
 pub mod Instance
 pub mod FractionBits
+pub mod OneNumber
 pub mod KnownNames
 pub mod SheetCalls
 pub mod Listing

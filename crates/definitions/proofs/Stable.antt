@@ -10,7 +10,7 @@ use native.Mathlib.Omega.{arith}
 use native.Mathlib.Nat.{lt-of-lt-of-le, le-trans, le-refl, eq-or-lt-of-le}
 use Rattle.definitions.specs.Node.{Node, node, at, blank}
 use Rattle.definitions.specs.Walk.{Mode, marked}
-use Rattle.definitions.specs.Formula.{Tree, tree, Forest, nil, cons, forest, formulaAt, formulaOf, formulas, formula}
+use Rattle.definitions.specs.Formula.{Tree, tree, Forest, nil, cons, forest, formulaAt, formulaOf, formulas, formula, noFormula}
 
 forms-append : (ts : List Tree) (ns ms : List Node) → formulas ts (ns ++ ms) ≡ formulas (formulas ts ns) ms
 unfolding formulas
@@ -23,7 +23,7 @@ unfolding formulas
 forms-old ts [] i h = refl
 forms-old ts (n ∷ ns) i h =
     let t = formulaOf ts n in
-    forms-old (ts ++ t ∷ []) ns i (omega (arith, length-append ts (t ∷ []))) ∙ List·getD-append ts (t ∷ []) (tree 0 0 0 nil) i h
+    forms-old (ts ++ t ∷ []) ns i (omega (arith, length-append ts (t ∷ []))) ∙ List·getD-append ts (t ∷ []) noFormula i h
 
 forms-length : (ts : List Tree) (ns : List Node) → length (formulas ts ns) ≡ length ts + length ns
 unfolding formulas
@@ -70,9 +70,9 @@ opened ns i h l =
     let here : formula ns i ≡ formulaOf ts n
     = ap (λ (x : List Tree). formulaAt x i) whole
     ∙ forms-old (ts ++ formulaOf ts n ∷ []) (drop (suc i) ns) i (omega (arith, length-append ts (formulaOf ts n ∷ []), el))
-    ∙ ap (λ (k : ℕ). formulaAt (ts ++ formulaOf ts n ∷ []) k) (sym el) ∙ getD-append-seam ts (formulaOf ts n) [] (tree 0 0 0 nil) in
+    ∙ ap (λ (k : ℕ). formulaAt (ts ++ formulaOf ts n ∷ []) k) (sym el) ∙ getD-append-seam ts (formulaOf ts n) [] noFormula in
     let below : (k : ℕ) → k < i → formulaAt ts k ≡ formula ns k
     = λ k hk. sym (ap (λ (x : List Tree). formulaAt x k) whole
     ∙ forms-old (ts ++ formulaOf ts n ∷ []) (drop (suc i) ns) k (omega (arith, length-append ts (formulaOf ts n ∷ []), el))
-    ∙ List·getD-append ts (formulaOf ts n ∷ []) (tree 0 0 0 nil) k (omega (arith, el))) in
+    ∙ List·getD-append ts (formulaOf ts n ∷ []) noFormula k (omega (arith, el))) in
     here ∙ ap (tree (n .kind) (n .payload) (n .flags)) (grow-cong (formulaAt ts) (formula ns) i below (n .children) l)

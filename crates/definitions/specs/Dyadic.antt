@@ -115,6 +115,10 @@ Dyadic = Quot Same
 abbrev pub dyadic : Fraction → Dyadic
 dyadic a = Quot·mk a
 
+-- equal numbers are those of fractions that are one number: nothing else is made one (proved in proofs/OneNumber)
+abbrev pub EqualNumbers : Type 0
+EqualNumbers = (a b : Fraction) → dyadic a ≡ dyadic b → Same a b
+
 unfoldable pub plus : Dyadic → Dyadic → Dyadic
 plus x y = lift₂ Quot-set (λ a b. dyadic (plusFraction a b)) (λ a b c h. Quot·sound (plus-right a b c h)) (λ a b c h. Quot·sound (plus-left a b c h)) x y
 

@@ -17,8 +17,15 @@ abbrev pub forest : (ℕ → Tree) → List ℕ → Forest
 forest f [] = nil
 forest f (k ∷ ks) = cons (f k) (forest f ks)
 
+-- a kind that no node has, and what stands for the formula of an id that no node has
+abbrev noKind : ℕ
+noKind = 255
+
+abbrev pub noFormula : Tree
+noFormula = tree noKind 0 0 nil
+
 abbrev pub formulaAt : List Tree → ℕ → Tree
-formulaAt ts i = getD ts i (tree 0 0 0 nil)
+formulaAt ts i = getD ts i noFormula
 
 abbrev pub formulaOf : List Tree → Node → Tree
 formulaOf ts n = tree (n .kind) (n .payload) (n .flags) (forest (formulaAt ts) (n .children))

@@ -86,20 +86,22 @@ pub record Promise (l : Lent) (cs : List Call) (al : List Answer) (ss : List Sta
   -- "A store call's answer has the formula that the call was given"
   pub builds : (i id : ℕ) (c : Store) (s s' : State)
       → nth cs i ≡ some (store c) → nth al i ≡ some (stored id) → nth (empty ∷ ss) i ≡ some s → nth ss i ≡ some s'
-      → formula (s' .nodes) id ≡ requestedFormula s c
+      → (id < length (s' .nodes)) × (formula (s' .nodes) id ≡ requestedFormula s c)
   -- "No later call changes the formula of an id."
   pub stays : (i j id : ℕ) (s s' : State) → i ≤ j → nth (empty ∷ ss) i ≡ some s → nth (empty ∷ ss) j ≡ some s' → id < length (s .nodes)
       → (length (s .nodes) ≤ length (s' .nodes)) × (formula (s' .nodes) id ≡ formula (s .nodes) id)
   -- no two ids have one formula
   pub unique : (i id id' : ℕ) (s : State) → nth ss i ≡ some s → id < length (s .nodes) → id' < length (s .nodes)
       → formula (s .nodes) id ≡ formula (s .nodes) id' → id ≡ id'
-  -- an answered simplify at i, of a formula of the exact kind, and a later answered prune of its answer at j, at a threshold from 0 to 1
+  -- an answered simplify at i, of a formula of the exact kind, and a later answered prune of its answer at j, at a threshold from 0 to 1: the
+  -- simplified formula is of the exact kind too, so that every constant in it is a number
   pub balance : (i j root depth budget id steps t answer keptCount droppedCount : ℕ) (spent : Bool) (p : Call) (s0 s1 s3 : State) → i < j
       → nth cs i ≡ some (simplify root depth budget) → nth al i ≡ some (simplified id spent steps)
       → nth cs j ≡ some p → prunes p ≡ some (id, t) → nth al j ≡ some (pruned answer keptCount droppedCount)
       → nth (empty ∷ ss) i ≡ some s0 → nth ss i ≡ some s1 → nth ss j ≡ some s3
       → T (le (ofBits binary64 t) one64) → Exact (formula (s0 .nodes) root)
-      → Balanced (formula (s0 .nodes) root) (formula (s1 .nodes) id) (formula (s3 .nodes) answer) (ofBits binary64 t) keptCount droppedCount
+      → Exact (formula (s1 .nodes) id)
+      × Balanced (formula (s0 .nodes) root) (formula (s1 .nodes) id) (formula (s3 .nodes) answer) (ofBits binary64 t) keptCount droppedCount
 
 -- ---- demand 3, one statement about the whole list
 abbrev pub All : {A : Type 0} → (A → Type 0) → List A → Type 0
