@@ -1,4 +1,4 @@
-//! FNV-1a in rapidhash's place, as 01 has it, with rapidhash's names: so both sides pay for the hash that 01 prescribes. The
+//! FNV-1a in rapidhash's place, as 01 has it, with rapidhash's names. The Rust hashes more with it than 01 does. The
 //! number of an enum's variant is one byte, as 01's kind is; other numbers go by their bytes, big-endian.
 
 pub mod fast {
