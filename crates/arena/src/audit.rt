@@ -9,7 +9,6 @@ use crate::NODE_WORDS;
 use crate::kind::is_listed;
 use crate::load;
 use crate::node::coefficient_of;
-use crate::node::hash_of;
 
 // Whether the children are lower than the id and the unused places 0.
 pub fn lower_children(children: [u64; MOST_CHILDREN], arity: u64, id: u64) -> bool
@@ -46,7 +45,8 @@ fn well_formed(id: u64, node: DagNode) -> bool
     if !lower_children(children, node.arity, id) {
         return false;
     }
-    if node.hash != hash_of(node.kind, node.payload, node.arity, children) {
+    let used = node.arity as usize;
+    if node.hash != hash::node_hash(node.kind, node.payload, &children[..used]) {
         return false;
     }
     node.coefficient == coefficient_of(node.kind, node.payload)

@@ -5,6 +5,7 @@ pub mod node;
 
 pub use audit::audit_nodes;
 pub use node::DagNode;
+pub use node::has_parts;
 pub use node::load;
 pub use node::mark;
 pub use node::same_node;

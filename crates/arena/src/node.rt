@@ -3,7 +3,6 @@ ghost use mathlib.Core.Path.{_≡_};
 ghost use Prim.Native.Nat.{_+_, _*_, _≤_};
 ghost use lib.ListN.{length, take};
 ghost use Rattle.definitions.specs.Node.{sameChildren};
-ghost use Rattle.hash.specs.Fnv.{nodeHashOf};
 ghost use lib.Seq.{paste};
 ghost use Rattle.arena.specs.Layout.{nodeWords, mostChildren};
 ghost use Rattle.arena.specs.Node.{wordsFrom, nodeAt, put, one, coefficient, newNode, marked};
@@ -44,17 +43,9 @@ pub(crate) fn coefficient_of(kind: u64, payload: u64) -> u64
     }
 }
 
-// The hash of a node with these parts.
-pub fn hash_of(kind: u64, payload: u64, arity: u64, children: [u64; MOST_CHILDREN]) -> u64
-    requires { ⌜ arity ≤ mostChildren ⌝ }
-    ensures { λ r. ⌜ r ≡ nodeHashOf kind payload (take arity children) ⌝ }
-{
-    let used = arity as usize;
-    hash::node_hash(kind, payload, &children[..used])
-}
-
 impl DagNode {
-    // A node with its hash and its coefficient.
+    // A node with its hash and its coefficient. The children are lent to the hash: a copy of them would wait until they
+    // are in memory.
     pub fn new(
         kind: u64,
         payload: u64,
@@ -65,7 +56,8 @@ impl DagNode {
         requires { ⌜ arity ≤ mostChildren ⌝ }
         ensures { λ r. ⌜ r ≡ newNode kind payload flags arity children ⌝ }
     {
-        let hash = hash_of(kind, payload, arity, children);
+        let used = arity as usize;
+        let hash = hash::node_hash(kind, payload, &children[..used]);
         let coefficient = coefficient_of(kind, payload);
         Self {
             kind,
@@ -172,6 +164,50 @@ pub fn same_node(a: DagNode, b: DagNode) -> bool
     let left = a.children;
     let right = b.children;
     same_children(left, right)
+}
+
+// Whether the child places from a word on are these.
+fn has_children(nodes: &[u64], at: usize, children: &[u64; MOST_CHILDREN]) -> bool
+    requires { ⌜ (at + mostChildren ≤ length (now nodes)) × (length (now children) ≡ mostChildren) ⌝ }
+    ensures { λ r. ⌜ r ≡ sameChildren (wordsFrom mostChildren (now (nodes .entry)) at) (now (children .entry)) ⌝ }
+{
+    let mut j: usize = 0;
+    while j < MOST_CHILDREN {
+        if nodes[at + j] != children[j] {
+            return false;
+        }
+        j += 1;
+    }
+    true
+}
+
+// Whether an id's node is one with a node of these parts, which needs no hash.
+pub fn has_parts(
+    nodes: &[u64],
+    id: u64,
+    kind: u64,
+    payload: u64,
+    flags: u64,
+    arity: u64,
+    children: &[u64; MOST_CHILDREN],
+) -> bool
+    requires { ⌜ (id * nodeWords + nodeWords ≤ length (now nodes)) × (length (now children) ≡ mostChildren) ⌝ }
+    ensures { λ r. ⌜ r ≡ one (nodeAt (now (nodes .entry)) id) (newNode kind payload flags arity (now (children .entry))) ⌝ }
+{
+    let at = id as usize * NODE_WORDS;
+    if nodes[at + KIND] != kind {
+        return false;
+    }
+    if nodes[at + PAYLOAD] != payload {
+        return false;
+    }
+    if nodes[at + FLAGS] % CANONICAL != flags % CANONICAL {
+        return false;
+    }
+    if nodes[at + ARITY] != arity {
+        return false;
+    }
+    has_children(nodes, at + CHILDREN, children)
 }
 
 // A node's mark set: flag 4, canonical.

@@ -1,9 +1,9 @@
 // Hashes and slots made anew over any words, sound or not.
+use arena::DagNode;
 use arena::HASH;
 use arena::MOST_CHILDREN;
 use arena::NODE_WORDS;
 use arena::load;
-use arena::node::hash_of;
 
 // Every slot empty.
 fn clear(slots: &mut [u32]) {
@@ -57,7 +57,7 @@ fn hash_at(nodes: &[u64], id: u32) -> u64 {
         return 0;
     }
     let children = node.children;
-    hash_of(node.kind, node.payload, node.arity, children)
+    DagNode::new(node.kind, node.payload, node.flags, node.arity, children).hash
 }
 
 // The hash words of the first nodes, by their other words.

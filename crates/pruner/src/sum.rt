@@ -33,19 +33,21 @@ fn zero(nodes: &mut [u64], slots: &mut [u32], arena: DagArena) -> Built
     )
 }
 
-// The sum of two ids, as a number.
+// The sum of two ids, as a number. Sums that were made one after another have ids one after another, so that a prune
+// done again finds each sum at the id after the last one: it is looked at first.
 fn add(
     nodes: &mut [u64],
     slots: &mut [u32],
     count: &mut u64,
     size: &mut usize,
+    next: &mut u64,
     left: u64,
     right: u64,
 ) -> u64
     requires { ⌜ (left < now count) × (right < now count) × Sound (now nodes) (now slots) (arenaOf (now count) (now size)) ⌝ }
     ensures { λ r. ⌜ AddsNumber (now (nodes .entry)) (now (slots .entry)) (arenaOf (now (count .entry)) (now (size .entry))) left right (now (nodes .exit)) (now (slots .exit)) r (arenaOf (now (count .exit)) (now (size .exit))) ⌝ }
 {
-    store::intern_number(
+    let number = store::intern_likely(
         nodes,
         slots,
         count,
@@ -55,7 +57,10 @@ fn add(
         ADD_FLAGS,
         2,
         [left, right, 0, 0],
-    )
+        *next,
+    );
+    *next = number + 1;
+    number
 }
 
 // The sum of one half, as a number: the one term, or the sum of its own halves.
@@ -64,6 +69,7 @@ fn half(
     slots: &mut [u32],
     count: &mut u64,
     size: &mut usize,
+    next: &mut u64,
     terms: &[u64],
 ) -> u64
     requires { ⌜ (1 ≤ length (now terms)) × Summable (now nodes) (now slots) (arenaOf (now count) (now size)) (now terms) ⌝ }
@@ -72,7 +78,7 @@ fn half(
     if terms.len() == 1 {
         return terms[0];
     }
-    sum(nodes, slots, count, size, terms)
+    sum(nodes, slots, count, size, next, terms)
 }
 
 // The sum of two or more terms, as a number. What was interned before a refusal stays.
@@ -81,21 +87,22 @@ fn sum(
     slots: &mut [u32],
     count: &mut u64,
     size: &mut usize,
+    next: &mut u64,
     terms: &[u64],
 ) -> u64
     requires { ⌜ (2 ≤ length (now terms)) × Summable (now nodes) (now slots) (arenaOf (now count) (now size)) (now terms) ⌝ }
     ensures { λ r. ⌜ SumsNumber (now (nodes .entry)) (now (slots .entry)) (arenaOf (now (count .entry)) (now (size .entry))) (now (terms .entry)) (now (nodes .exit)) (now (slots .exit)) r (arenaOf (now (count .exit)) (now (size .exit))) ⌝ }
 {
     let mid = terms.len() / 2;
-    let left = half(nodes, slots, count, size, &terms[..mid]);
+    let left = half(nodes, slots, count, size, next, &terms[..mid]);
     if REFUSALS <= left {
         return left;
     }
-    let right = half(nodes, slots, count, size, &terms[mid..]);
+    let right = half(nodes, slots, count, size, next, &terms[mid..]);
     if REFUSALS <= right {
         return right;
     }
-    add(nodes, slots, count, size, left, right)
+    add(nodes, slots, count, size, next, left, right)
 }
 
 // The sum of at most 4,096 terms. What was interned before a refusal stays.
@@ -121,7 +128,8 @@ pub(crate) fn balanced_add(
     }
     let mut count = arena.count;
     let mut size = arena.size;
-    let number = sum(nodes, slots, &mut count, &mut size, terms);
+    let mut next: u64 = 0;
+    let number = sum(nodes, slots, &mut count, &mut size, &mut next, terms);
     if REFUSALS <= number {
         return Built {
             answer: Answer::Refused(number - REFUSALS),

@@ -1,24 +1,31 @@
 -- Interning that answers one number: from the table's answer in room, and from the general call after it.
-use Prim.Native.Nat.{ℕ}
+use Prim.Native.Nat.{ℕ, _+_, _≤_, _<_}
 use mathlib.Core.Path.{_≡_, refl, subst}
+use mathlib.Core.Bool.{true}
 use mathlib.Core.List.{List}
 use mathlib.Core.Logic.{⊎-elim}
 use lib.ListN.{length}
+use native.Mathlib.Omega.{arith}
 use Rattle.arena.specs.declared.DagArena.{DagArena}
 use Rattle.arena.specs.declared.node.DagNode.{DagNode}
-use Rattle.arena.specs.Layout.{mostChildren, arenaOf}
+use Rattle.arena.specs.Layout.{mostNodes, mostChildren, arenaOf}
+use Rattle.arena.specs.Node.{nodeAt, one}
 use Rattle.arena.specs.Nodes.{WellFormed}
+use Rattle.arena.proofs.Finding.{find-one}
 use Rattle.dedup.specs.declared.Answer.the-variants.{Old, New}
 use Rattle.dedup.specs.Intern.{InternsId, Unchanged}
+use Rattle.dedup.proofs.InRoom.{old-in-room}
 use Rattle.definitions.specs.Node as N
 use Rattle.definitions.specs.Intern as I
+use Rattle.definitions.specs.Refusals.{noSlotPlace}
 use Rattle.store.specs.declared.Built.{Built}
 use Rattle.store.specs.declared.Answer.{Answer}
-use Rattle.store.specs.declared.Answer.the-variants.{Id}
+use Rattle.store.specs.declared.Answer.the-variants.{Id, Refused}
 use Rattle.store.specs.Sound.{Sound}
 use Rattle.store.specs.View.{plainNode, nodesIn, lent, Builds}
 use Rattle.store.specs.Number.{numberOf, BuildsNumber}
 use Rattle.store.proofs.Refining.{seen}
+use Rattle.store.proofs.Stopping.{refusal-small}
 
 -- an answer that is taken apart
 pub as-number : (w slots : List ℕ) (a : DagArena) (plain : I.Built) (w′ slots′ : List ℕ) (r : Built) (x : Answer) → r .answer ≡ x → Builds w slots a plain w′ slots′ r
@@ -29,6 +36,14 @@ as-number w slots a plain w′ slots′ r x e b = record {
   builds = subst (λ (y : Answer). Builds w slots a plain w′ slots′ (record { answer = y; arena = r .arena })) e b;
 }
 
+-- a number is past every id by a refusal's number at most
+pub number-small : (w slots : List ℕ) (a : DagArena) (n : N.Node) (w′ slots′ : List ℕ) (number : ℕ) (a′ : DagArena) → BuildsNumber w slots a (I.intern (lent w slots) (nodesIn w (a .count)) n) w′ slots′ number a′ → number ≤ mostNodes + noSlotPlace
+number-small w slots a n w′ slots′ number a′ b = go (b .answer) (b .is) (b .builds)
+  where
+    go : (x : Answer) → number ≡ numberOf x → Builds w slots a (I.intern (lent w slots) (nodesIn w (a .count)) n) w′ slots′ (record { answer = x; arena = a′ }) → number ≤ mostNodes + noSlotPlace
+    go (Id id) e h = let low : id < a′ .count = h .low in omega (arith, h .kept .whole .nodes .formed .many)
+    go (Refused k) e h = let s = refusal-small _ _ _ (Refused k) k _ refl (h .answer) in omega arith
+
 -- an id that the table answers
 pub id-builds : (w slots : List ℕ) (a : DagArena) (key : DagNode) → length (key .children) ≡ mostChildren → WellFormed (a .count) key → Sound w slots a
     → (id : ℕ) (w′ slots′ : List ℕ) (count′ : ℕ) → InternsId w slots a key id w′ slots′ count′ → length w′ ≡ length w → length slots′ ≡ length slots
@@ -38,6 +53,14 @@ id-builds w slots a key four f h id w′ slots′ count′ i lw ls = record {
   is = refl;
   builds = ⊎-elim (λ e. seen w slots a key four f h _ w′ slots′ (i .interns) lw ls (Old id) e .builds) (λ e. seen w slots a key four f h _ w′ slots′ (i .interns) lw ls (New id) e .builds) (i .is);
 }
+
+-- an id whose node is one with the key
+pub likely-builds : (w slots : List ℕ) (a : DagArena) (key : DagNode) → length (key .children) ≡ mostChildren → WellFormed (a .count) key → Sound w slots a
+    → (id : ℕ) → id < a .count → one (nodeAt w id) key ≡ true
+    → BuildsNumber w slots a (I.intern (lent w slots) (nodesIn w (a .count)) (plainNode key)) w slots id (arenaOf (a .count) (a .size))
+likely-builds w slots a key four f h id l o =
+    let many = h .nodes .formed .many in
+    id-builds w slots a key four f h id w slots (a .count) (old-in-room w slots a key id (find-one w key (a .count) (h .nodes) id l o) (h .nodes) (h .table) .answered (λ e. omega arith)) refl refl
 
 -- where nothing changed, the general call is as on the memory before
 module _ (w slots : List ℕ) (count size : ℕ) (w₁ slots₁ : List ℕ) (count₁ : ℕ) (u : Unchanged w slots (arenaOf count size) w₁ slots₁ count₁) where

@@ -16,6 +16,7 @@ use crate::REFUSALS;
 use arena::DagArena;
 use arena::DagNode;
 use arena::MOST_CHILDREN;
+use arena::has_parts;
 use dedup::NO_ROOM;
 use dedup::get_or_insert;
 use dedup::get_or_insert_in_room;
@@ -90,7 +91,7 @@ fn intern_node_number(
 
 // The id of a node with these parts, or a refusal, as one number. Only a new node without room takes the
 // general call.
-pub fn intern_number(
+fn intern_number(
     nodes: &mut [u64],
     slots: &mut [u32],
     count: &mut u64,
@@ -110,4 +111,38 @@ pub fn intern_number(
         return id;
     }
     intern_node_number(nodes, slots, count, size, key)
+}
+
+// The same, where an id that may be the node's own is looked at first: if it is, no hash is made and no slot read.
+pub fn intern_likely(
+    nodes: &mut [u64],
+    slots: &mut [u32],
+    count: &mut u64,
+    size: &mut usize,
+    kind: u64,
+    payload: u64,
+    flags: u64,
+    arity: u64,
+    children: [u64; MOST_CHILDREN],
+    likely: u64,
+) -> u64
+    requires { ⌜ Fits (now count) kind payload flags arity children × Sound (now nodes) (now slots) (arenaOf (now count) (now size)) ⌝ }
+    ensures { λ r. ⌜ BuildsNumber (now (nodes .entry)) (now (slots .entry)) (arenaOf (now (count .entry)) (now (size .entry))) (I.intern (lent (now (nodes .entry)) (now (slots .entry))) (nodesIn (now (nodes .entry)) (now (count .entry))) (N.node kind payload flags (take arity children))) (now (nodes .exit)) (now (slots .exit)) r (arenaOf (now (count .exit)) (now (size .exit))) ⌝ }
+{
+    if likely < *count {
+        if has_parts(nodes, likely, kind, payload, flags, arity, &children) {
+            return likely;
+        }
+    }
+    intern_number(
+        nodes,
+        slots,
+        count,
+        size,
+        kind,
+        payload,
+        flags,
+        arity,
+        children,
+    )
 }

@@ -3,8 +3,8 @@ pub mod interning;
 pub mod lookup;
 
 pub use interning::intern;
+pub use interning::intern_likely;
 pub use interning::intern_node;
-pub use interning::intern_number;
 pub use lookup::arity;
 pub use lookup::child;
 pub use lookup::children;

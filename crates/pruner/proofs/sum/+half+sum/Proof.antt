@@ -19,23 +19,23 @@ use Rattle.pruner.proofs.sum.add.Reads as add-reads
 use Rattle.pruner.proofs.sum.+half+sum.{statement}
 use Rattle.pruner.proofs.sum.+half+sum.Tie.{close}
 
-abbrev μ-half : Measures 5 half-kinds.ps ℕ
-μ-half κs a = length (a .1 .1 .1 .1 .0 .now) * 2 + 1
+abbrev μ-half : Measures 6 half-kinds.ps ℕ
+μ-half κs a = length (a .1 .1 .1 .1 .1 .0 .now) * 2 + 1
 
-abbrev μ-sum : Measures 5 sum-kinds.ps ℕ
-μ-sum κs a = length (a .1 .1 .1 .1 .0 .now) * 2
+abbrev μ-sum : Measures 6 sum-kinds.ps ℕ
+μ-sum κs a = length (a .1 .1 .1 .1 .1 .0 .now) * 2
 
-abbrev half-at : ℕ → In 5 half-kinds.ps
-half-at t = and 5 half-kinds.ps (is 5 half-kinds.ps μ-half t) half.Pre
+abbrev half-at : ℕ → In 6 half-kinds.ps
+half-at t = and 6 half-kinds.ps (is 6 half-kinds.ps μ-half t) half.Pre
 
-abbrev half-below : ℕ → In 5 half-kinds.ps
-half-below t = and 5 half-kinds.ps (falls 5 half-kinds.ps _<_ μ-half t) half.Pre
+abbrev half-below : ℕ → In 6 half-kinds.ps
+half-below t = and 6 half-kinds.ps (falls 6 half-kinds.ps _<_ μ-half t) half.Pre
 
-abbrev sum-at : ℕ → In 5 sum-kinds.ps
-sum-at t = and 5 sum-kinds.ps (is 5 sum-kinds.ps μ-sum t) sum.Pre
+abbrev sum-at : ℕ → In 6 sum-kinds.ps
+sum-at t = and 6 sum-kinds.ps (is 6 sum-kinds.ps μ-sum t) sum.Pre
 
-abbrev sum-below : ℕ → In 5 sum-kinds.ps
-sum-below t = and 5 sum-kinds.ps (falls 5 sum-kinds.ps _<_ μ-sum t) sum.Pre
+abbrev sum-below : ℕ → In 6 sum-kinds.ps
+sum-below t = and 6 sum-kinds.ps (falls 6 sum-kinds.ps _<_ μ-sum t) sum.Pre
 
 half-shared-slice-read-result : (t : ℕ) → half-lts.Need-shared-slice-read-result (
   sum-below t,
@@ -48,7 +48,7 @@ half-returns t c = Q.one-number _ _ _ _ (c .before .before .before .before .befo
 
 half-sum-requires :
     (t : ℕ) → half-lts.Need-sum-requires (sum-below t, sum.Post) (half-at t) half.Post
-half-sum-requires t c κs = (omega (arith, c .before .before .before .before .before .before .before .before .pre .0), (omega (arith, c .before .before .before .before .before .before .before .before .pre .1 .0, c .before .before .before .before .if1 .left), c .before .before .before .before .before .before .before .before .pre .1 .1))
+half-sum-requires t c κs = (omega (arith, c .before .before .before .before .before .before .before .before .before .pre .0), (omega (arith, c .before .before .before .before .before .before .before .before .before .pre .1 .0, c .before .before .before .before .before .if1 .left), c .before .before .before .before .before .before .before .before .before .pre .1 .1))
 
 half-same-length :
     (t : ℕ) → half-lts.Need-same-length (sum-below t, sum.Post) (half-at t) half.Post
@@ -75,7 +75,7 @@ sum-half-requires : (t : ℕ) → sum-lts.Need-half-requires (
   add-reads.Asked,
   add-reads.Learnt,
 ) (sum-at t) sum.Post
-sum-half-requires t c κs = (omega (arith, c .before .before .before .before .before .before .before .before .pre .0, Q.left-less _ _ _ _ (c .before .before .before .before .before .before .before .before .pre .1 .1) (c .before .before .before .before .before .before .before .before .pre .1 .0)), (Q.left-some _ _ _ _ (c .before .before .before .before .before .before .before .before .pre .1 .1) (c .before .before .before .before .before .before .before .before .pre .1 .0), Q.left-summable _ _ _ _ (c .before .before .before .before .before .before .before .before .pre .1 .1) (c .before .before .before .before .before .before .before .before .pre .1 .0)))
+sum-half-requires t c κs = (omega (arith, c .before .before .before .before .before .before .before .before .before .pre .0, Q.left-less _ _ _ _ (c .before .before .before .before .before .before .before .before .before .pre .1 .1) (c .before .before .before .before .before .before .before .before .before .pre .1 .0)), (Q.left-some _ _ _ _ (c .before .before .before .before .before .before .before .before .before .pre .1 .1) (c .before .before .before .before .before .before .before .before .before .pre .1 .0), Q.left-summable _ _ _ _ (c .before .before .before .before .before .before .before .before .before .pre .1 .1) (c .before .before .before .before .before .before .before .before .before .pre .1 .0)))
 
 sum-same-length : (t : ℕ) → sum-lts.Need-same-length (
   half-below t,
@@ -99,7 +99,7 @@ sum-returns : (t : ℕ) → sum-lts.Need-returns (
   add-reads.Asked,
   add-reads.Learnt,
 ) (sum-at t) sum.Post
-sum-returns t c = Q.left-refused _ _ _ _ (c .before .before .before .before .before .before .before .before .before .before .before .before .before .before .pre .1 .1) (c .before .before .before .before .before .before .before .before .before .before .before .before .before .before .pre .1 .0) _ _ _ _ (c .before .before .before .before .before .half .ensures) (c .if1 .taken)
+sum-returns t c = Q.left-refused _ _ _ _ (c .before .before .before .before .before .before .before .before .before .before .before .before .before .before .before .pre .1 .1) (c .before .before .before .before .before .before .before .before .before .before .before .before .before .before .before .pre .1 .0) _ _ _ _ (c .before .before .before .before .before .half .ensures) (c .if1 .taken)
 
 sum-mul-half : (t : ℕ) → sum-lts.Need-mul-half (
   half-below t,
@@ -139,7 +139,7 @@ sum-half-requires-2 : (t : ℕ) → sum-lts.Need-half-requires-2 (
   add-reads.Asked,
   add-reads.Learnt,
 ) (sum-at t) sum.Post
-sum-half-requires-2 t c κs = (omega (arith, c .before .before .before .before .before .before .before .before .before .before .before .before .before .before .before .before .before .before .before .pre .0, Q.right-less _ _ _ _ (c .before .before .before .before .before .before .before .before .before .before .before .before .before .before .before .before .before .before .before .pre .1 .1) (c .before .before .before .before .before .before .before .before .before .before .before .before .before .before .before .before .before .before .before .pre .1 .0)), (Q.right-some _ _ _ _ (c .before .before .before .before .before .before .before .before .before .before .before .before .before .before .before .before .before .before .before .pre .1 .1) (c .before .before .before .before .before .before .before .before .before .before .before .before .before .before .before .before .before .before .before .pre .1 .0), Q.right-summable _ _ _ _ (c .before .before .before .before .before .before .before .before .before .before .before .before .before .before .before .before .before .before .before .pre .1 .1) (c .before .before .before .before .before .before .before .before .before .before .before .before .before .before .before .before .before .before .before .pre .1 .0) _ _ _ _ (c .before .before .before .before .before .before .before .before .before .before .half .ensures) (c .before .before .before .before .before .if1 .left)))
+sum-half-requires-2 t c κs = (omega (arith, c .before .before .before .before .before .before .before .before .before .before .before .before .before .before .before .before .before .before .before .before .before .pre .0, Q.right-less _ _ _ _ (c .before .before .before .before .before .before .before .before .before .before .before .before .before .before .before .before .before .before .before .before .before .pre .1 .1) (c .before .before .before .before .before .before .before .before .before .before .before .before .before .before .before .before .before .before .before .before .before .pre .1 .0)), (Q.right-some _ _ _ _ (c .before .before .before .before .before .before .before .before .before .before .before .before .before .before .before .before .before .before .before .before .before .pre .1 .1) (c .before .before .before .before .before .before .before .before .before .before .before .before .before .before .before .before .before .before .before .before .before .pre .1 .0), Q.right-summable _ _ _ _ (c .before .before .before .before .before .before .before .before .before .before .before .before .before .before .before .before .before .before .before .before .before .pre .1 .1) (c .before .before .before .before .before .before .before .before .before .before .before .before .before .before .before .before .before .before .before .before .before .pre .1 .0) _ _ _ _ (c .before .before .before .before .before .before .before .before .before .before .before .half .ensures) (c .before .before .before .before .before .before .if1 .left)))
 
 sum-same-length-3 : (t : ℕ) → sum-lts.Need-same-length-3 (
   half-below t,
@@ -163,7 +163,7 @@ sum-returns-2 : (t : ℕ) → sum-lts.Need-returns-2 (
   add-reads.Asked,
   add-reads.Learnt,
 ) (sum-at t) sum.Post
-sum-returns-2 t c = Q.right-refused _ _ _ _ (c .before .before .before .before .before .before .before .before .before .before .before .before .before .before .before .before .before .before .before .before .before .before .before .before .before .pre .1 .1) (c .before .before .before .before .before .before .before .before .before .before .before .before .before .before .before .before .before .before .before .before .before .before .before .before .before .pre .1 .0) _ _ _ _ (c .before .before .before .before .before .before .before .before .before .before .before .before .before .before .before .before .half .ensures) (c .before .before .before .before .before .before .before .before .before .before .before .if1 .left) _ _ _ _ (c .before .before .before .before .before .half2 .ensures) (c .if2 .taken)
+sum-returns-2 t c = Q.right-refused _ _ _ _ (c .before .before .before .before .before .before .before .before .before .before .before .before .before .before .before .before .before .before .before .before .before .before .before .before .before .before .before .pre .1 .1) (c .before .before .before .before .before .before .before .before .before .before .before .before .before .before .before .before .before .before .before .before .before .before .before .before .before .before .before .pre .1 .0) _ _ _ _ (c .before .before .before .before .before .before .before .before .before .before .before .before .before .before .before .before .before .half .ensures) (c .before .before .before .before .before .before .before .before .before .before .before .before .if1 .left) _ _ _ _ (c .before .before .before .before .before .half2 .ensures) (c .if2 .taken)
 
 sum-add-requires : (t : ℕ) → sum-lts.Need-add-requires (
   half-below t,
@@ -171,7 +171,7 @@ sum-add-requires : (t : ℕ) → sum-lts.Need-add-requires (
   add-reads.Asked,
   add-reads.Learnt,
 ) (sum-at t) sum.Post
-sum-add-requires t c κs = Q.halves-addable _ _ _ _ (c .before .before .before .before .before .before .before .before .before .before .before .before .before .before .before .before .before .before .before .before .before .before .before .before .before .before .before .before .before .pre .1 .1) (c .before .before .before .before .before .before .before .before .before .before .before .before .before .before .before .before .before .before .before .before .before .before .before .before .before .before .before .before .before .pre .1 .0) _ _ _ _ (c .before .before .before .before .before .before .before .before .before .before .before .before .before .before .before .before .before .before .before .before .half .ensures) (c .before .before .before .before .before .before .before .before .before .before .before .before .before .before .before .if1 .left) _ _ _ _ (c .before .before .before .before .before .before .before .before .before .half2 .ensures) (c .before .before .before .before .if2 .left)
+sum-add-requires t c κs = Q.halves-addable _ _ _ _ (c .before .before .before .before .before .before .before .before .before .before .before .before .before .before .before .before .before .before .before .before .before .before .before .before .before .before .before .before .before .before .before .before .pre .1 .1) (c .before .before .before .before .before .before .before .before .before .before .before .before .before .before .before .before .before .before .before .before .before .before .before .before .before .before .before .before .before .before .before .before .pre .1 .0) _ _ _ _ (c .before .before .before .before .before .before .before .before .before .before .before .before .before .before .before .before .before .before .before .before .before .before .half .ensures) (c .before .before .before .before .before .before .before .before .before .before .before .before .before .before .before .before .before .if1 .left) _ _ _ _ (c .before .before .before .before .before .before .before .before .before .before .half2 .ensures) (c .before .before .before .before .before .if2 .left)
 
 sum-same-length-5 : (t : ℕ) → sum-lts.Need-same-length-5 (
   half-below t,
@@ -195,7 +195,7 @@ sum-returns-3 : (t : ℕ) → sum-lts.Need-returns-3 (
   add-reads.Asked,
   add-reads.Learnt,
 ) (sum-at t) sum.Post
-sum-returns-3 t c = Q.sums-halves _ _ _ _ (c .before .before .before .before .before .before .before .before .before .before .before .before .before .before .before .before .before .before .before .before .before .before .before .before .before .before .before .before .before .before .before .before .before .before .pre .1 .1) (c .before .before .before .before .before .before .before .before .before .before .before .before .before .before .before .before .before .before .before .before .before .before .before .before .before .before .before .before .before .before .before .before .before .before .pre .1 .0) _ _ _ _ (c .before .before .before .before .before .before .before .before .before .before .before .before .before .before .before .before .before .before .before .before .before .before .before .before .before .half .ensures) (c .before .before .before .before .before .before .before .before .before .before .before .before .before .before .before .before .before .before .before .before .if1 .left) _ _ _ _ (c .before .before .before .before .before .before .before .before .before .before .before .before .before .before .half2 .ensures) (c .before .before .before .before .before .before .before .before .before .if2 .left) _ _ _ _ (c .before .before .before .before .add .ensures)
+sum-returns-3 t c = Q.sums-halves _ _ _ _ (c .before .before .before .before .before .before .before .before .before .before .before .before .before .before .before .before .before .before .before .before .before .before .before .before .before .before .before .before .before .before .before .before .before .before .before .before .before .pre .1 .1) (c .before .before .before .before .before .before .before .before .before .before .before .before .before .before .before .before .before .before .before .before .before .before .before .before .before .before .before .before .before .before .before .before .before .before .before .before .before .pre .1 .0) _ _ _ _ (c .before .before .before .before .before .before .before .before .before .before .before .before .before .before .before .before .before .before .before .before .before .before .before .before .before .before .before .half .ensures) (c .before .before .before .before .before .before .before .before .before .before .before .before .before .before .before .before .before .before .before .before .before .before .if1 .left) _ _ _ _ (c .before .before .before .before .before .before .before .before .before .before .before .before .before .before .before .half2 .ensures) (c .before .before .before .before .before .before .before .before .before .before .if2 .left) _ _ _ _ (c .before .before .before .before .add .ensures)
 
 pub +half+sum-spec : {M : Type 1} → statement M
 +half+sum-spec =

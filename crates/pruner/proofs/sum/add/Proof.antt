@@ -1,16 +1,21 @@
 -- `pruner::sum::add` meets its contract. Assumes nothing.
 use mathlib.Core.Path.{refl}
+use native.Mathlib.Omega.{arith}
 use borrow.Author.Needs.{needs}
 use Rattle.definitions.specs.Patterns.{internAdd}
 use Rattle.arena.specs.Kind.{operatorArity}
 use Rattle.store.specs.View.{listed}
 use Rattle.store.proofs.Fitting.{operator-fits}
+use Rattle.store.proofs.Numbers.{number-small}
 use Rattle.pruner.proofs.sum.add.Statement.{statement}
 use Rattle.pruner.proofs.sum.add.Tie as tie
 
-intern-number-requires : tie.Need-intern-number-requires
+intern-likely-requires : tie.Need-intern-likely-requires
 unfolding listed operatorArity
-intern-number-requires c κs = (operator-fits _ _ _ _ refl (c .before .before .before .before .before .before .pre .0) (c .before .before .before .before .before .before .pre .1), c .before .before .before .before .before .before .pre .2)
+intern-likely-requires c κs = (operator-fits _ _ _ _ refl (c .before .before .before .before .before .before .before .pre .0) (c .before .before .before .before .before .before .before .pre .1), c .before .before .before .before .before .before .before .pre .2)
+
+add-next : tie.Need-add-next
+add-next c = let small = number-small _ _ _ _ _ _ _ _ (c .before .before .before .before .intern-likely .ensures) in omega arith
 
 same-length : tie.Need-same-length
 same-length c = search needs
@@ -20,7 +25,7 @@ same-length-2 c = search needs
 
 returns : tie.Need-returns
 unfolding internAdd
-returns c = c .before .before .before .before .intern-number .ensures
+returns c = c .before .before .before .before .intern-likely .ensures
 
 pub add-spec : {M : Type 1} → statement M
-add-spec = tie.close (tie.spec intern-number-requires same-length same-length-2 returns)
+add-spec = tie.close (tie.spec intern-likely-requires add-next same-length same-length-2 returns)
