@@ -23,7 +23,7 @@ use Rattle.dedup.specs.Table.{UsedStay, Table, hashAt}
 use Rattle.dedup.specs.Insert.{FirstFree, Taken, Fits, Rehashed}
 use Rattle.dedup.specs.Intern.{answered, newAnswer, internAnswer, wordsAfter, SlotsKept, Interns, Absent}
 use Rattle.dedup.proofs.Doubling.{at-least, doubled-twice}
-use Rattle.dedup.proofs.Placing.{first-free, still, table-add, past-add}
+use Rattle.dedup.proofs.Placing.{still, table-add, past-add}
 
 -- an old node
 pub old-answer : (w slots : List ℕ) (a : DagArena) (key : DagNode) (id : ℕ) → find w (a .count) key ≡ some id → Nodes w (a .count) → Table (hashAt w) (a .count) slots (a .size) → Interns w slots a key (answered (Old id) (a .count) (a .size)) w slots
@@ -87,15 +87,14 @@ module _ (w slots : List ℕ) (a : DagArena) (key : DagNode) (place : ℕ) (x : 
 
       pub added : count < capacity size → Interns w slots a key (answered (New count) (count + 1) size) w′ (set slots place (count + 1))
       unfolding newAnswer wordsAfter SlotsKept
-      added l =
-          let free = first-free w count slots size key place (x .free) in record {
-            answer = new _ (rw (no-21, le-leb (count + 1) (capacity size) (omega arith)) refl);
-            words-after = refl;
-            slots-kept = λ _. stay′ size slots (x .table) place free (omega arith);
-            slots-past = past′ size slots (x .table) place free (omega arith);
-            nodes = nodes′;
-            table = table′ size slots (x .table) place free (omega arith);
-          }
+      added l = record {
+        answer = new _ (rw (no-21, le-leb (count + 1) (capacity size) (omega arith)) refl);
+        words-after = refl;
+        slots-kept = λ _. stay′ size slots (x .table) place (x .free) (omega arith);
+        slots-past = past′ size slots (x .table) place (x .free) (omega arith);
+        nodes = nodes′;
+        table = table′ size slots (x .table) place (x .free) (omega arith);
+      }
 
       module _ (l : capacity size ≤ count) (m : size ≤ length slots / 2) where
         pub doubles : Fits count slots (size * 2)

@@ -9,28 +9,19 @@ use native.Mathlib.Omega.{arith}
 use native.Mathlib.Decide.{decLt}
 use Rattle.arena.specs.declared.node.DagNode.{DagNode}
 use Rattle.arena.specs.Node.{nodeAt, one, nodeHash, find}
-use Rattle.arena.specs.Nodes.{AllWellFormed, Nodes}
+use Rattle.arena.specs.Nodes.{Nodes}
 use Rattle.definitions.proofs.Deciding.{is-false}
 use Rattle.arena.proofs.OneNode.{one-hash}
 use Rattle.arena.proofs.Finding.{find-none, find-one}
 use Rattle.dedup.specs.Table.{slotFrom, Placed, Table, hashAt}
 use Rattle.dedup.specs.Probe.{holds, Passed, Frees, Finds}
 use Rattle.dedup.specs.Insert.{Room}
-use Rattle.dedup.proofs.Rounds.{round-hits}
 use Rattle.dedup.proofs.Searching.{holds-known, held}
-
--- no node is known: none is compared
-pub none-formed : (w : List ℕ) → AllWellFormed w 0
-none-formed w = record { many = omega arith; fits = omega arith; each = λ i l. absurd (omega arith) }
-
-pub none-held : (w slots : List ℕ) (size : ℕ) (key : DagNode) (at : ℕ) → Finds w 0 slots size key at → ⊥
-none-held w slots size key at f = let h = held w 0 key (getD slots at 0) (f .held) in let l = h .1 in omega arith
+use Rattle.dedup.proofs.FreePlaces.{not-round}
 
 -- a table with an empty slot is not passed whole
 pub not-passed : (w : List ℕ) (known : ℕ) (slots : List ℕ) (size : ℕ) (key : DagNode) → Room slots size → Passed w known slots size key size → ⊥
-not-passed w known slots size key r ps =
-    let x = round-hits (key .hash) (r .place) size (r .below) in
-    ps .used (x .0) (x .1) (ap (λ (y : ℕ). getD slots y 0) (x .2) ∙ r .empty)
+not-passed w known slots size key r ps = let l = not-round slots size (key .hash) size r (ps .used) in omega arith
 
 module _ (w : List ℕ) (count : ℕ) (slots : List ℕ) (size : ℕ) (key : DagNode) (hashed : key .hash ≡ nodeHash key) (s : Nodes w count) where
   -- a slot that holds the key has the id that is found

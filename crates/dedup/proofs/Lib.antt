@@ -3,6 +3,7 @@ pub mod Rounds
 pub mod Searching
 pub mod GreatestChild
 pub mod Pigeon
+pub mod FreePlaces
 pub mod Placing
 pub mod Renewing
 pub mod Keys

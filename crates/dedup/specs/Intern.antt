@@ -18,7 +18,7 @@ use Rattle.dedup.specs.declared.Interned.{Interned}
 use Rattle.definitions.specs.Refusals.{noNodePlace, noSlotPlace}
 use Rattle.definitions.specs.Intern.{capacity}
 use Rattle.dedup.specs.Table.{UsedStay, Table, hashAt}
-use Rattle.dedup.specs.Probe.{Frees}
+use Rattle.dedup.specs.Insert.{FirstFree}
 
 abbrev pub answered : Answer → ℕ → ℕ → Interned
 answered answer count size = record { answer = answer; arena = arenaOf count size }
@@ -63,7 +63,7 @@ pub record Absent (words slots : List ℕ) (arena : DagArena) (key : DagNode) (p
   pub table : Table (hashAt words) (arena .count) slots (arena .size)
   pub formed : WellFormed (arena .count) key
   pub absent : find words (arena .count) key ≡ none
-  pub free : Frees words (arena .count) slots (arena .size) key place
+  pub free : FirstFree slots (arena .size) (key .hash) place
 
 -- a place for a new node's words, in a table that need not grow for it
 pub record HasRoom (words count size : ℕ) : Type 0 where

@@ -1,32 +1,78 @@
 // Ids put into slots.
 ghost use mathlib.Core.Path.{_≡_};
 ghost use mathlib.Core.List.{_++_};
-ghost use Prim.Native.Nat.{_≤_, _<_};
+ghost use Prim.Native.Nat.{_+_, _*_, _≤_, _<_};
 ghost use lib.ListN.{length, replicate, drop};
-ghost use Rattle.arena.specs.Layout.{mostNodes};
-ghost use Rattle.arena.specs.Node.{nodeHash};
+ghost use Rattle.arena.specs.Layout.{nodeWords, mostNodes};
 ghost use Rattle.arena.specs.Nodes.{AllWellFormed};
 ghost use Rattle.dedup.specs.Table.{hashAt};
-ghost use Rattle.dedup.specs.Insert.{Room, Taken, Fits, Rehashed};
-use crate::probing::Place;
-use crate::probing::probe;
-use arena::DagNode;
-use arena::load;
+ghost use Rattle.dedup.specs.Insert.{window, FirstEmpty, Room, FirstFree, Taken, Fits, Rehashed};
+use crate::probing::WINDOW;
+use crate::sizes::modulo_size;
+use arena::HASH;
+use arena::NODE_WORDS;
 
-// An id in the first free place from its key's hash. No node is compared.
-pub(crate) fn place(nodes: &[u64], slots: &mut [u32], size: usize, key: DagNode, id: u64)
-    requires { ⌜ (id < mostNodes) × (key .hash ≡ nodeHash key) × Room (now slots) size ⌝ }
-    ensures { λ r. ⌜ Taken (now (slots .entry)) size (key .hash) id (now (slots .exit)) ⌝ }
+// The place of the first empty slot among WINDOW ones from a place on; WINDOW if there is none.
+fn first_empty(slots: &[u32], home: usize) -> usize
+    requires { ⌜ home + window ≤ length (now slots) ⌝ }
+    ensures { λ r. ⌜ FirstEmpty (now (slots .entry)) home r ⌝ }
 {
-    let found = probe(nodes, slots, size, key, 0);
-    match found {
-        Place::Free(at) => {
-            slots[at] = (id + 1) as u32;
+    let mut first = WINDOW;
+    let mut i = WINDOW;
+    while 0 < i {
+        i -= 1;
+        if slots[home + i] == 0 {
+            first = i;
         }
-        // No node is compared and some slot is empty, so a search ends at none of these.
-        Place::Here(_) => {}
-        Place::Nowhere => {}
     }
+    first
+}
+
+// The first free place from a place on, round the end.
+fn free_from(slots: &[u32], size: usize, home: usize) -> usize
+    requires { ⌜ (home < size) × Room (now slots) size ⌝ }
+    ensures { λ r. ⌜ FirstFree (now (slots .entry)) size home r ⌝ }
+{
+    let mut at = home;
+    let mut passed: usize = 0;
+    while slots[at] != 0 {
+        at = modulo_size(at + 1, size);
+        passed += 1;
+    }
+    at
+}
+
+// The first free place from a hash on, round the end. A window that ends within the table is looked at first.
+pub(crate) fn free_place(slots: &[u32], size: usize, hash: u64) -> usize
+    requires { ⌜ Room (now slots) size ⌝ }
+    ensures { λ r. ⌜ FirstFree (now (slots .entry)) size hash r ⌝ }
+{
+    let home = modulo_size(hash as usize, size);
+    if size - home < WINDOW {
+        return free_from(slots, size, home);
+    }
+    let first = first_empty(slots, home);
+    if first < WINDOW {
+        return home + first;
+    }
+    free_from(slots, size, home)
+}
+
+// An id in the first free place from its hash.
+pub(crate) fn place(slots: &mut [u32], size: usize, hash: u64, id: u64)
+    requires { ⌜ (id < mostNodes) × Room (now slots) size ⌝ }
+    ensures { λ r. ⌜ Taken (now (slots .entry)) size hash id (now (slots .exit)) ⌝ }
+{
+    let at = free_place(slots, size, hash);
+    slots[at] = (id + 1) as u32;
+}
+
+// The hash of a node.
+fn node_hash_at(nodes: &[u64], id: u64) -> u64
+    requires { ⌜ id * nodeWords + nodeWords ≤ length (now nodes) ⌝ }
+    ensures { λ r. ⌜ r ≡ hashAt (now (nodes .entry)) id ⌝ }
+{
+    nodes[id as usize * NODE_WORDS + HASH]
 }
 
 // The first n slots empty.
@@ -49,7 +95,7 @@ pub fn rehash(nodes: &[u64], slots: &mut [u32], size: usize, count: u64)
     clear(slots, size);
     let mut i: u64 = 0;
     while i < count {
-        place(nodes, slots, size, load(nodes, i), i);
+        place(slots, size, node_hash_at(nodes, i), i);
         i += 1;
     }
 }

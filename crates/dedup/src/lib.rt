@@ -1,6 +1,8 @@
 // The duplicate table of a store (dedup.rs): one node, one id. 01: "A slot is a 32-bit id + 1, or 0."
 ghost use mathlib.Core.Path.{_≡_};
+ghost use mathlib.Core.Option.{none};
 ghost use Rattle.arena.specs.Layout.{arenaOf};
+ghost use Rattle.arena.specs.Node.{find};
 ghost use Rattle.definitions.specs.Says.{Says};
 ghost use Rattle.arena.specs.Nodes.{WellFormed, Nodes};
 ghost use Rattle.dedup.specs.Table.{Table, hashAt};
@@ -20,6 +22,7 @@ use arena::store_node;
 pub use auditing::audit;
 use definitions::refusals::NO_NODE_PLACE;
 use definitions::refusals::NO_SLOT_PLACE;
+use filling::free_place;
 use filling::place;
 use filling::rehash;
 use probing::Place;
@@ -27,7 +30,7 @@ use probing::probe;
 use probing::slot_id;
 use sizes::load_limit;
 
-// What `get_or_insert_in_room` answers in place of an id: every id is below it.
+// What `get_or_insert_in_room` and `insert_in_room` answer in place of an id: every id is below it.
 pub const NO_ROOM: u64 = MOST_NODES;
 
 // The id of an old node or of a new one, or the number of a refusal.
@@ -88,7 +91,7 @@ fn insert(
     }
     let doubled = size * 2;
     rehash(nodes, slots, doubled, count);
-    place(nodes, slots, doubled, key, count);
+    place(slots, doubled, key.hash, count);
     store_node(nodes, count, key);
     Interned {
         answer: Answer::New(count),
@@ -162,4 +165,26 @@ pub fn get_or_insert_in_room(
         }
         Place::Nowhere => NO_ROOM,
     }
+}
+
+// The id of a node that is none of the old ones, where it has room; else NO_ROOM, and nothing changes.
+pub fn insert_in_room(
+    nodes: &mut [u64],
+    slots: &mut [u32],
+    count: &mut u64,
+    size: usize,
+    key: DagNode,
+) -> u64
+    requires { ⌜ Nodes (now nodes) (now count) × Table (hashAt (now nodes)) (now count) (now slots) size × WellFormed (now count) key × (find (now nodes) (now count) key ≡ none) ⌝ }
+    ensures { λ r. ⌜ InternsInRoom (now (nodes .entry)) (now (slots .entry)) (arenaOf (now (count .entry)) size) key r (now (nodes .exit)) (now (slots .exit)) (now (count .exit)) ⌝ }
+{
+    let id = *count;
+    if !has_room(nodes.len(), id, size) {
+        return NO_ROOM;
+    }
+    let free = free_place(slots, size, key.hash);
+    slots[free] = (id + 1) as u32;
+    store_node(nodes, id, key);
+    *count = id + 1;
+    id
 }

@@ -12,6 +12,9 @@ use arena::NODE_WORDS;
 use arena::load;
 use arena::same_node;
 
+// How many slots are looked at together, without a branch for each.
+pub(crate) const WINDOW: usize = 4;
+
 // Where a search ends: at a slot that holds the key's node, at an empty one, or after all slots.
 pub enum Place {
     Here(usize),

@@ -2,7 +2,7 @@
 use native.Mathlib.Omega.{arith}
 use borrow.Author.Needs.{needs}
 use Rattle.dedup.proofs.Searching.{was-here, was-free, was-nowhere, reached-in, held}
-use Rattle.dedup.proofs.Placing.{room}
+use Rattle.dedup.proofs.Placing.{first-free, room}
 use Rattle.dedup.proofs.Keys.{not-passed, found, absent}
 use Rattle.dedup.proofs.Answers.{old-answer}
 use Rattle.dedup.proofs.get_or_insert.Statement.{statement}
@@ -27,7 +27,7 @@ enum-known-found-2 : tie.Need-enum-known-found-2
 enum-known-found-2 c = search needs
 
 insert-requires : tie.Need-insert-requires
-insert-requires c κs = let f = was-free _ _ _ _ _ _ _ (c .before .before .before .found2 .given .1) (c .before .before .before .before .before .probe .ensures) in record { nodes = c .before .before .before .before .before .before .before .before .before .before .pre .0; table = c .before .before .before .before .before .before .before .before .before .before .pre .1; formed = c .before .before .before .before .before .before .before .before .before .before .pre .2; absent = absent _ _ _ _ _ (c .before .before .before .before .before .before .before .before .before .before .pre .2 .hashed) (c .before .before .before .before .before .before .before .before .before .before .pre .0) (c .before .before .before .before .before .before .before .before .before .before .pre .1) _ f; free = f }
+insert-requires c κs = let f = was-free _ _ _ _ _ _ _ (c .before .before .before .found2 .given .1) (c .before .before .before .before .before .probe .ensures) in record { nodes = c .before .before .before .before .before .before .before .before .before .before .pre .0; table = c .before .before .before .before .before .before .before .before .before .before .pre .1; formed = c .before .before .before .before .before .before .before .before .before .before .pre .2; absent = absent _ _ _ _ _ (c .before .before .before .before .before .before .before .before .before .before .pre .2 .hashed) (c .before .before .before .before .before .before .before .before .before .before .pre .0) (c .before .before .before .before .before .before .before .before .before .before .pre .1) _ f; free = first-free _ _ _ _ _ _ f }
 
 enum-told : tie.Need-enum-told
 enum-told c = search needs

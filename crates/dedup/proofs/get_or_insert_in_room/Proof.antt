@@ -5,6 +5,7 @@ use native.Mathlib.Omega.{arith}
 use borrow.Author.Needs.{needs}
 use Rattle.arena.specs.Layout.{mostChildren}
 use Rattle.dedup.proofs.Searching.{was-here, was-free, reached-in, held}
+use Rattle.dedup.proofs.Placing.{first-free}
 use Rattle.dedup.proofs.Keys.{found, absent}
 use Rattle.dedup.proofs.InRoom.{old-in-room, new-in-room, no-room}
 use Rattle.dedup.proofs.get_or_insert_in_room.Statement.{statement}
@@ -64,7 +65,7 @@ returns c =
     let f = was-free _ _ _ _ _ _ _ (c .before .before .before .before .before .before .before .found2 .given .1) (c .before .before .before .before .before .before .before .before .before .probe .ensures) in
     let room = c .before .before .before .before .before .has-room .ensures .yes (c .before .before .before .before .if1 .taken) in
     rw (c .before .before .store-node .ensures)
-    (new-in-room _ _ _ _ _ (record { nodes = p .0; table = p .1; formed = p .2; absent = absent _ _ _ _ _ (p .2 .hashed) (p .0) (p .1) _ f; free = f }) room (children (c .before .before .before .before .before .before .before .before .before .before .before .before .before .before .before)))
+    (new-in-room _ _ _ _ _ (record { nodes = p .0; table = p .1; formed = p .2; absent = absent _ _ _ _ _ (p .2 .hashed) (p .0) (p .1) _ f; free = first-free _ _ _ _ _ _ f }) room (children (c .before .before .before .before .before .before .before .before .before .before .before .before .before .before .before)))
 
 enum-told : tie.Need-enum-told
 enum-told c = search needs

@@ -4,7 +4,7 @@ use lib.ListN.{length}
 use native.Mathlib.Omega.{arith}
 use borrow.Author.Needs.{needs}
 use Rattle.arena.specs.Layout.{mostChildren}
-use Rattle.dedup.proofs.Searching.{reached-in}
+use Rattle.dedup.proofs.FreePlaces.{free-in}
 use Rattle.dedup.proofs.Placing.{room}
 use Rattle.dedup.proofs.Answers.{refuse-count, refuse-words, refuse-slots, added, doubles, added-doubled}
 use Rattle.dedup.proofs.insert.Statement.{statement}
@@ -41,10 +41,10 @@ cast-slots : tie.Need-cast-slots
 cast-slots c = search needs
 
 mul-slots : tie.Need-mul-slots
-mul-slots c = let h = reached-in _ _ _ _ _ _ (c .before .before .before .before .before .before .pre .free .reached) in let l = c .before .before .before .before .before .before .pre .table .sized in search needs
+mul-slots c = let h = free-in _ _ _ _ (c .before .before .before .before .before .before .pre .free) in let l = c .before .before .before .before .before .before .pre .table .sized in search needs
 
 slice-write-slots : tie.Need-slice-write-slots
-slice-write-slots c = let h = reached-in _ _ _ _ _ _ (c .before .before .before .before .before .before .pre .free .reached) in let l = c .before .before .before .before .before .before .pre .table .sized in omega arith
+slice-write-slots c = let h = free-in _ _ _ _ (c .before .before .before .before .before .before .pre .free) in let l = c .before .before .before .before .before .before .pre .table .sized in omega arith
 
 store-node-requires : tie.Need-store-node-requires
 store-node-requires c κs = c .before .before .before .if2 .left
@@ -74,13 +74,13 @@ rehash-requires : tie.Need-rehash-requires
 rehash-requires c κs = (c .before .before .before .before .before .before .before .before .before .pre .nodes .formed, doubles _ _ _ _ _ (c .before .before .before .before .before .before .before .before .before .pre) (c .before .before .before .before .before .before .if1 .left) (c .before .before .before .before .before .if2 .left) (children (c .before .before .before .before .before .before .before .before .before)) (let e = c .before .before .before .before .load-limit .ensures in let l = c .before .before .before .if3 .left in omega arith) (c .before .before .if4 .left))
 
 place-requires : tie.Need-place-requires
-place-requires c κs = (c .before .before .before .before .before .before .before .before .before .before .before .if1 .left, c .before .before .before .before .before .before .before .before .before .before .before .before .before .before .pre .formed .hashed, room _ _ _ _ (c .before .before .before .before .rehash .ensures .table))
+place-requires c κs = (c .before .before .before .before .before .before .before .before .before .before .if1 .left, room _ _ _ _ (c .before .before .before .rehash .ensures .table))
 
 store-node-requires-2 : tie.Need-store-node-requires-2
-store-node-requires-2 c κs = c .before .before .before .before .before .before .before .before .before .before .before .before .before .before .if2 .left
+store-node-requires-2 c κs = c .before .before .before .before .before .before .before .before .before .before .before .before .before .if2 .left
 
-add-t35 : tie.Need-add-t35
-add-t35 c = search needs
+add-t33 : tie.Need-add-t33
+add-t33 c = search needs
 
 same-length-3 : tie.Need-same-length-3
 same-length-3 c = search needs
@@ -89,7 +89,7 @@ same-length-4 : tie.Need-same-length-4
 same-length-4 c = search needs
 
 returns-5 : tie.Need-returns-5
-returns-5 c = rw (c .before .before .store-node2 .ensures) (added-doubled _ _ _ _ _ (c .before .before .before .before .before .before .before .before .before .before .before .before .before .before .before .before .before .before .before .before .before .pre) (c .before .before .before .before .before .before .before .before .before .before .before .before .before .before .before .before .before .before .if1 .left) (c .before .before .before .before .before .before .before .before .before .before .before .before .before .before .before .before .before .if2 .left) (children (c .before .before .before .before .before .before .before .before .before .before .before .before .before .before .before .before .before .before .before .before .before)) (let e = c .before .before .before .before .before .before .before .before .before .before .before .before .before .before .before .before .load-limit .ensures in let l = c .before .before .before .before .before .before .before .before .before .before .before .before .before .before .before .if3 .left in omega arith) (c .before .before .before .before .before .before .before .before .before .before .before .before .before .before .if4 .left) _ _ (c .before .before .before .before .before .before .before .before .before .before .before .rehash .ensures) (c .before .before .before .before .before .before .place .ensures))
+returns-5 c = rw (c .before .before .store-node2 .ensures) (added-doubled _ _ _ _ _ (c .before .before .before .before .before .before .before .before .before .before .before .before .before .before .before .before .before .before .before .before .pre) (c .before .before .before .before .before .before .before .before .before .before .before .before .before .before .before .before .before .if1 .left) (c .before .before .before .before .before .before .before .before .before .before .before .before .before .before .before .before .if2 .left) (children (c .before .before .before .before .before .before .before .before .before .before .before .before .before .before .before .before .before .before .before .before)) (let e = c .before .before .before .before .before .before .before .before .before .before .before .before .before .before .before .load-limit .ensures in let l = c .before .before .before .before .before .before .before .before .before .before .before .before .before .before .if3 .left in omega arith) (c .before .before .before .before .before .before .before .before .before .before .before .before .before .if4 .left) _ _ (c .before .before .before .before .before .before .before .before .before .before .rehash .ensures) (c .before .before .before .before .before .before .place .ensures))
 
 pub insert-spec : {M : Type 1} → statement M
 insert-spec =
@@ -117,7 +117,7 @@ insert-spec =
     rehash-requires
     place-requires
     store-node-requires-2
-    add-t35
+    add-t33
     same-length-3
     same-length-4
     returns-5)

@@ -23,11 +23,11 @@ clear-requires c κs = c .before .before .before .pre .1 .sized
 loop-holds : tie.Need-loop-holds Inv-loop μ-loop
 loop-holds c = (search needs, rw (c .before .before .clear .ensures) (empty _ _ _ (c .before .before .before .before .before .before .pre .1 .doubled) (c .before .before .before .before .before .before .pre .1 .sized)), refl, refl)
 
-load-requires : tie.Need-load-requires Inv-loop μ-loop
-load-requires c κs = let f = c .before .before .before .before .before .before .before .before .before .pre .0 .fits in let l = c .before .loop-test .taken in omega arith
+node-hash-at-requires : tie.Need-node-hash-at-requires Inv-loop μ-loop
+node-hash-at-requires c κs = let f = c .before .before .before .before .before .before .before .before .before .pre .0 .fits in let l = c .before .loop-test .taken in omega arith
 
 place-requires : tie.Need-place-requires Inv-loop μ-loop
-place-requires c κs = let m = c .before .before .before .before .before .before .before .before .before .before .pre .0 .many in let l = c .before .before .loop-test .taken in (omega arith, rw (c .load .ensures) (c .before .before .before .before .before .before .before .before .before .before .pre .0 .each _ l .hashed), room _ _ _ _ (c .before .before .before .loop .inv .1))
+place-requires c κs = let m = c .before .before .before .before .before .before .before .before .before .before .pre .0 .many in let l = c .before .before .loop-test .taken in (omega arith, room _ _ _ _ (c .before .before .before .loop .inv .1))
 
 add-i : tie.Need-add-i Inv-loop μ-loop
 add-i c = search needs
@@ -36,7 +36,7 @@ loop-less : tie.Need-loop-less Inv-loop μ-loop
 loop-less c = search needs
 
 loop-again : tie.Need-loop-again Inv-loop μ-loop
-loop-again c = let a = c .before .before .before .before .before .before in let l = c .before .before .before .before .before .loop-test .taken in let f = c .before .before .before .before .before .before .before .before .before .before .before .before .before .pre .1 .load in let e : c .before .before .before .load .result .hash ≡ hashAt (c .before .before .before .before .before .before .before .before .before .before .before .before .before .args .nodes .now) (a .loop .i) = ap (λ n. n .hash) (c .before .before .before .load .ensures) in (omega arith, table-more _ _ _ _ _ _ (a .loop .inv .1) e (omega arith) (c .before .before .place .ensures), past-more _ _ _ _ _ _ (a .loop .inv .1) e (omega arith) (c .before .before .place .ensures) ∙ a .loop .inv .2, c .before .before .place .kept .1 .0 ∙ a .loop .inv .3)
+loop-again c = let a = c .before .before .before .before .before .before in let l = c .before .before .before .before .before .loop-test .taken in let f = c .before .before .before .before .before .before .before .before .before .before .before .before .before .pre .1 .load in let e = c .before .before .before .node-hash-at .ensures in (omega arith, table-more _ _ _ _ _ _ (a .loop .inv .1) e (omega arith) (c .before .before .place .ensures), past-more _ _ _ _ _ _ (a .loop .inv .1) e (omega arith) (c .before .before .place .ensures) ∙ a .loop .inv .2, c .before .before .place .kept .0 ∙ a .loop .inv .3)
 
 same-length : tie.Need-same-length Inv-loop μ-loop
 same-length c = c .before .loop .inv .3 ∙ c .before .before .before .before .clear .kept .0
@@ -52,7 +52,7 @@ rehash-spec =
     μ-loop
     clear-requires
     loop-holds
-    load-requires
+    node-hash-at-requires
     place-requires
     add-i
     loop-less

@@ -1,0 +1,47 @@
+-- `dedup::filling::free_place` meets its contract: the first empty slot of a window that lies in the table, or else the first round it.
+use native.Mathlib.Omega.{arith}
+use borrow.Author.Needs.{needs}
+use Rattle.dedup.proofs.FreePlaces.{home-in, free-onward, free-in-window}
+use Rattle.dedup.proofs.filling.free_place.Statement.{statement}
+use Rattle.dedup.proofs.filling.free_place.Tie as tie
+
+modulo-size-requires : tie.Need-modulo-size-requires
+modulo-size-requires c κs = search needs
+
+sub-if1 : tie.Need-sub-if1
+sub-if1 c = let l = home-in _ _ _ _ (c .modulo-size .ensures) (c .before .before .pre) in omega arith
+
+free-from-requires : tie.Need-free-from-requires
+free-from-requires c κs = (home-in _ _ _ _ (c .before .modulo-size .ensures) (c .before .before .before .pre), c .before .before .before .pre)
+
+returns : tie.Need-returns
+returns c = free-onward _ _ _ _ (c .before .before .modulo-size .ensures) _ (c .free-from .ensures)
+
+first-empty-requires : tie.Need-first-empty-requires
+first-empty-requires c κs = search needs
+
+add-result : tie.Need-add-result
+add-result c = search needs
+
+returns-2 : tie.Need-returns-2
+returns-2 c = free-in-window _ _ _ _ (c .before .before .before .modulo-size .ensures) _ (let l = c .before .before .if1 .left in omega arith) (c .if2 .taken) (c .before .first-empty .ensures)
+
+free-from-requires-2 : tie.Need-free-from-requires-2
+free-from-requires-2 c κs = search needs
+
+returns-3 : tie.Need-returns-3
+returns-3 c = free-onward _ _ _ _ (c .before .before .before .before .modulo-size .ensures) _ (c .free-from2 .ensures)
+
+pub free-place-spec : {M : Type 1} → statement M
+free-place-spec =
+    tie.close
+    (tie.spec
+    modulo-size-requires
+    sub-if1
+    free-from-requires
+    returns
+    first-empty-requires
+    add-result
+    returns-2
+    free-from-requires-2
+    returns-3)
