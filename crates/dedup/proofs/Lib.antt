@@ -2,6 +2,7 @@ pub mod Doubling
 pub mod Rounds
 pub mod Searching
 pub mod GreatestChild
+pub mod Nearing
 pub mod Pigeon
 pub mod FreePlaces
 pub mod Placing

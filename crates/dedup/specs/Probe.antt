@@ -1,16 +1,17 @@
 -- What a search round the table finds.
-use Prim.Native.Nat.{ℕ, zero, suc, _+_, _%_, _≤_, _<_, max}
+use Prim.Native.Nat.{ℕ, zero, suc, _+_, _*_, _-_, _%_, _≤_, _<_, max}
 use mathlib.Core.Path.{_≡_}
 use mathlib.Core.Bool.{Bool, true, false, _&&_}
 use mathlib.Core.List.{List, [], _∷_}
 use lib.ListN.{length, getD}
 use lib.Dec.{ltb}
 use Rattle.arena.specs.declared.node.DagNode.{DagNode}
+use Rattle.arena.specs.Layout.{nodeWords}
 use Rattle.arena.specs.Node.{nodeAt, one, nodeHash}
 use Rattle.arena.specs.Nodes.{AllWellFormed}
 use Rattle.dedup.specs.declared.probing.Place.{Place}
 use Rattle.dedup.specs.declared.probing.Place.the-variants.{Here, Free, Nowhere}
-use Rattle.dedup.specs.Table.{TableSize, slotFrom, InUse}
+use Rattle.dedup.specs.Table.{TableSize, slotFrom, InUse, hashAt}
 
 -- a slot holds an id below `known` whose node is one with the key
 unfoldable pub holds : List ℕ → ℕ → DagNode → ℕ → Bool
@@ -56,3 +57,33 @@ unfoldable pub Probed : List ℕ → ℕ → List ℕ → ℕ → DagNode → Pl
 Probed words known slots size key (Here place) = Finds words known slots size key place
 Probed words known slots size key (Free place) = Frees words known slots size key place
 Probed words known slots size key Nowhere = Passed words known slots size key size
+
+-- ---- the first slots, looked at together
+-- how many
+abbrev pub window : ℕ
+window = 4
+
+-- the node of a slot can be a key's by its id: it is known, and not below the key's greatest child
+abbrev pub CanBe : ℕ → ℕ → ℕ → Type 0
+CanBe greatest known slot = (greatest < slot) × (slot ≤ known)
+
+-- the id whose hash is compared is known, and is the slot's own where its node can be the key's
+pub record ComparedId (slot greatest known id : ℕ) : Type 0 where
+  pub there : id < known
+  pub own : CanBe greatest known slot → id ≡ slot - 1
+
+-- a slot is in use, and has another hash where its node can be the key's
+pub record OtherSlot (words : List ℕ) (known hash greatest slot : ℕ) : Type 0 where
+  pub used : slot ≡ 0 → ⊥
+  pub differs : CanBe greatest known slot → hashAt words (slot - 1) ≡ hash → ⊥
+
+-- what looking at slots together needs: they do not go round the end, and the nodes are there
+pub record NearReady (words : List ℕ) (known : ℕ) (slots : List ℕ) (home greatest : ℕ) : Type 0 where
+  pub inside : home + window ≤ length slots
+  pub below : greatest < known
+  pub fits : known * nodeWords ≤ length words
+
+-- so many slots from a place on are in use by other nodes
+pub record PassedNear (words : List ℕ) (known : ℕ) (slots : List ℕ) (home hash greatest passed : ℕ) : Type 0 where
+  pub few : passed ≤ window
+  pub each : (d : ℕ) → d < passed → OtherSlot words known hash greatest (getD slots (home + d) 0)

@@ -27,6 +27,7 @@ use filling::place;
 use filling::rehash;
 use probing::Place;
 use probing::probe;
+use probing::probe_near;
 use probing::slot_id;
 use sizes::load_limit;
 
@@ -151,7 +152,7 @@ pub fn get_or_insert_in_room(
     ensures { λ r. ⌜ InternsInRoom (now (nodes .entry)) (now (slots .entry)) (arenaOf (now (count .entry)) size) key r (now (nodes .exit)) (now (slots .exit)) (now (count .exit)) ⌝ }
 {
     let id = *count;
-    let found = probe(nodes, slots, size, key, id);
+    let found = probe_near(nodes, slots, size, key, id);
     match found {
         Place::Here(at) => slot_id(slots[at]),
         Place::Free(at) => {

@@ -1,9 +1,9 @@
 // The search round the table, which finding, inserting, rehashing and the audit share.
 ghost use mathlib.Core.Path.{_≡_};
-ghost use Prim.Native.Nat.{_-_, _<_};
+ghost use Prim.Native.Nat.{_-_, _≤_, _<_};
 ghost use Rattle.arena.specs.Node.{nodeHash};
 ghost use Rattle.arena.specs.Nodes.{AllWellFormed};
-ghost use Rattle.dedup.specs.Probe.{greatestChild, holds, Ready, Probed};
+ghost use Rattle.dedup.specs.Probe.{greatestChild, holds, Ready, Passed, Probed, ComparedId, NearReady, PassedNear};
 use crate::sizes::modulo_size;
 use arena::DagNode;
 use arena::HASH;
@@ -65,16 +65,23 @@ fn slot_holds(nodes: &[u64], slot: u32, key: DagNode, greatest: u64, known: u64)
     same_node(load(nodes, id), key)
 }
 
-// The first slot from the key's hash onward, round the end, that is empty or holds a node that is one with the
-// key. Only nodes below `known` are compared.
-pub(crate) fn probe(nodes: &[u64], slots: &[u32], size: usize, key: DagNode, known: u64) -> Place
-    requires { ⌜ Ready (now nodes) known (now slots) size key ⌝ }
+// The first slot from so many places past the key's hash onward, round the end, that is empty or holds a node that
+// is one with the key. Those before are in use by other nodes.
+fn probe_from(
+    nodes: &[u64],
+    slots: &[u32],
+    size: usize,
+    key: DagNode,
+    known: u64,
+    start: usize,
+) -> Place
+    requires { ⌜ Ready (now nodes) known (now slots) size key × Passed (now nodes) known (now slots) size key start × (start ≤ size) ⌝ }
     ensures { λ r. ⌜ Probed (now (nodes .entry)) known (now (slots .entry)) size key r ⌝ }
 {
     let children = key.children;
     let greatest = greatest_child(children);
-    let mut at = modulo_size(key.hash as usize, size);
-    let mut passed: usize = 0;
+    let mut at = modulo_size(modulo_size(key.hash as usize, size) + start, size);
+    let mut passed = start;
     while passed < size {
         let slot = slots[at];
         if slot == 0 {
@@ -87,4 +94,78 @@ pub(crate) fn probe(nodes: &[u64], slots: &[u32], size: usize, key: DagNode, kno
         passed += 1;
     }
     Place::Nowhere
+}
+
+// The first slot from the key's hash onward, round the end, that is empty or holds a node that is one with the
+// key. Only nodes below `known` are compared.
+pub(crate) fn probe(nodes: &[u64], slots: &[u32], size: usize, key: DagNode, known: u64) -> Place
+    requires { ⌜ Ready (now nodes) known (now slots) size key ⌝ }
+    ensures { λ r. ⌜ Probed (now (nodes .entry)) known (now (slots .entry)) size key r ⌝ }
+{
+    probe_from(nodes, slots, size, key, known, 0)
+}
+
+// The id whose hash is compared for a slot: the slot's own if its node can be the key's, else the greatest child's.
+fn compared_id(slot: u32, greatest: u64, known: u64) -> u64
+    requires { ⌜ greatest < known ⌝ }
+    ensures { λ r. ⌜ ComparedId slot greatest known r ⌝ }
+{
+    let next = slot as u64;
+    if greatest < next && next <= known {
+        next - 1
+    } else {
+        greatest
+    }
+}
+
+// How many slots from a place on, WINDOW at most, are surely in use by other nodes.
+fn pass_near(
+    nodes: &[u64],
+    slots: &[u32],
+    home: usize,
+    hash: u64,
+    greatest: u64,
+    known: u64,
+) -> usize
+    requires { ⌜ NearReady (now nodes) known (now slots) home greatest ⌝ }
+    ensures { λ r. ⌜ PassedNear (now (nodes .entry)) known (now (slots .entry)) home hash greatest r ⌝ }
+{
+    let mut passed = WINDOW;
+    let mut i = WINDOW;
+    while 0 < i {
+        i -= 1;
+        let near = slots[home + i];
+        let id = compared_id(near, greatest, known);
+        if nodes[id as usize * NODE_WORDS + HASH] == hash {
+            passed = i;
+        }
+        if near == 0 {
+            passed = i;
+        }
+    }
+    passed
+}
+
+// The same search as `probe`, whose first slots are looked at together.
+pub(crate) fn probe_near(
+    nodes: &[u64],
+    slots: &[u32],
+    size: usize,
+    key: DagNode,
+    known: u64,
+) -> Place
+    requires { ⌜ Ready (now nodes) known (now slots) size key ⌝ }
+    ensures { λ r. ⌜ Probed (now (nodes .entry)) known (now (slots .entry)) size key r ⌝ }
+{
+    let children = key.children;
+    let greatest = greatest_child(children);
+    let home = modulo_size(key.hash as usize, size);
+    if size - home < WINDOW {
+        return probe(nodes, slots, size, key, known);
+    }
+    if known <= greatest {
+        return probe(nodes, slots, size, key, known);
+    }
+    let passed = pass_near(nodes, slots, home, key.hash, greatest, known);
+    probe_from(nodes, slots, size, key, known, passed)
 }

@@ -14,20 +14,20 @@ use Rattle.dedup.proofs.get_or_insert_in_room.Tie as tie
 children : (s : tie.Start) → length (s .args .key .children) ≡ mostChildren
 children s = search needs
 
-probe-requires : tie.Need-probe-requires
-probe-requires c κs = let p = c .before .before .before .before .before .pre in record { doubled = p .1 .doubled; sized = p .1 .sized; formed = p .0 .formed; hashed = p .2 .hashed }
+probe-near-requires : tie.Need-probe-near-requires
+probe-near-requires c κs = let p = c .before .before .before .before .before .pre in record { doubled = p .1 .doubled; sized = p .1 .sized; formed = p .0 .formed; hashed = p .2 .hashed }
 
 enum-known-found : tie.Need-enum-known-found
 enum-known-found c = search needs
 
 mul-slot-id : tie.Need-mul-slot-id
-mul-slot-id c = let h = reached-in _ _ _ _ _ _ (was-here _ _ _ _ _ _ _ (c .before .found .given .1) (c .before .before .before .probe .ensures) .reached) in let l = c .before .before .before .before .before .before .before .before .before .pre .1 .sized in search needs
+mul-slot-id c = let h = reached-in _ _ _ _ _ _ (was-here _ _ _ _ _ _ _ (c .before .found .given .1) (c .before .before .before .probe-near .ensures) .reached) in let l = c .before .before .before .before .before .before .before .before .before .pre .1 .sized in search needs
 
 slice-read-slot-id : tie.Need-slice-read-slot-id
-slice-read-slot-id c = let h = reached-in _ _ _ _ _ _ (was-here _ _ _ _ _ _ _ (c .before .before .found .given .1) (c .before .before .before .before .probe .ensures) .reached) in let l = c .before .before .before .before .before .before .before .before .before .before .pre .1 .sized in omega arith
+slice-read-slot-id c = let h = reached-in _ _ _ _ _ _ (was-here _ _ _ _ _ _ _ (c .before .before .found .given .1) (c .before .before .before .before .probe-near .ensures) .reached) in let l = c .before .before .before .before .before .before .before .before .before .before .pre .1 .sized in omega arith
 
 slot-id-requires : tie.Need-slot-id-requires
-slot-id-requires c κs = held _ _ _ _ (was-here _ _ _ _ _ _ _ (c .before .before .found .given .1) (c .before .before .before .before .probe .ensures) .held) .0
+slot-id-requires c κs = held _ _ _ _ (was-here _ _ _ _ _ _ _ (c .before .before .found .given .1) (c .before .before .before .before .probe-near .ensures) .held) .0
 
 enum-known-found-2 : tie.Need-enum-known-found-2
 enum-known-found-2 c = search needs
@@ -42,10 +42,10 @@ cast-slots : tie.Need-cast-slots
 cast-slots c = search needs
 
 mul-slots : tie.Need-mul-slots
-mul-slots c = let h = reached-in _ _ _ _ _ _ (was-free _ _ _ _ _ _ _ (c .before .before .before .found2 .given .1) (c .before .before .before .before .before .probe .ensures) .reached) in let l = c .before .before .before .before .before .before .before .before .before .before .before .pre .1 .sized in search needs
+mul-slots c = let h = reached-in _ _ _ _ _ _ (was-free _ _ _ _ _ _ _ (c .before .before .before .found2 .given .1) (c .before .before .before .before .before .probe-near .ensures) .reached) in let l = c .before .before .before .before .before .before .before .before .before .before .before .pre .1 .sized in search needs
 
 slice-write-slots : tie.Need-slice-write-slots
-slice-write-slots c = let h = reached-in _ _ _ _ _ _ (was-free _ _ _ _ _ _ _ (c .before .before .before .found2 .given .1) (c .before .before .before .before .before .probe .ensures) .reached) in let l = c .before .before .before .before .before .before .before .before .before .before .before .pre .1 .sized in omega arith
+slice-write-slots c = let h = reached-in _ _ _ _ _ _ (was-free _ _ _ _ _ _ _ (c .before .before .before .found2 .given .1) (c .before .before .before .before .before .probe-near .ensures) .reached) in let l = c .before .before .before .before .before .before .before .before .before .before .before .pre .1 .sized in omega arith
 
 store-node-requires : tie.Need-store-node-requires
 store-node-requires c κs = c .before .before .has-room .ensures .yes (c .before .if1 .taken) .fits
@@ -62,7 +62,7 @@ same-length-2 c = search needs
 returns : tie.Need-returns
 returns c =
     let p = c .before .before .before .before .before .before .before .before .before .before .before .before .before .before .before .pre in
-    let f = was-free _ _ _ _ _ _ _ (c .before .before .before .before .before .before .before .found2 .given .1) (c .before .before .before .before .before .before .before .before .before .probe .ensures) in
+    let f = was-free _ _ _ _ _ _ _ (c .before .before .before .before .before .before .before .found2 .given .1) (c .before .before .before .before .before .before .before .before .before .probe-near .ensures) in
     let room = c .before .before .before .before .before .has-room .ensures .yes (c .before .before .before .before .if1 .taken) in
     rw (c .before .before .store-node .ensures)
     (new-in-room _ _ _ _ _ (record { nodes = p .0; table = p .1; formed = p .2; absent = absent _ _ _ _ _ (p .2 .hashed) (p .0) (p .1) _ f; free = first-free _ _ _ _ _ _ f }) room (children (c .before .before .before .before .before .before .before .before .before .before .before .before .before .before .before)))
@@ -80,7 +80,7 @@ returns-2 : tie.Need-returns-2
 returns-2 c =
     let p = c .before .before .before .before .before .before .before .before .before .before .before .pre in
     rw (c .slot-id .ensures)
-    (old-in-room _ _ _ _ _ (found _ _ _ _ _ (p .2 .hashed) (p .0) _ (was-here _ _ _ _ _ _ _ (c .before .before .before .found .given .1) (c .before .before .before .before .before .probe .ensures))) (p .0) (p .1))
+    (old-in-room _ _ _ _ _ (found _ _ _ _ _ (p .2 .hashed) (p .0) _ (was-here _ _ _ _ _ _ _ (c .before .before .before .found .given .1) (c .before .before .before .before .before .probe-near .ensures))) (p .0) (p .1))
 
 same-length-5 : tie.Need-same-length-5
 same-length-5 c = search needs
@@ -104,7 +104,7 @@ pub get-or-insert-in-room-spec : {M : Type 1} → statement M
 get-or-insert-in-room-spec =
     tie.close
     (tie.spec
-    probe-requires
+    probe-near-requires
     enum-known-found
     mul-slot-id
     slice-read-slot-id
