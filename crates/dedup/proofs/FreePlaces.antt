@@ -4,12 +4,13 @@ use mathlib.Core.Path.{_≡_, sym, ap, _∙_}
 use mathlib.Core.List.{List}
 use lib.ListN.{getD}
 use native.Mathlib.Omega.{arith}
-use native.Mathlib.Nat.{mod-lt, mod-add-mod, mod-eq-of-lt}
+use native.Mathlib.Nat.{mod-lt}
 use native.Mathlib.Decide.{decLt, ℕ-discrete}
 use borrow.Author.Count.{below-more}
 use Rattle.dedup.specs.Table.{InUse}
-use Rattle.dedup.specs.Insert.{window, FirstEmpty, Room, FirstFree}
-use Rattle.dedup.proofs.Rounds.{round-hits}
+use Rattle.dedup.specs.Probe.{window}
+use Rattle.dedup.specs.Insert.{FirstEmpty, Room, FirstFree}
+use Rattle.dedup.proofs.Rounds.{round-hits, round-from, round-inside}
 
 -- ---- in a window, from its end
 -- the first empty slot of those from the i-th on
@@ -68,26 +69,20 @@ module _ (slots : List ℕ) (size hash : ℕ) where
     pub home-in : Room slots size → home < size
     home-in r = let l = r .below in rw is (mod-lt _ (omega arith))
 
-    onward : (d : ℕ) → (home + d) % size ≡ (hash + d) % size
-    onward d = ap (λ (x : ℕ). (x + d) % size) is ∙ mod-add-mod hash size d
-
     pub free-onward : (at : ℕ) → FirstFree slots size home at → FirstFree slots size hash at
     free-onward at f = record {
       far = f .far;
       near = f .near;
-      is = f .is ∙ onward (f .far);
+      is = f .is ∙ round-from hash home (f .far) size is;
       empty = f .empty;
-      used = λ d l z. f .used d l (ap (λ (x : ℕ). getD slots x 0) (onward d) ∙ z);
+      used = λ d l z. f .used d l (ap (λ (x : ℕ). getD slots x 0) (round-from hash home d size is) ∙ z);
     }
 
     pub free-in-window : (first : ℕ) → home + window ≤ size → first < window → FirstEmpty slots home first → FirstFree slots size hash (home + first)
     free-in-window first m l e = record {
       far = first;
       near = omega arith;
-      is = there first l;
+      is = round-inside hash home first size is (omega arith);
       empty = e .empty l;
-      used = λ d k z. e .used d k (ap (λ (x : ℕ). getD slots x 0) (there d (omega arith)) ∙ z);
+      used = λ d k z. e .used d k (ap (λ (x : ℕ). getD slots x 0) (round-inside hash home d size is (omega arith)) ∙ z);
     }
-      where
-        there : (d : ℕ) → d < window → home + d ≡ (hash + d) % size
-        there d k = sym (mod-eq-of-lt (omega arith)) ∙ onward d

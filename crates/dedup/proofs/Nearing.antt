@@ -6,10 +6,10 @@ use mathlib.Core.List.{List}
 use lib.ListN.{getD}
 use native.Mathlib.Omega.{arith}
 use native.Mathlib.Decide.{decLt}
-use native.Mathlib.Nat.{mod-add-mod, mod-eq-of-lt}
 use Rattle.arena.specs.declared.node.DagNode.{DagNode}
 use Rattle.dedup.specs.Table.{slotFrom, hashAt}
 use Rattle.dedup.specs.Probe.{window, greatestChild, holds, Ready, Passed, ComparedId, OtherSlot, PassedNear}
+use Rattle.dedup.proofs.Rounds.{round-inside}
 use Rattle.dedup.proofs.Searching.{holds-beyond, holds-hash}
 use Rattle.dedup.proofs.GreatestChild.{holds-below}
 
@@ -52,7 +52,7 @@ module _ (words : List ℕ) (known : ℕ) (slots : List ℕ) (size : ℕ) (key :
 
   module _ (home : ℕ) (is : home ≡ key .hash % size) (inside : home + window ≤ size) where
     near-slot : (d : ℕ) → d < window → getD slots (home + d) 0 ≡ slotFrom slots size (key .hash) d
-    near-slot d l = ap (λ (x : ℕ). getD slots x 0) (sym (mod-eq-of-lt (let m = inside in omega arith)) ∙ ap (λ (x : ℕ). (x + d) % size) is ∙ mod-add-mod (key .hash) size d)
+    near-slot d l = ap (λ (x : ℕ). getD slots x 0) (round-inside (key .hash) home d size is (let m = inside in omega arith))
 
     -- a search passes them
     pub near-passed : (passed : ℕ) → PassedNear words known slots home (key .hash) greatest passed → Passed words known slots size key passed

@@ -7,6 +7,14 @@ use native.Mathlib.Nat.{mod-lt, mod-add-mod, add-mod-mod, add-mod-right, mod-eq-
 pub round-next : (h d size : ℕ) → ((h + d) % size + 1) % size ≡ (h + (d + 1)) % size
 round-next h d size = mod-add-mod (h + d) size 1 ∙ ap (λ (x : ℕ). x % size) (let e : h + d + 1 ≡ h + (d + 1) = omega arith in e)
 
+-- so many places onward from a hash's own place
+pub round-from : (h home d size : ℕ) → home ≡ h % size → (home + d) % size ≡ (h + d) % size
+round-from h home d size is = ap (λ (x : ℕ). (x + d) % size) is ∙ mod-add-mod h size d
+
+-- before the table's end
+pub round-inside : (h home d size : ℕ) → home ≡ h % size → home + d < size → home + d ≡ (h + d) % size
+round-inside h home d size is l = sym (mod-eq-of-lt l) ∙ round-from h home d size is
+
 -- every place is met from every hash
 pub round-hits : (h p size : ℕ) → p < size → (d : ℕ) × (d < size) × ((h + d) % size ≡ p)
 round-hits h p size l =

@@ -5,6 +5,7 @@ use mathlib.Core.List.{List}
 use lib.ListN.{length, getD, set, drop}
 use Rattle.definitions.specs.Intern.{capacity}
 use Rattle.dedup.specs.Table.{TableSize, Table, InUse}
+use Rattle.dedup.specs.Probe.{window}
 
 -- some slot is empty
 pub record Room (slots : List ℕ) (size : ℕ) : Type 0 where
@@ -13,10 +14,6 @@ pub record Room (slots : List ℕ) (size : ℕ) : Type 0 where
   pub place : ℕ
   pub below : place < size
   pub empty : getD slots place 0 ≡ 0
-
--- how many slots are looked at together
-abbrev pub window : ℕ
-window = 4
 
 -- so many slots from a place on are in use, and the next is empty or past the window
 pub record FirstEmpty (slots : List ℕ) (home first : ℕ) : Type 0 where

@@ -18,6 +18,7 @@ use Rattle.dedup.specs.declared.Interned.{Interned}
 use Rattle.definitions.specs.Refusals.{noNodePlace, noSlotPlace}
 use Rattle.definitions.specs.Intern.{capacity}
 use Rattle.dedup.specs.Table.{UsedStay, Table, hashAt}
+use Rattle.dedup.specs.Probe.{greatestChild}
 use Rattle.dedup.specs.Insert.{FirstFree}
 
 abbrev pub answered : Answer → ℕ → ℕ → Interned
@@ -70,6 +71,11 @@ pub record HasRoom (words count size : ℕ) : Type 0 where
   pub many : count < mostNodes
   pub fits : count * nodeWords + nodeWords ≤ words
   pub load : count < capacity size
+
+-- the newest node is a child of the key
+pub record OverNewest (count : ℕ) (key : DagNode) : Type 0 where
+  pub some : 0 < key .arity
+  pub newest : greatestChild (key .children) + 1 ≡ count
 
 -- an id, of an old node or of a new one, in a table of the same size
 pub record InternsId (words slots : List ℕ) (arena : DagArena) (key : DagNode) (id : ℕ) (words′ slots′ : List ℕ) (count′ : ℕ) : Type 0 where

@@ -59,7 +59,7 @@ Probed words known slots size key (Free place) = Frees words known slots size ke
 Probed words known slots size key Nowhere = Passed words known slots size key size
 
 -- ---- the first slots, looked at together
--- how many
+-- how many slots are looked at together
 abbrev pub window : ℕ
 window = 4
 

@@ -1,12 +1,13 @@
 // The duplicate table of a store (dedup.rs): one node, one id. 01: "A slot is a 32-bit id + 1, or 0."
 ghost use mathlib.Core.Path.{_≡_};
 ghost use mathlib.Core.Option.{none};
-ghost use Rattle.arena.specs.Layout.{arenaOf};
+ghost use Prim.Native.Nat.{_≤_};
+ghost use Rattle.arena.specs.Layout.{mostNodes, arenaOf};
 ghost use Rattle.arena.specs.Node.{find};
 ghost use Rattle.definitions.specs.Says.{Says};
 ghost use Rattle.arena.specs.Nodes.{WellFormed, Nodes};
 ghost use Rattle.dedup.specs.Table.{Table, hashAt};
-ghost use Rattle.dedup.specs.Intern.{answered, Interns, Absent, HasRoom, InternsInRoom};
+ghost use Rattle.dedup.specs.Intern.{answered, Interns, Absent, HasRoom, OverNewest, InternsInRoom};
 ghost use Rattle.dedup.specs.declared.Answer.the-variants.{Refused};
 
 pub mod auditing;
@@ -26,12 +27,13 @@ use filling::free_place;
 use filling::place;
 use filling::rehash;
 use probing::Place;
+use probing::greatest_child;
 use probing::probe;
 use probing::probe_near;
 use probing::slot_id;
 use sizes::load_limit;
 
-// What `get_or_insert_in_room` and `insert_in_room` answer in place of an id: every id is below it.
+// What `get_or_insert_in_room` answers in place of an id: every id is below it.
 pub const NO_ROOM: u64 = MOST_NODES;
 
 // The id of an old node or of a new one, or the number of a refusal.
@@ -140,36 +142,8 @@ fn has_room(words: usize, count: u64, size: usize) -> bool
     (count as usize) < load_limit(size)
 }
 
-// The id of a node, old or new, where a new one has room; else NO_ROOM, and nothing changes.
-pub fn get_or_insert_in_room(
-    nodes: &mut [u64],
-    slots: &mut [u32],
-    count: &mut u64,
-    size: usize,
-    key: DagNode,
-) -> u64
-    requires { ⌜ Nodes (now nodes) (now count) × Table (hashAt (now nodes)) (now count) (now slots) size × WellFormed (now count) key ⌝ }
-    ensures { λ r. ⌜ InternsInRoom (now (nodes .entry)) (now (slots .entry)) (arenaOf (now (count .entry)) size) key r (now (nodes .exit)) (now (slots .exit)) (now (count .exit)) ⌝ }
-{
-    let id = *count;
-    let found = probe_near(nodes, slots, size, key, id);
-    match found {
-        Place::Here(at) => slot_id(slots[at]),
-        Place::Free(at) => {
-            if has_room(nodes.len(), id, size) {
-                slots[at] = (id + 1) as u32;
-                store_node(nodes, id, key);
-                *count = id + 1;
-                return id;
-            }
-            NO_ROOM
-        }
-        Place::Nowhere => NO_ROOM,
-    }
-}
-
 // The id of a node that is none of the old ones, where it has room; else NO_ROOM, and nothing changes.
-pub fn insert_in_room(
+fn insert_in_room(
     nodes: &mut [u64],
     slots: &mut [u32],
     count: &mut u64,
@@ -188,4 +162,47 @@ pub fn insert_in_room(
     store_node(nodes, id, key);
     *count = id + 1;
     id
+}
+
+// Whether the newest node is a child of the key. Children are lower than their node, so that then no node is the key.
+fn is_over_newest(key: DagNode, count: u64) -> bool
+    requires { ⌜ WellFormed count key × (count ≤ mostNodes) ⌝ }
+    ensures { λ r. ⌜ Says r (OverNewest count key) ⌝ }
+{
+    if key.arity == 0 {
+        return false;
+    }
+    let children = key.children;
+    greatest_child(children) + 1 == count
+}
+
+// The id of a node, old or new, where a new one has room; else NO_ROOM, and nothing changes.
+pub fn get_or_insert_in_room(
+    nodes: &mut [u64],
+    slots: &mut [u32],
+    count: &mut u64,
+    size: usize,
+    key: DagNode,
+) -> u64
+    requires { ⌜ Nodes (now nodes) (now count) × Table (hashAt (now nodes)) (now count) (now slots) size × WellFormed (now count) key ⌝ }
+    ensures { λ r. ⌜ InternsInRoom (now (nodes .entry)) (now (slots .entry)) (arenaOf (now (count .entry)) size) key r (now (nodes .exit)) (now (slots .exit)) (now (count .exit)) ⌝ }
+{
+    let id = *count;
+    if is_over_newest(key, id) {
+        return insert_in_room(nodes, slots, count, size, key);
+    }
+    let found = probe_near(nodes, slots, size, key, id);
+    match found {
+        Place::Here(at) => slot_id(slots[at]),
+        Place::Free(at) => {
+            if has_room(nodes.len(), id, size) {
+                slots[at] = (id + 1) as u32;
+                store_node(nodes, id, key);
+                *count = id + 1;
+                return id;
+            }
+            NO_ROOM
+        }
+        Place::Nowhere => NO_ROOM,
+    }
 }

@@ -31,7 +31,7 @@ pub(crate) fn slot_id(slot: u32) -> u64
 }
 
 // The greatest of a node's child places; unused ones are 0.
-fn greatest_child(children: [u64; MOST_CHILDREN]) -> u64
+pub(crate) fn greatest_child(children: [u64; MOST_CHILDREN]) -> u64
     ensures { λ r. ⌜ r ≡ greatestChild children ⌝ }
 {
     let mut greatest: u64 = 0;
