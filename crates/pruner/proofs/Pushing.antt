@@ -1,4 +1,4 @@
--- The loop of `push_siblings`.
+-- The loop of `push_siblings`, and the one turn of it that `push_second` makes.
 use Prim.Native.Nat.{ℕ, suc, _+_, _-_, _<_, _≤_}
 use mathlib.Core.Path.{_≡_, refl, sym, ap, _∙_}
 use mathlib.Core.List.{List, _∷_, _++_}
@@ -65,3 +65,8 @@ module _ (children : List ℕ) (used top : ℕ) (before : List ℕ) (ends : top 
 
           j-is : suc (j - 1) ≡ j
           j-is = omega arith
+
+  pub second : length children ≡ 2 → used < top → length before ≡ mostTerms → (child : ℕ) → child ≡ getD children 1 0 → Pushes children used top before (From (top - 1)) (set before (top - 1) child)
+  second two free long child e =
+      let start : Pushing children used top before before top 2 = begins (omega arith) (omega arith) long 2 (sym two) in
+      somewhere _ _ _ (goes-on _ _ _ start (omega arith) free child e) (omega arith)

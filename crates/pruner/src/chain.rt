@@ -27,7 +27,28 @@ pub enum Flattened {
     TooMany,
 }
 
+// The second of a node's two children, put before the ids that wait from `top` on. The first `used` places stay.
+fn push_second(
+    nodes: &[u64],
+    count: u64,
+    id: u64,
+    terms: &mut [u64; MOST_TERMS],
+    used: usize,
+    top: usize,
+) -> Waiting
+    requires { ⌜ Lookup (now nodes) count id × (length (childrenIn (now nodes) count id) ≡ 2) × (used ≤ top) × (top ≤ mostTerms) × (length (now terms) ≡ mostTerms) ⌝ }
+    ensures { λ r. ⌜ Pushes (childrenIn (now (nodes .entry)) count id) used top (now (terms .entry)) r (now (terms .exit)) ⌝ }
+{
+    if top <= used {
+        return Waiting::Nowhere;
+    }
+    let free = top - 1;
+    terms[free] = store::child(nodes, count, id, 1);
+    Waiting::From(free)
+}
+
 // The children of a node after its first, put before the ids that wait from `top` on. The first `used` places stay.
+// Most Adds have two children. They go without the loop, since its preparation costs more than they do.
 fn push_siblings(
     nodes: &[u64],
     count: u64,
@@ -40,6 +61,9 @@ fn push_siblings(
     ensures { λ r. ⌜ Pushes (childrenIn (now (nodes .entry)) count id) used top (now (terms .entry)) r (now (terms .exit)) ⌝ }
 {
     let mut place = store::arity(nodes, count, id) as usize;
+    if place == 2 {
+        return push_second(nodes, count, id, terms, used, top);
+    }
     let mut from = top;
     while 1 < place {
         if from <= used {

@@ -1,5 +1,6 @@
 -- `pruner::chain::push_siblings` meets its contract. Assumes nothing.
 use native.Mathlib.Omega.{arith}
+use borrow.Author.Needs.{needs}
 use Rattle.pruner.specs.Terms.{childrenIn}
 use Rattle.pruner.proofs.Pushing as Q
 use Rattle.pruner.proofs.Pushing.{Pushing}
@@ -15,11 +16,17 @@ abbrev μ-loop : tie.MeasureT-loop
 arity-requires : tie.Need-arity-requires Inv-loop μ-loop
 arity-requires c κs = c .before .pre .0
 
-loop-holds : tie.Need-loop-holds Inv-loop μ-loop
-loop-holds c = Q.begins _ _ _ _ (c .before .before .pre .3) (c .before .before .pre .1) (c .before .before .pre .2) (c .before .before .pre .4) _ (c .arity .ensures)
+push-second-requires : tie.Need-push-second-requires Inv-loop μ-loop
+push-second-requires c κs = search needs
 
 returns : tie.Need-returns Inv-loop μ-loop
-returns c = Q.nowhere _ _ _ _ (c .before .before .before .before .before .pre .3) _ _ _ (c .before .before .loop .inv) (c .before .loop-test .taken) (c .if1 .taken)
+returns c = search needs
+
+loop-holds : tie.Need-loop-holds Inv-loop μ-loop
+loop-holds c = Q.begins _ _ _ _ (c .before .before .before .pre .3) (c .before .before .before .pre .1) (c .before .before .before .pre .2) (c .before .before .before .pre .4) _ (c .before .arity .ensures)
+
+returns-2 : tie.Need-returns-2 Inv-loop μ-loop
+returns-2 c = Q.nowhere _ _ _ _ (c .before .before .before .before .before .before .pre .3) _ _ _ (c .before .before .loop .inv) (c .before .loop-test .taken) (c .if2 .taken)
 
 sub-place : tie.Need-sub-place Inv-loop μ-loop
 sub-place c = omega arith
@@ -28,22 +35,22 @@ sub-from : tie.Need-sub-from Inv-loop μ-loop
 sub-from c = omega arith
 
 child-requires : tie.Need-child-requires Inv-loop μ-loop
-child-requires c κs = (omega (arith, c .before .before .loop .inv .many), c .before .before .before .before .before .pre .0)
+child-requires c κs = (omega (arith, c .before .before .loop .inv .many), c .before .before .before .before .before .before .pre .0)
 
 mul-terms : tie.Need-mul-terms Inv-loop μ-loop
-mul-terms c = omega (arith, Q.inside _ _ _ _ (c .before .before .before .before .before .before .pre .3) _ _ _ (c .before .before .before .loop .inv) (c .before .before .loop-test .taken) (c .before .if1 .left))
+mul-terms c = omega (arith, Q.inside _ _ _ _ (c .before .before .before .before .before .before .before .pre .3) _ _ _ (c .before .before .before .loop .inv) (c .before .before .loop-test .taken) (c .before .if2 .left))
 
 element-write-terms : tie.Need-element-write-terms Inv-loop μ-loop
-element-write-terms c = Q.inside _ _ _ _ (c .before .before .before .before .before .before .pre .3) _ _ _ (c .before .before .before .loop .inv) (c .before .before .loop-test .taken) (c .before .if1 .left)
+element-write-terms c = Q.inside _ _ _ _ (c .before .before .before .before .before .before .before .pre .3) _ _ _ (c .before .before .before .loop .inv) (c .before .before .loop-test .taken) (c .before .if2 .left)
 
 loop-less : tie.Need-loop-less Inv-loop μ-loop
 loop-less c = omega arith
 
 loop-again : tie.Need-loop-again Inv-loop μ-loop
-loop-again c = Q.goes-on _ _ _ _ (c .before .before .before .before .before .before .pre .3) _ _ _ (c .before .before .before .loop .inv) (c .before .before .loop-test .taken) (c .before .if1 .left) _ (c .child .ensures)
+loop-again c = Q.goes-on _ _ _ _ (c .before .before .before .before .before .before .before .pre .3) _ _ _ (c .before .before .before .loop .inv) (c .before .before .loop-test .taken) (c .before .if2 .left) _ (c .child .ensures)
 
-returns-2 : tie.Need-returns-2 Inv-loop μ-loop
-returns-2 c = Q.somewhere _ _ _ _ (c .before .before .before .before .pre .3) _ _ _ (c .before .loop .inv) (c .loop-test .left)
+returns-3 : tie.Need-returns-3 Inv-loop μ-loop
+returns-3 c = Q.somewhere _ _ _ _ (c .before .before .before .before .before .pre .3) _ _ _ (c .before .loop .inv) (c .loop-test .left)
 
 pub push-siblings-spec : {M : Type 1} → statement M
 push-siblings-spec =
@@ -52,8 +59,10 @@ push-siblings-spec =
     Inv-loop
     μ-loop
     arity-requires
-    loop-holds
+    push-second-requires
     returns
+    loop-holds
+    returns-2
     sub-place
     sub-from
     child-requires
@@ -61,4 +70,4 @@ push-siblings-spec =
     element-write-terms
     loop-less
     loop-again
-    returns-2)
+    returns-3)
