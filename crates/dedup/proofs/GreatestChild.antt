@@ -1,16 +1,19 @@
--- A node that is one with a key is not below the key's greatest child.
+-- A node that is one with a key is above the key's greatest child.
 use Prim.Native.Nat.{ℕ, zero, suc, _-_, _≤_, _<_, max}
-use mathlib.Core.Path.{_≡_, refl, ap, _∙_}
+use mathlib.Core.Path.{_≡_, refl, sym, ap, _∙_}
 use mathlib.Core.Bool.{false}
 use mathlib.Core.List.{List, [], _∷_}
+use mathlib.Core.Option.{none}
 use lib.ListN.{getD, take}
 use native.Mathlib.Omega.{arith}
 use native.Mathlib.Decide.{decLt}
 use Rattle.arena.specs.declared.node.DagNode.{DagNode}
-use Rattle.arena.specs.Node.{nodeAt}
+use Rattle.arena.specs.Node.{nodeAt, find}
 use Rattle.arena.specs.Nodes.{LowerChildren, AllWellFormed}
 use Rattle.arena.proofs.OneNode.{not-one}
+use Rattle.arena.proofs.Finding.{find-none}
 use Rattle.dedup.specs.Probe.{greatestChild, holds}
+use Rattle.dedup.specs.Intern.{OverNewest}
 use Rattle.dedup.proofs.Searching.{holds-known}
 
 -- ---- the greatest, place by place
@@ -31,7 +34,7 @@ greatest-within most [] h = omega arith
 greatest-within most (x ∷ xs) h = let l = h 0 in let r = greatest-within most xs (λ j. h (suc j)) in omega arith
 
 -- ---- children are lower than their node, and unused places 0
-not-above : (id arity : ℕ) (children : List ℕ) → LowerChildren id arity children → greatestChild children ≤ id
+pub not-above : (id arity : ℕ) (children : List ℕ) → LowerChildren id arity children → greatestChild children ≤ id
 not-above id arity children l = greatest-within id children (λ j. by j (decLt j arity))
   where
     by : (j : ℕ) → Dec (j < arity) → getD children j 0 ≤ id
@@ -40,3 +43,17 @@ not-above id arity children l = greatest-within id children (λ j. by j (decLt j
 
 pub holds-below : (w : List ℕ) (known : ℕ) (key : DagNode) (slot id : ℕ) → 0 < slot → id ≡ slot - 1 → id < known → AllWellFormed w known → id < greatestChild (key .children) → false ≡ holds w known key slot
 holds-below w known key slot id l e m f b = not-one (nodeAt w id) key (λ o. let n = not-above id _ _ (f .each id m .places) in let g = ap greatestChild (o .children) in omega arith) ∙ holds-known w known key slot id l e m
+
+-- ---- a node with children is above the greatest of them
+above : (id arity : ℕ) (children : List ℕ) → LowerChildren id arity children → 0 < arity → greatestChild children < id
+above id arity children l p = let z = l .lower 0 p in let g = greatest-within (id - 1) children (λ j. by j (decLt j arity)) in omega arith
+  where
+    by : (j : ℕ) → Dec (j < arity) → getD children j 0 ≤ id - 1
+    by j (yes m) = let b = l .lower j m in omega arith
+    by j (no m) = let e = l .unused j (omega arith) in omega arith
+
+-- no node is over the newest
+pub over-newest-absent : (w : List ℕ) (count : ℕ) (key : DagNode) → AllWellFormed w count → OverNewest count key → find w count key ≡ none
+over-newest-absent w count key f n =
+    find-none w key count
+    (λ i l. sym (not-one (nodeAt w i) key (λ o. let s : 0 < nodeAt w i .arity = rw (o .arity) (n .some) in let a = above i _ _ (f .each i l .places) s in let g = ap greatestChild (o .children) in let e = n .newest in omega arith)))

@@ -3,7 +3,7 @@ use Prim.Native.Nat.{ℕ, _+_, _-_, _≤_}
 use mathlib.Core.Path.{_≡_, subst}
 use native.Mathlib.Omega.{arith}
 use borrow.Author.Needs.{needs}
-use Rattle.dedup.specs.Insert.{window}
+use Rattle.dedup.specs.Probe.{window}
 use Rattle.dedup.proofs.FreePlaces.{EmptyFrom, none-seen, empty-seen, used-seen, all-seen}
 use Rattle.dedup.proofs.filling.first_empty.Statement.{statement}
 use Rattle.dedup.proofs.filling.first_empty.Tie as tie
