@@ -61,7 +61,7 @@ Probed words known slots size key Nowhere = Passed words known slots size key si
 -- ---- the first slots, looked at together
 -- how many slots are looked at together
 abbrev pub window : ℕ
-window = 4
+window = 6
 
 -- the node of a slot can be a key's by its id: it is known, and not below the key's greatest child
 abbrev pub CanBe : ℕ → ℕ → ℕ → Type 0

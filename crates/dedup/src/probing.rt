@@ -1,4 +1,4 @@
-// The search round the table, which finding, inserting, rehashing and the audit share.
+// The search round the table, which finding, inserting and the audit share.
 ghost use mathlib.Core.Path.{_≡_};
 ghost use Prim.Native.Nat.{_-_, _≤_, _<_};
 ghost use Rattle.arena.specs.Node.{nodeHash};
@@ -13,7 +13,7 @@ use arena::load;
 use arena::same_node;
 
 // How many slots are looked at together, without a branch for each.
-pub(crate) const WINDOW: usize = 4;
+pub(crate) const WINDOW: usize = 6;
 
 // Where a search ends: at a slot that holds the key's node, at an empty one, or after all slots.
 pub enum Place {

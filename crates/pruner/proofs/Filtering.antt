@@ -1,10 +1,10 @@
 -- Terms by their magnitude, and the loop of `filter`.
 use Prim.Native.Nat.{ℕ, suc, _+_, _-_, _<_, _≤_}
-use mathlib.Core.Path.{_≡_, refl, sym, ap, _∙_, subst, subst₂}
+use mathlib.Core.Path.{_≡_, refl, sym, ap, _∙_, subst}
 use mathlib.Core.Bool.{Bool, true, false, cond}
 use mathlib.Core.List.{List, [], _∷_, _++_, append-nil}
 use lib.ListN.{length, getD, take, drop, set, length-set}
-use lib.Seq.{take-suc, drop-drop, getD-drop, getD-take, take-suc-set, drop-set-lt, length-take-le}
+use lib.Seq.{take-suc, drop-drop, getD-drop, getD-take, take-suc-set, take-set-le, drop-set-lt, length-take-le}
 use lib.Ieee.{binary64, ofBits}
 use native.Mathlib.Omega.{arith}
 use mathlib.Core.Option.{none, some}
@@ -90,26 +90,26 @@ module _ (words : List ℕ) (count threshold : ℕ) (before : List ℕ) (found :
           ∙ sym more);
     }
 
-    kept-same : keep id ≡ false → Filtering words count threshold before found array kept (passed + 1)
+    kept-same : keep id ≡ false → Filtering words count threshold before found (set array kept id) kept (passed + 1)
     kept-same n = record {
-      long = f .long;
+      long = length-set array kept id ∙ f .long;
       ahead = omega (arith, f .ahead);
       within = omega arith;
-      rest = rw (add-one passed) rest-more;
+      rest = rw (add-one passed) (drop-set-lt (suc passed) array kept id (omega (arith, f .ahead)) ∙ rest-more);
       terms =
           rw (add-one passed)
-          (f .terms ∙ sym (append-nil (filter keep (take passed before)))
+          (take-set-le kept array kept id (omega arith) ∙ f .terms ∙ sym (append-nil (filter keep (take passed before)))
           ∙ ap (λ (b : Bool). filter keep (take passed before) ++ cond b (id ∷ []) []) (sym n)
           ∙ sym more);
     }
 
     -- a turn, by what `keeps` answers
-    module _ (answer : Bool) (is : answer ≡ keeps (nodesIn words count) (ofBits binary64 threshold) (getD array passed 0)) (array′ : List ℕ) (kept′ : ℕ) where
-      pub keeps-it : answer ≡ true → array′ ≡ set array kept (getD array passed 0) → kept′ ≡ kept + 1 → Filtering words count threshold before found array′ kept′ (passed + 1)
-      keeps-it y a k = subst₂ (λ (l : List ℕ) (n : ℕ). Filtering words count threshold before found l n (passed + 1)) (sym a) (sym k) (kept-more (sym is ∙ y))
+    module _ (answer : Bool) (is : answer ≡ keeps (nodesIn words count) (ofBits binary64 threshold) (getD array passed 0)) (kept′ : ℕ) where
+      pub keeps-it : answer ≡ true → kept′ ≡ kept + 1 → Filtering words count threshold before found (set array kept (getD array passed 0)) kept′ (passed + 1)
+      keeps-it y k = subst (λ (n : ℕ). Filtering words count threshold before found (set array kept id) n (passed + 1)) (sym k) (kept-more (sym is ∙ y))
 
-      pub drops-it : answer ≡ false → array′ ≡ array → kept′ ≡ kept → Filtering words count threshold before found array′ kept′ (passed + 1)
-      drops-it n a k = subst₂ (λ (l : List ℕ) (m : ℕ). Filtering words count threshold before found l m (passed + 1)) (sym a) (sym k) (kept-same (sym is ∙ n))
+      pub drops-it : answer ≡ false → kept′ ≡ kept → Filtering words count threshold before found (set array kept (getD array passed 0)) kept′ (passed + 1)
+      drops-it n k = subst (λ (m : ℕ). Filtering words count threshold before found (set array kept id) m (passed + 1)) (sym k) (kept-same (sym is ∙ n))
 
   pub ends : (array : List ℕ) (kept passed : ℕ) → Filtering words count threshold before found array kept passed → found ≤ passed → Filters words count threshold before found kept array
   ends array kept passed f h =

@@ -36,6 +36,7 @@ fn keeps(nodes: &[u64], count: u64, threshold: u64, id: u64) -> bool
 }
 
 // The first `found` terms without those that are dropped, in order, in the first places; the answer is their number.
+// Each term is put, and only counted if it is kept, so that no branch waits for what is kept.
 pub(crate) fn filter(
     nodes: &[u64],
     count: u64,
@@ -50,8 +51,8 @@ pub(crate) fn filter(
     let mut i: usize = 0;
     while i < found {
         let id = terms[i];
+        terms[kept] = id;
         if keeps(nodes, count, threshold, id) {
-            terms[kept] = id;
             kept += 1;
         }
         i += 1;

@@ -22,16 +22,16 @@ mul-id c = omega arith
 element-copy-out-id : tie.Need-element-copy-out-id Inv-loop μ-loop
 element-copy-out-id c = omega arith
 
-keeps-requires : tie.Need-keeps-requires Inv-loop μ-loop
-keeps-requires c κs =
-    let p = c .before .before .before .before .pre in
-    p .2 .lookup _ (Q.id-below _ _ _ _ _ (p .0) (p .3) _ _ _ (c .before .before .loop .inv) (c .before .loop-test .taken) (p .1))
-
 mul-terms : tie.Need-mul-terms Inv-loop μ-loop
 mul-terms c = omega arith
 
 element-write-terms : tie.Need-element-write-terms Inv-loop μ-loop
 element-write-terms c = omega arith
+
+keeps-requires : tie.Need-keeps-requires Inv-loop μ-loop
+keeps-requires c κs =
+    let p = c .before .before .before .before .pre in
+    p .2 .lookup _ (Q.id-below _ _ _ _ _ (p .0) (p .3) _ _ _ (c .before .before .loop .inv) (c .before .loop-test .taken) (p .1))
 
 add-kept : tie.Need-add-kept Inv-loop μ-loop
 add-kept c = omega arith
@@ -49,8 +49,8 @@ loop-again c =
     let test = c .before .before .before .loop-test .taken in
     let is = c .before .keeps .ensures in
     ⊎-elim
-    (λ w. Q.keeps-it _ _ _ _ _ (p .0) (p .3) _ _ _ inv test _ is _ _ (w .0 .taken) (w .1) (w .2))
-    (λ w. Q.drops-it _ _ _ _ _ (p .0) (p .3) _ _ _ inv test _ is _ _ (w .0 .left) (w .1) (w .2))
+    (λ w. Q.keeps-it _ _ _ _ _ (p .0) (p .3) _ _ _ inv test _ is _ (w .0 .taken) (w .1))
+    (λ w. Q.drops-it _ _ _ _ _ (p .0) (p .3) _ _ _ inv test _ is _ (w .0 .left) (w .1))
     (c .if1 .came)
 
 returns : tie.Need-returns Inv-loop μ-loop
@@ -65,9 +65,9 @@ filter-spec =
     loop-holds
     mul-id
     element-copy-out-id
-    keeps-requires
     mul-terms
     element-write-terms
+    keeps-requires
     add-kept
     add-i
     loop-less
