@@ -46,17 +46,13 @@ pub(crate) fn greatest_child(children: [u64; MOST_CHILDREN]) -> u64
     greatest
 }
 
-// Whether a slot in use holds an id below `known` whose node is one with the key. Children are lower than their
-// node, so a node below the key's greatest child is another and is not read. The hash is compared first.
-fn slot_holds(nodes: &[u64], slot: u32, key: DagNode, greatest: u64, known: u64) -> bool
-    requires { ⌜ (0 < slot) × AllWellFormed (now nodes) known × (key .hash ≡ nodeHash key) × (greatest ≡ greatestChild (key .children)) ⌝ }
+// Whether a slot in use holds an id below `known` whose node is one with the key. The hash is compared first.
+fn slot_holds(nodes: &[u64], slot: u32, key: DagNode, known: u64) -> bool
+    requires { ⌜ (0 < slot) × AllWellFormed (now nodes) known × (key .hash ≡ nodeHash key) ⌝ }
     ensures { λ r. ⌜ r ≡ holds (now (nodes .entry)) known key slot ⌝ }
 {
     let id = slot_id(slot);
     if known <= id {
-        return false;
-    }
-    if id < greatest {
         return false;
     }
     if nodes[id as usize * NODE_WORDS + HASH] != key.hash {
@@ -78,8 +74,6 @@ fn probe_from(
     requires { ⌜ Ready (now nodes) known (now slots) size key × Passed (now nodes) known (now slots) size key start × (start ≤ size) ⌝ }
     ensures { λ r. ⌜ Probed (now (nodes .entry)) known (now (slots .entry)) size key r ⌝ }
 {
-    let children = key.children;
-    let greatest = greatest_child(children);
     let mut at = modulo_size(modulo_size(key.hash as usize, size) + start, size);
     let mut passed = start;
     while passed < size {
@@ -87,7 +81,7 @@ fn probe_from(
         if slot == 0 {
             return Place::Free(at);
         }
-        if slot_holds(nodes, slot, key, greatest, known) {
+        if slot_holds(nodes, slot, key, known) {
             return Place::Here(at);
         }
         at = modulo_size(at + 1, size);
@@ -106,6 +100,7 @@ pub(crate) fn probe(nodes: &[u64], slots: &[u32], size: usize, key: DagNode, kno
 }
 
 // The id whose hash is compared for a slot: the slot's own if its node can be the key's, else the greatest child's.
+// Children are lower than their node, so that a node below the key's greatest child is another.
 fn compared_id(slot: u32, greatest: u64, known: u64) -> u64
     requires { ⌜ greatest < known ⌝ }
     ensures { λ r. ⌜ ComparedId slot greatest known r ⌝ }

@@ -12,46 +12,43 @@ use Rattle.dedup.proofs.probing.probe_from.Statement.{statement}
 use Rattle.dedup.proofs.probing.probe_from.Tie as tie
 
 abbrev Inv-loop : tie.InvT-loop
-Inv-loop nodes slots size key known start greatest at₀ passed₀ at passed = (passed ≤ size) × (at ≡ (key .hash + passed) % size) × (at < size) × Passed nodes known slots size key passed
+Inv-loop nodes slots size key known start at₀ passed₀ at passed = (passed ≤ size) × (at ≡ (key .hash + passed) % size) × (at < size) × Passed nodes known slots size key passed
 
 abbrev μ-loop : tie.MeasureT-loop
-μ-loop nodes slots size key known start greatest at₀ passed₀ at passed = size - passed
-
-greatest-child-requires : tie.Need-greatest-child-requires Inv-loop μ-loop
-greatest-child-requires c κs = search needs
+μ-loop nodes slots size key known start at₀ passed₀ at passed = size - passed
 
 modulo-size-requires : tie.Need-modulo-size-requires Inv-loop μ-loop
-modulo-size-requires c κs = c .before .before .before .before .pre .0 .doubled
+modulo-size-requires c κs = c .before .before .pre .0 .doubled
 
 add-modulo-size : tie.Need-add-modulo-size Inv-loop μ-loop
-add-modulo-size c = let m = c .modulo-size .ensures in let l = c .before .before .before .before .before .pre .0 .sized in let k = mod-lt (c .before .before .before .before .before .args .key .hash) (positive _ (c .before .before .before .before .before .pre .0 .doubled)) in search needs
+add-modulo-size c = let m = c .modulo-size .ensures in let l = c .before .before .before .pre .0 .sized in let k = mod-lt (c .before .before .before .args .key .hash) (positive _ (c .before .before .before .pre .0 .doubled)) in search needs
 
 modulo-size-requires-2 : tie.Need-modulo-size-requires-2 Inv-loop μ-loop
-modulo-size-requires-2 c κs = c .before .before .before .before .before .pre .0 .doubled
+modulo-size-requires-2 c κs = c .before .before .before .pre .0 .doubled
 
 loop-holds : tie.Need-loop-holds Inv-loop μ-loop
-loop-holds c = let s = c .before .before .before .before .before .before in (s .pre .2, c .modulo-size2 .ensures ∙ ap (λ (x : ℕ). (x + s .args .start) % s .args .size) (c .before .modulo-size .ensures) ∙ mod-add-mod _ _ _, rw (c .modulo-size2 .ensures) (mod-lt _ (positive _ (s .pre .0 .doubled))), s .pre .1)
+loop-holds c = let s = c .before .before .before .before in (s .pre .2, c .modulo-size2 .ensures ∙ ap (λ (x : ℕ). (x + s .args .start) % s .args .size) (c .before .modulo-size .ensures) ∙ mod-add-mod _ _ _, rw (c .modulo-size2 .ensures) (mod-lt _ (positive _ (s .pre .0 .doubled))), s .pre .1)
 
 mul-slot : tie.Need-mul-slot Inv-loop μ-loop
-mul-slot c = let l = c .before .before .before .before .before .before .before .before .pre .0 .sized in search needs
+mul-slot c = let l = c .before .before .before .before .before .before .pre .0 .sized in search needs
 
 shared-slice-read-slot : tie.Need-shared-slice-read-slot Inv-loop μ-loop
-shared-slice-read-slot c = let l = c .before .before .before .before .before .before .before .before .before .pre .0 .sized in omega arith
+shared-slice-read-slot c = let l = c .before .before .before .before .before .before .before .pre .0 .sized in omega arith
 
 returns : tie.Need-returns Inv-loop μ-loop
 returns c = let a = c .before .before .before in ends-free _ _ _ _ _ _ (a .loop .inv .3) _ (a .loop .inv .1) (c .before .before .loop-test .taken) (c .if1 .taken)
 
 slot-holds-requires : tie.Need-slot-holds-requires Inv-loop μ-loop
-slot-holds-requires c κs = let n = c .if1 .left in let s = c .before .before .before .before .before .before .before .before .before .before in (omega arith, s .pre .0 .formed, s .pre .0 .hashed, c .before .before .before .before .before .before .greatest-child .ensures)
+slot-holds-requires c κs = let n = c .if1 .left in let s = c .before .before .before .before .before .before .before .before in (omega arith, s .pre .0 .formed, s .pre .0 .hashed)
 
 returns-2 : tie.Need-returns-2 Inv-loop μ-loop
 returns-2 c = let a = c .before .before .before .before .before in ends-here _ _ _ _ _ _ (a .loop .inv .3) _ (a .loop .inv .1) (c .before .before .before .before .loop-test .taken) (sym (c .before .slot-holds .ensures) ∙ c .if2 .taken)
 
 add-modulo-size-2 : tie.Need-add-modulo-size-2 Inv-loop μ-loop
-add-modulo-size-2 c = let l = c .before .before .before .before .before .before .before .before .before .before .before .before .pre .0 .sized in search needs
+add-modulo-size-2 c = let l = c .before .before .before .before .before .before .before .before .before .before .pre .0 .sized in search needs
 
 modulo-size-requires-3 : tie.Need-modulo-size-requires-3 Inv-loop μ-loop
-modulo-size-requires-3 c κs = c .before .before .before .before .before .before .before .before .before .before .before .before .pre .0 .doubled
+modulo-size-requires-3 c κs = c .before .before .before .before .before .before .before .before .before .before .pre .0 .doubled
 
 add-passed : tie.Need-add-passed Inv-loop μ-loop
 add-passed c = search needs
@@ -62,7 +59,7 @@ loop-less c = search needs
 loop-again : tie.Need-loop-again Inv-loop μ-loop
 loop-again c =
     let a = c .before .before .before .before .before .before in
-    let s = c .before .before .before .before .before .before .before .before .before .before .before .before .before in (
+    let s = c .before .before .before .before .before .before .before .before .before .before .before in (
       search needs,
       c .modulo-size3 .ensures ∙ ap (λ (x : ℕ). (x + 1) % s .args .size) (a .loop .inv .1) ∙ round-next _ _ _,
       rw (c .modulo-size3 .ensures) (mod-lt _ (positive _ (s .pre .0 .doubled))),
@@ -78,7 +75,6 @@ probe-from-spec =
     (tie.spec
     Inv-loop
     μ-loop
-    greatest-child-requires
     modulo-size-requires
     add-modulo-size
     modulo-size-requires-2
