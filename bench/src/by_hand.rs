@@ -10,6 +10,8 @@ const CONSTANT: u64 = 1;
 const ADD: u64 = 2;
 const ADD_FLAGS: u64 = 3;
 const MOST_TERMS: usize = 4_096;
+/// Slots looked at together, as in the port.
+const WINDOW: usize = 6;
 
 /// The hash of an Add's kind and payload, nine bytes of which eight are 0.
 const ADD_HASH: u64 = {
@@ -43,36 +45,83 @@ impl Lists {
         unsafe { self.nodes.add(id as usize * NODE_WORDS) }
     }
 
-    /// The id of a sum, old or new. The lists have place for it, and the table need not grow.
+    /// Whether an id's node is the sum of two ids.
+    ///
+    /// # Safety
+    /// The id is below the count.
+    #[inline(always)]
+    unsafe fn is_sum(&self, id: u64, hash: u64, left: u64, right: u64) -> bool {
+        unsafe {
+            let node = self.node(id);
+            let sum = *node.add(2) == hash && *node == ADD && *node.add(5) == 2 && *node.add(4) & 3 == ADD_FLAGS;
+            sum && *node.add(6) == left && *node.add(7) == right
+        }
+    }
+
+    /// A new sum, in a slot that is empty.
+    ///
+    /// # Safety
+    /// As for `add`.
+    #[inline(always)]
+    unsafe fn put(&mut self, at: usize, hash: u64, left: u64, right: u64) -> u64 {
+        let id = self.count;
+        unsafe {
+            *self.slots.add(at) = id as u32 + 1;
+            let words = [ADD, 0, hash, BITS_OF_ONE, ADD_FLAGS, 2, left, right, 0, 0];
+            self.node(id).cast::<[u64; NODE_WORDS]>().write(words);
+        }
+        self.count += 1;
+        id
+    }
+
+    /// The search slot by slot.
+    ///
+    /// # Safety
+    /// As for `add`.
+    #[inline(never)]
+    unsafe fn add_by_slots(&mut self, hash: u64, left: u64, right: u64) -> u64 {
+        let mut at = hash as usize & (self.size - 1);
+        unsafe {
+            loop {
+                let slot = u64::from(*self.slots.add(at));
+                if slot == 0 {
+                    return self.put(at, hash, left, right);
+                }
+                if self.is_sum(slot - 1, hash, left, right) {
+                    return slot - 1;
+                }
+                at = (at + 1) & (self.size - 1);
+            }
+        }
+    }
+
+    /// The id of a sum, old or new. The lists have place for it, and the table need not grow. The first slots are looked at
+    /// together; a sum over the newest node is new.
     ///
     /// # Safety
     /// The store is sound and both ids are below the count.
     #[inline(always)]
     unsafe fn add(&mut self, left: u64, right: u64) -> u64 {
         let hash = with_child(with_child(ADD_HASH, left), right);
-        let mut at = hash as usize & (self.size - 1);
+        let home = hash as usize & (self.size - 1);
+        if home + WINDOW > self.size {
+            return unsafe { self.add_by_slots(hash, left, right) };
+        }
         unsafe {
-            loop {
-                let slot = u64::from(*self.slots.add(at));
-                if slot == 0 {
-                    break;
+            let slots = self.slots.add(home);
+            let free = (0..WINDOW).rev().fold(WINDOW, |free, i| if *slots.add(i) == 0 { i } else { free });
+            if right + 1 != self.count {
+                let greatest = left.max(right);
+                let met = (0..WINDOW).rev().fold(WINDOW, |met, i| {
+                    let slot = u64::from(*slots.add(i));
+                    let id = if slot > greatest + 1 { slot - 1 } else { greatest };
+                    if *self.node(id).add(2) == hash { i } else { met }
+                });
+                if met < free {
+                    return self.add_by_slots(hash, left, right);
                 }
-                let id = slot - 1;
-                if id > left.max(right) {
-                    let node = self.node(id);
-                    let sum = *node.add(2) == hash && *node == ADD && *node.add(5) == 2 && *node.add(4) & 3 == ADD_FLAGS;
-                    if sum && *node.add(6) == left && *node.add(7) == right {
-                        return id;
-                    }
-                }
-                at = (at + 1) & (self.size - 1);
             }
-            let id = self.count;
-            *self.slots.add(at) = id as u32 + 1;
-            let words = [ADD, 0, hash, BITS_OF_ONE, ADD_FLAGS, 2, left, right, 0, 0];
-            self.node(id).cast::<[u64; NODE_WORDS]>().write(words);
-            self.count += 1;
-            id
+            if free < WINDOW { self.put(home + free, hash, left, right) } else { self.add_by_slots(hash, left, right) }
         }
     }
 

@@ -124,25 +124,25 @@ fn pruning(store: &mut Ours, chain: &Chain, threshold: f64, earlier: usize) {
     row(&what, "ns a term", times[0], &times[1..]);
 }
 
-/// The same prune by hand, beside the port's and the Rust's.
+/// The same prune by hand, beside the port's and the Rust's, each on lists of its own: who comes after another on the same lists
+/// finds them in the caches.
 fn pruning_by_hand(store: &mut Ours, chain: &Chain) {
     let root = fresh(store, chain);
     let answer = store.prune(root, THRESHOLD).0;
-    let nodes = store.nodes();
-    fresh(store, chain);
-    assert_eq!(answer, by_hand::prune(store, root, THRESHOLD));
-    assert_eq!(nodes, store.nodes());
+    let mut hand = Ours::new();
+    fresh(&mut hand, chain);
+    assert_eq!(answer, by_hand::prune(&mut hand, root, THRESHOLD));
+    assert_eq!(store.nodes(), hand.nodes());
 
     let many = f64::from(chain.terms);
-    let shared = std::cell::RefCell::new(store);
     let times = interleaved(&mut [
         &mut || {
-            fresh(&mut shared.borrow_mut(), chain);
-            timed(|| shared.borrow_mut().prune(root, THRESHOLD)).0 / many
+            fresh(store, chain);
+            timed(|| store.prune(root, THRESHOLD)).0 / many
         },
         &mut || {
-            fresh(&mut shared.borrow_mut(), chain);
-            timed(|| by_hand::prune(&mut shared.borrow_mut(), root, THRESHOLD)).0 / many
+            fresh(&mut hand, chain);
+            timed(|| by_hand::prune(&mut hand, root, THRESHOLD)).0 / many
         },
         &mut || unchanged::time_prune(chain, THRESHOLD, 0, root, answer) / many,
     ]);
