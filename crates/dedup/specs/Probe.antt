@@ -63,27 +63,27 @@ Probed words known slots size key Nowhere = Passed words known slots size key si
 abbrev pub window : ℕ
 window = 6
 
--- the node of a slot can be a key's by its id: it is known, and not below the key's greatest child
-abbrev pub CanBe : ℕ → ℕ → ℕ → Type 0
-CanBe greatest known slot = (greatest < slot) × (slot ≤ known)
+-- every slot of a table is empty or holds a known id
+abbrev pub AllKnown : ℕ → List ℕ → ℕ → Type 0
+AllKnown known slots size = (p : ℕ) → p < size → getD slots p 0 ≤ known
 
--- the id whose hash is compared is known, and is the slot's own where its node can be the key's
-pub record ComparedId (slot greatest known id : ℕ) : Type 0 where
-  pub there : id < known
-  pub own : CanBe greatest known slot → id ≡ slot - 1
+-- the id whose hash is compared: the slot's own if it is not below the greatest child, else that child's
+pub record ComparedId (slot greatest id : ℕ) : Type 0 where
+  pub own : greatest < slot → id ≡ slot - 1
+  pub other : slot ≤ greatest → id ≡ greatest
 
--- a slot is in use, and has another hash where its node can be the key's
-pub record OtherSlot (words : List ℕ) (known hash greatest slot : ℕ) : Type 0 where
+-- a slot is in use, and has another hash where its id is not below the key's greatest child
+pub record OtherSlot (words : List ℕ) (hash greatest slot : ℕ) : Type 0 where
   pub used : slot ≡ 0 → ⊥
-  pub differs : CanBe greatest known slot → hashAt words (slot - 1) ≡ hash → ⊥
+  pub differs : greatest < slot → hashAt words (slot - 1) ≡ hash → ⊥
 
--- what looking at slots together needs: they do not go round the end, and the nodes are there
-pub record NearReady (words : List ℕ) (known : ℕ) (slots : List ℕ) (home greatest : ℕ) : Type 0 where
+-- what looking at slots together needs: they do not go round the end, and the nodes of their ids and of the greatest child are there
+pub record NearReady (words slots : List ℕ) (home greatest : ℕ) : Type 0 where
   pub inside : home + window ≤ length slots
-  pub below : greatest < known
-  pub fits : known * nodeWords ≤ length words
+  pub fits : greatest * nodeWords + nodeWords ≤ length words
+  pub there : (d : ℕ) → d < window → getD slots (home + d) 0 * nodeWords ≤ length words
 
 -- so many slots from a place on are in use by other nodes
-pub record PassedNear (words : List ℕ) (known : ℕ) (slots : List ℕ) (home hash greatest passed : ℕ) : Type 0 where
+pub record PassedNear (words slots : List ℕ) (home hash greatest passed : ℕ) : Type 0 where
   pub few : passed ≤ window
-  pub each : (d : ℕ) → d < passed → OtherSlot words known hash greatest (getD slots (home + d) 0)
+  pub each : (d : ℕ) → d < passed → OtherSlot words hash greatest (getD slots (home + d) 0)

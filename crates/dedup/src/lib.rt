@@ -6,7 +6,7 @@ ghost use Rattle.arena.specs.Layout.{mostNodes, arenaOf};
 ghost use Rattle.arena.specs.Node.{find};
 ghost use Rattle.definitions.specs.Says.{Says};
 ghost use Rattle.arena.specs.Nodes.{WellFormed, Nodes};
-ghost use Rattle.dedup.specs.Table.{Table, hashAt};
+ghost use Rattle.dedup.specs.Table.{TableSize, Table, hashAt};
 ghost use Rattle.dedup.specs.Intern.{answered, Interns, Absent, HasRoom, OverNewest, InternsInRoom};
 ghost use Rattle.dedup.specs.declared.Answer.the-variants.{Refused};
 
@@ -131,6 +131,7 @@ pub fn get_or_insert(
 
 // Whether a new node has a place for its words, in a table that need not grow for it.
 fn has_room(words: usize, count: u64, size: usize) -> bool
+    requires { ⌜ TableSize size ⌝ }
     ensures { λ r. ⌜ Says r (HasRoom words count size) ⌝ }
 {
     if MOST_NODES <= count {

@@ -3,7 +3,7 @@ ghost use mathlib.Core.Path.{_≡_};
 ghost use Prim.Native.Nat.{_-_, _≤_, _<_};
 ghost use Rattle.arena.specs.Node.{nodeHash};
 ghost use Rattle.arena.specs.Nodes.{AllWellFormed};
-ghost use Rattle.dedup.specs.Probe.{greatestChild, holds, Ready, Passed, Probed, ComparedId, NearReady, PassedNear};
+ghost use Rattle.dedup.specs.Probe.{greatestChild, holds, Ready, Passed, Probed, AllKnown, ComparedId, NearReady, PassedNear};
 use crate::sizes::modulo_size;
 use arena::DagNode;
 use arena::HASH;
@@ -101,36 +101,24 @@ pub(crate) fn probe(nodes: &[u64], slots: &[u32], size: usize, key: DagNode, kno
 
 // The id whose hash is compared for a slot: the slot's own if its node can be the key's, else the greatest child's.
 // Children are lower than their node, so that a node below the key's greatest child is another.
-fn compared_id(slot: u32, greatest: u64, known: u64) -> u64
-    requires { ⌜ greatest < known ⌝ }
-    ensures { λ r. ⌜ ComparedId slot greatest known r ⌝ }
+fn compared_id(slot: u32, greatest: u64) -> u64
+    ensures { λ r. ⌜ ComparedId slot greatest r ⌝ }
 {
     let next = slot as u64;
-    if greatest < next && next <= known {
-        next - 1
-    } else {
-        greatest
-    }
+    if greatest < next { next - 1 } else { greatest }
 }
 
 // How many slots from a place on, WINDOW at most, are surely in use by other nodes.
-fn pass_near(
-    nodes: &[u64],
-    slots: &[u32],
-    home: usize,
-    hash: u64,
-    greatest: u64,
-    known: u64,
-) -> usize
-    requires { ⌜ NearReady (now nodes) known (now slots) home greatest ⌝ }
-    ensures { λ r. ⌜ PassedNear (now (nodes .entry)) known (now (slots .entry)) home hash greatest r ⌝ }
+fn pass_near(nodes: &[u64], slots: &[u32], home: usize, hash: u64, greatest: u64) -> usize
+    requires { ⌜ NearReady (now nodes) (now slots) home greatest ⌝ }
+    ensures { λ r. ⌜ PassedNear (now (nodes .entry)) (now (slots .entry)) home hash greatest r ⌝ }
 {
     let mut passed = WINDOW;
     let mut i = WINDOW;
     while 0 < i {
         i -= 1;
         let near = slots[home + i];
-        let id = compared_id(near, greatest, known);
+        let id = compared_id(near, greatest);
         if nodes[id as usize * NODE_WORDS + HASH] == hash {
             passed = i;
         }
@@ -141,7 +129,7 @@ fn pass_near(
     passed
 }
 
-// The same search as `probe`, whose first slots are looked at together.
+// The same search as `probe`, whose first slots are looked at together, in a table whose ids are all known.
 pub(crate) fn probe_near(
     nodes: &[u64],
     slots: &[u32],
@@ -149,7 +137,7 @@ pub(crate) fn probe_near(
     key: DagNode,
     known: u64,
 ) -> Place
-    requires { ⌜ Ready (now nodes) known (now slots) size key ⌝ }
+    requires { ⌜ Ready (now nodes) known (now slots) size key × AllKnown known (now slots) size ⌝ }
     ensures { λ r. ⌜ Probed (now (nodes .entry)) known (now (slots .entry)) size key r ⌝ }
 {
     let children = key.children;
@@ -161,6 +149,6 @@ pub(crate) fn probe_near(
     if known <= greatest {
         return probe(nodes, slots, size, key, known);
     }
-    let passed = pass_near(nodes, slots, home, key.hash, greatest, known);
+    let passed = pass_near(nodes, slots, home, key.hash, greatest);
     probe_from(nodes, slots, size, key, known, passed)
 }

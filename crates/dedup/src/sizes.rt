@@ -8,15 +8,12 @@ ghost use Rattle.dedup.specs.Table.{TableSize};
 
 pub const FIRST_SIZE: usize = 64;
 
-const LOAD: usize = 7;
-
-const LOAD_OF: usize = 10;
-
-// floor(size·7/10), by parts that cannot overflow.
+// floor(size·7/10): a half and a fifth of a size, which is even.
 pub(crate) fn load_limit(size: usize) -> usize
+    requires { ⌜ TableSize size ⌝ }
     ensures { λ r. ⌜ r ≡ capacity size ⌝ }
 {
-    size / LOAD_OF * LOAD + size % LOAD_OF * LOAD / LOAD_OF
+    size / 2 + size / 5
 }
 
 // Whether a size is a power of two from 64 up.

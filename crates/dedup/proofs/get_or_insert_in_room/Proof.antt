@@ -31,7 +31,7 @@ returns : tie.Need-returns
 returns c = c .before .before .before .before .insert-in-room .ensures
 
 probe-near-requires : tie.Need-probe-near-requires
-probe-near-requires c κs = let p = c .before .before .before .before .before .before .before .pre in record { doubled = p .1 .doubled; sized = p .1 .sized; formed = p .0 .formed; hashed = p .2 .hashed }
+probe-near-requires c κs = let p = c .before .before .before .before .before .before .before .pre in (record { doubled = p .1 .doubled; sized = p .1 .sized; formed = p .0 .formed; hashed = p .2 .hashed }, p .1 .only)
 
 enum-known-found : tie.Need-enum-known-found
 enum-known-found c = search needs

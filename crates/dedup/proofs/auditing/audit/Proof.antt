@@ -24,7 +24,7 @@ returns-3 : tie.Need-returns-3
 returns-3 c = says-no (λ s. c .before .audit-nodes .ensures .no (not-true _ (c .if3 .taken)) (s .0 .formed))
 
 load-limit-requires : tie.Need-load-limit-requires
-load-limit-requires c κs = search needs
+load-limit-requires c κs = c .before .before .before .is-table-size .ensures .yes (not-false _ (c .before .before .if2 .left))
 
 returns-4 : tie.Need-returns-4
 returns-4 c = says-no (λ s. let l = s .1 .load in let e = c .before .load-limit .ensures in omega arith)

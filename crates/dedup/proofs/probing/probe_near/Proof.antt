@@ -3,7 +3,7 @@ use native.Mathlib.Omega.{arith}
 use native.Mathlib.Nat.{mod-lt}
 use borrow.Author.Needs.{needs}
 use Rattle.dedup.proofs.Doubling.{positive}
-use Rattle.dedup.proofs.Nearing.{near-passed}
+use Rattle.dedup.proofs.Nearing.{near-ready, near-passed}
 use Rattle.dedup.proofs.probing.probe_near.Statement.{statement}
 use Rattle.dedup.proofs.probing.probe_near.Tie as tie
 
@@ -14,7 +14,7 @@ modulo-size-requires : tie.Need-modulo-size-requires
 modulo-size-requires c κs = search needs
 
 sub-if1 : tie.Need-sub-if1
-sub-if1 c = let e = c .modulo-size .ensures in let l = mod-lt (c .before .before .before .before .before .args .key .hash) (positive _ (c .before .before .before .before .before .pre .doubled)) in search needs
+sub-if1 c = let e = c .modulo-size .ensures in let l = mod-lt (c .before .before .before .before .before .args .key .hash) (positive _ (c .before .before .before .before .before .pre .0 .doubled)) in search needs
 
 probe-requires : tie.Need-probe-requires
 probe-requires c κs = search needs
@@ -29,14 +29,17 @@ returns-2 : tie.Need-returns-2
 returns-2 c = search needs
 
 pass-near-requires : tie.Need-pass-near-requires
-pass-near-requires c κs = search needs
+pass-near-requires c κs =
+    let m = c .before .before in
+    let s = m .before .before .before .before .before in
+    near-ready _ _ _ _ _ (s .pre .0) _ (m .before .greatest-child .ensures) _ (m .modulo-size .ensures) (let l = c .before .if1 .left in let r = mod-lt (s .args .key .hash) (positive _ (s .pre .0 .doubled)) in let e = m .modulo-size .ensures in omega arith) (s .pre .1) (c .if2 .left)
 
 probe-from-requires : tie.Need-probe-from-requires
 probe-from-requires c κs =
     let m = c .before .before .before in
     let s = m .before .before .before .before .before in
     let p = c .pass-near .ensures in
-    (s .pre, near-passed _ _ _ _ _ (s .pre) _ (m .before .greatest-child .ensures) _ (m .modulo-size .ensures) (omega arith) _ p, omega arith)
+    (s .pre .0, near-passed _ _ _ _ _ (s .pre .0) _ (m .before .greatest-child .ensures) _ (m .modulo-size .ensures) (omega arith) _ p, omega arith)
 
 returns-3 : tie.Need-returns-3
 returns-3 c = search needs
