@@ -9,7 +9,7 @@ use lib.Dec.{eqb}
 use borrow.Author.Tests.{eq-eqb, eqb-true}
 use Rattle.arena.specs.declared.node.DagNode.{DagNode}
 use Rattle.definitions.specs.Node.{sameChildren}
-use Rattle.arena.specs.Node.{one, nodeHash, canonical}
+use Rattle.arena.specs.Node.{one, nodeHash, newNode, canonical}
 use Rattle.definitions.proofs.Deciding.{both, is-false, same-test}
 
 pub children-eq : (a b : List ℕ) → sameChildren a b ≡ true → a ≡ b
@@ -80,3 +80,8 @@ one-trans a b c h k =
 -- a node that is one with another is one with what the other is one with
 pub one-same : (x a b : DagNode) → one a b ≡ true → one x a ≡ one x b
 one-same x a b h = same-test (one x a) (one x b) (λ e. one-trans x a b e h) (λ e. one-trans x b a e (one-sym a b h))
+
+-- a node is compared by its parts alone
+pub one-parts : (x n : DagNode) → one x (newNode (n .kind) (n .payload) (n .flags) (n .arity) (n .children)) ≡ one x n
+unfolding one newNode
+one-parts x n = refl

@@ -8,7 +8,6 @@ pub use node::DagNode;
 pub use node::has_parts;
 pub use node::load;
 pub use node::mark;
-pub use node::same_node;
 pub use node::store_node;
 
 // 01: "A node is 10 words of 64 bits in a lent list: kind, payload, hash, coefficient bits, flags, child

@@ -131,41 +131,6 @@ pub fn store_node(nodes: &mut [u64], id: u64, node: DagNode)
     store_children(nodes, at + CHILDREN, children);
 }
 
-// Whether two nodes have the same child places.
-fn same_children(a: [u64; MOST_CHILDREN], b: [u64; MOST_CHILDREN]) -> bool
-    ensures { λ r. ⌜ r ≡ sameChildren a b ⌝ }
-{
-    let mut j: usize = 0;
-    while j < MOST_CHILDREN {
-        if a[j] != b[j] {
-            return false;
-        }
-        j += 1;
-    }
-    true
-}
-
-// 01: "Two nodes are one if kind, payload, children and flags without 4 agree."
-pub fn same_node(a: DagNode, b: DagNode) -> bool
-    ensures { λ r. ⌜ r ≡ one a b ⌝ }
-{
-    if a.kind != b.kind {
-        return false;
-    }
-    if a.payload != b.payload {
-        return false;
-    }
-    if a.flags % CANONICAL != b.flags % CANONICAL {
-        return false;
-    }
-    if a.arity != b.arity {
-        return false;
-    }
-    let left = a.children;
-    let right = b.children;
-    same_children(left, right)
-}
-
 // Whether the child places from a word on are these.
 fn has_children(nodes: &[u64], at: usize, children: &[u64; MOST_CHILDREN]) -> bool
     requires { ⌜ (at + mostChildren ≤ length (now nodes)) × (length (now children) ≡ mostChildren) ⌝ }
@@ -181,7 +146,8 @@ fn has_children(nodes: &[u64], at: usize, children: &[u64; MOST_CHILDREN]) -> bo
     true
 }
 
-// Whether an id's node is one with a node of these parts, which needs no hash.
+// Whether an id's node is one with a node of these parts. 01: "Two nodes are one if kind, payload, children and flags
+// without 4 agree."
 pub fn has_parts(
     nodes: &[u64],
     id: u64,

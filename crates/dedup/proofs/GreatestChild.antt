@@ -1,4 +1,4 @@
--- A node that is one with a key is above the key's greatest child.
+-- A node that is one with a key is not below the key's greatest child, and above it if there is one.
 use Prim.Native.Nat.{ℕ, zero, suc, _-_, _≤_, _<_, max}
 use mathlib.Core.Path.{_≡_, refl, sym, ap, _∙_}
 use mathlib.Core.Bool.{false}
@@ -56,4 +56,4 @@ above id arity children l p = let z = l .lower 0 p in let g = greatest-within (i
 pub over-newest-absent : (w : List ℕ) (count : ℕ) (key : DagNode) → AllWellFormed w count → OverNewest count key → find w count key ≡ none
 over-newest-absent w count key f n =
     find-none w key count
-    (λ i l. sym (not-one (nodeAt w i) key (λ o. let s : 0 < nodeAt w i .arity = rw (o .arity) (n .some) in let a = above i _ _ (f .each i l .places) s in let g = ap greatestChild (o .children) in let e = n .newest in omega arith)))
+    (λ i l. sym (not-one (nodeAt w i) key (λ o. let s : 0 < nodeAt w i .arity = rw (o .arity) (n .with-children) in let a = above i _ _ (f .each i l .places) s in let g = ap greatestChild (o .children) in let e = n .newest in omega arith)))

@@ -8,8 +8,8 @@ use native.Mathlib.Omega.{arith}
 use native.Mathlib.Decide.{decLt}
 use Rattle.arena.specs.declared.node.DagNode.{DagNode}
 use Rattle.arena.specs.Layout.{nodeWords}
-use Rattle.dedup.specs.Table.{slotFrom, hashAt}
-use Rattle.dedup.specs.Probe.{window, greatestChild, holds, Ready, Passed, AllKnown, ComparedId, OtherSlot, NearReady, PassedNear}
+use Rattle.dedup.specs.Table.{slotFrom, AllKnown, hashAt}
+use Rattle.dedup.specs.Probe.{window, greatestChild, holds, Ready, Passed, ComparedId, OtherSlot, NearReady, PassedNear}
 use Rattle.dedup.proofs.Rounds.{round-inside}
 use Rattle.dedup.proofs.Searching.{holds-beyond, holds-hash}
 use Rattle.dedup.proofs.GreatestChild.{holds-below}
@@ -19,10 +19,10 @@ pub other-slot : (words : List ℕ) (hash greatest slot id : ℕ) → ComparedId
 other-slot words hash greatest slot id c u n = record { used = u; differs = λ b e. n (ap (hashAt words) (c .own b) ∙ e) }
 
 -- the words of a compared id are there
-pub compared-fits : (length slot greatest id : ℕ) → ComparedId slot greatest id → greatest * nodeWords + nodeWords ≤ length → slot * nodeWords ≤ length → id * nodeWords + nodeWords ≤ length
-compared-fits length slot greatest id c g s = by (decLt greatest slot)
+pub compared-fits : (words slot greatest id : ℕ) → ComparedId slot greatest id → greatest * nodeWords + nodeWords ≤ words → slot * nodeWords ≤ words → id * nodeWords + nodeWords ≤ words
+compared-fits words slot greatest id c g s = by (decLt greatest slot)
   where
-    by : Dec (greatest < slot) → id * nodeWords + nodeWords ≤ length
+    by : Dec (greatest < slot) → id * nodeWords + nodeWords ≤ words
     by (yes l) = let e = c .own l in omega arith
     by (no l) = let e = c .other (omega arith) in omega arith
 

@@ -74,7 +74,7 @@ pub record HasRoom (words count size : ℕ) : Type 0 where
 
 -- the newest node is a child of the key
 pub record OverNewest (count : ℕ) (key : DagNode) : Type 0 where
-  pub some : 0 < key .arity
+  pub with-children : 0 < key .arity
   pub newest : greatestChild (key .children) + 1 ≡ count
 
 -- an id, of an old node or of a new one, in a table of the same size

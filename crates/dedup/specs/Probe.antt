@@ -63,10 +63,6 @@ Probed words known slots size key Nowhere = Passed words known slots size key si
 abbrev pub window : ℕ
 window = 6
 
--- every slot of a table is empty or holds a known id
-abbrev pub AllKnown : ℕ → List ℕ → ℕ → Type 0
-AllKnown known slots size = (p : ℕ) → p < size → getD slots p 0 ≤ known
-
 -- the id whose hash is compared: the slot's own if it is not below the greatest child, else that child's
 pub record ComparedId (slot greatest id : ℕ) : Type 0 where
   pub own : greatest < slot → id ≡ slot - 1

@@ -31,6 +31,10 @@ pub record Placed (slots : List ℕ) (size hash value : ℕ) : Type 0 where
   pub here : slotFrom slots size hash far ≡ value
   pub used : InUse slots size hash far
 
+-- every slot is empty or holds one of so many ids
+abbrev pub AllKnown : ℕ → List ℕ → ℕ → Type 0
+AllKnown known slots size = (p : ℕ) → p < size → getD slots p 0 ≤ known
+
 -- 01: "each id has just one slot, met from its hash modulo the table size onward, round the end, before an empty one, and every other slot is 0"; a slot is id + 1, or 0
 pub record Table (hash : ℕ → ℕ) (count : ℕ) (slots : List ℕ) (size : ℕ) : Type 0 where
   pub doubled : TableSize size
@@ -38,7 +42,7 @@ pub record Table (hash : ℕ → ℕ) (count : ℕ) (slots : List ℕ) (size : �
   pub load : count ≤ capacity size
   pub placed : (i : ℕ) → i < count → Placed slots size (hash i) (suc i)
   pub single : (p q : ℕ) → p < size → q < size → (getD slots p 0 ≡ 0 → ⊥) → getD slots p 0 ≡ getD slots q 0 → p ≡ q
-  pub only : (p : ℕ) → p < size → getD slots p 0 ≤ count
+  pub only : AllKnown count slots size
 
 -- the hash of each node of the store
 abbrev pub hashAt : List ℕ → ℕ → ℕ

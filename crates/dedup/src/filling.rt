@@ -13,7 +13,7 @@ use crate::sizes::modulo_size;
 use arena::HASH;
 use arena::NODE_WORDS;
 
-// The place of the first empty slot among WINDOW ones from a place on; WINDOW if there is none.
+// How many slots from a place on come before the first empty one; WINDOW if none of so many is empty.
 fn first_empty(slots: &[u32], home: usize) -> usize
     requires { ⌜ home + window ≤ length (now slots) ⌝ }
     ensures { λ r. ⌜ FirstEmpty (now (slots .entry)) home r ⌝ }
@@ -29,7 +29,8 @@ fn first_empty(slots: &[u32], home: usize) -> usize
     first
 }
 
-// The first free place from a place on, round the end.
+// The first free place from a place on, round the end. That the count of places passed stays below the size shows that
+// the loop ends.
 fn free_from(slots: &[u32], size: usize, home: usize) -> usize
     requires { ⌜ (home < size) × Room (now slots) size ⌝ }
     ensures { λ r. ⌜ FirstFree (now (slots .entry)) size home r ⌝ }

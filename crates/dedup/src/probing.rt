@@ -3,14 +3,14 @@ ghost use mathlib.Core.Path.{_≡_};
 ghost use Prim.Native.Nat.{_-_, _≤_, _<_};
 ghost use Rattle.arena.specs.Node.{nodeHash};
 ghost use Rattle.arena.specs.Nodes.{AllWellFormed};
-ghost use Rattle.dedup.specs.Probe.{greatestChild, holds, Ready, Passed, Probed, AllKnown, ComparedId, NearReady, PassedNear};
+ghost use Rattle.dedup.specs.Table.{AllKnown};
+ghost use Rattle.dedup.specs.Probe.{greatestChild, holds, Ready, Passed, Probed, ComparedId, NearReady, PassedNear};
 use crate::sizes::modulo_size;
 use arena::DagNode;
 use arena::HASH;
 use arena::MOST_CHILDREN;
 use arena::NODE_WORDS;
-use arena::load;
-use arena::same_node;
+use arena::has_parts;
 
 // How many slots are looked at together, without a branch for each.
 pub(crate) const WINDOW: usize = 6;
@@ -58,7 +58,16 @@ fn slot_holds(nodes: &[u64], slot: u32, key: DagNode, known: u64) -> bool
     if nodes[id as usize * NODE_WORDS + HASH] != key.hash {
         return false;
     }
-    same_node(load(nodes, id), key)
+    let children = key.children;
+    has_parts(
+        nodes,
+        id,
+        key.kind,
+        key.payload,
+        key.flags,
+        key.arity,
+        &children,
+    )
 }
 
 // The first slot from so many places past the key's hash onward, round the end, that is empty or holds a node that
@@ -74,6 +83,7 @@ fn probe_from(
     requires { ⌜ Ready (now nodes) known (now slots) size key × Passed (now nodes) known (now slots) size key start × (start ≤ size) ⌝ }
     ensures { λ r. ⌜ Probed (now (nodes .entry)) known (now (slots .entry)) size key r ⌝ }
 {
+    // The hash is brought into the table first, so that the sum does not overflow.
     let mut at = modulo_size(modulo_size(key.hash as usize, size) + start, size);
     let mut passed = start;
     while passed < size {

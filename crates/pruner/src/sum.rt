@@ -33,8 +33,8 @@ fn zero(nodes: &mut [u64], slots: &mut [u32], arena: DagArena) -> Built
     )
 }
 
-// The sum of two ids, as a number. Sums that were made one after another have ids one after another, so that a prune
-// done again finds each sum at the id after the last one: it is looked at first.
+// The sum of two ids, as a number. Sums made one after another have ids one after another, so that a prune done again
+// finds most sums at the id after the last one: it is looked at first.
 fn add(
     nodes: &mut [u64],
     slots: &mut [u32],
@@ -128,6 +128,7 @@ pub(crate) fn balanced_add(
     }
     let mut count = arena.count;
     let mut size = arena.size;
+    // No sum came before the first, so that any id may be looked at first.
     let mut next: u64 = 0;
     let number = sum(nodes, slots, &mut count, &mut size, &mut next, terms);
     if REFUSALS <= number {

@@ -113,7 +113,8 @@ fn intern_number(
     intern_node_number(nodes, slots, count, size, key)
 }
 
-// The same, where an id that may be the node's own is looked at first: if it is, no hash is made and no slot read.
+// The id of a node with these parts, or a refusal, as one number. An id that may be the node's own is looked at first: if
+// it is, no hash is made and no slot read.
 pub fn intern_likely(
     nodes: &mut [u64],
     slots: &mut [u32],

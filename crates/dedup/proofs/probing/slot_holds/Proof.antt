@@ -1,8 +1,11 @@
 -- `dedup::probing::slot_holds` meets its contract.
-use mathlib.Core.Path.{_∙_, ap}
+use mathlib.Core.Path.{_≡_, _∙_}
+use lib.ListN.{length}
 use native.Mathlib.Omega.{arith}
 use borrow.Author.Needs.{needs}
-use Rattle.arena.specs.Node.{nodeAt, one}
+use Rattle.arena.specs.Layout.{mostChildren}
+use Rattle.arena.specs.Node.{nodeAt}
+use Rattle.arena.proofs.OneNode.{one-parts}
 use Rattle.dedup.proofs.Searching.{holds-beyond, holds-known, holds-hash}
 use Rattle.dedup.proofs.probing.slot_holds.Statement.{statement}
 use Rattle.dedup.proofs.probing.slot_holds.Tie as tie
@@ -29,14 +32,11 @@ returns-2 : tie.Need-returns-2
 unfolding nodeAt
 returns-2 c = holds-hash _ _ _ _ _ (c .before .before .before .before .before .before .pre .0) (c .before .before .before .before .slot-id .ensures) (c .before .before .before .if1 .left) (c .before .before .before .before .before .before .pre .1) (c .before .before .before .before .before .before .pre .2) (c .if2 .taken)
 
-load-requires : tie.Need-load-requires
-load-requires c κs = let f = c .before .before .before .before .before .before .pre .1 .fits in let l = c .before .before .before .if1 .left in omega arith
-
-same-node-requires : tie.Need-same-node-requires
-same-node-requires c κs = search needs
+has-parts-requires : tie.Need-has-parts-requires
+has-parts-requires c κs = let f = c .before .before .before .before .before .before .before .before .pre .1 .fits in let l = c .before .before .before .before .before .if1 .left in let places : length (c .before .before .before .before .before .before .before .before .args .key .children) ≡ mostChildren = search needs in (omega arith, places)
 
 returns-3 : tie.Need-returns-3
-returns-3 c = c .same-node .ensures ∙ ap (λ (n : _). one n (c .before .before .before .before .before .before .before .before .args .key)) (c .before .load .ensures) ∙ holds-known _ _ _ _ _ (c .before .before .before .before .before .before .before .before .pre .0) (c .before .before .before .before .before .before .slot-id .ensures) (c .before .before .before .before .before .if1 .left)
+returns-3 c = c .has-parts .ensures ∙ one-parts _ _ ∙ holds-known _ _ _ _ _ (c .before .before .before .before .before .before .before .before .before .pre .0) (c .before .before .before .before .before .before .before .slot-id .ensures) (c .before .before .before .before .before .before .if1 .left)
 
 pub slot-holds-spec : {M : Type 1} → statement M
 slot-holds-spec =
@@ -49,6 +49,5 @@ slot-holds-spec =
     mul-if2-2
     shared-slice-read-if2
     returns-2
-    load-requires
-    same-node-requires
+    has-parts-requires
     returns-3)
