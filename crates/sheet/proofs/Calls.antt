@@ -1,15 +1,14 @@
 -- Records' calls, from what the calls themselves say.
 use Prim.Native.Nat.{ℕ, _<_}
 use mathlib.Core.Path.{_≡_, refl, sym, ap, _∙_, subst}
-use mathlib.Core.Bool.{Bool, true, false, _&&_}
+use mathlib.Core.Bool.{Bool, true, false}
 use mathlib.Core.Option.{none, some}
 use mathlib.Core.List.{List, map}
 use lib.ListN.{length, length-map}
-use lib.Dec.{leb}
 use native.Mathlib.Omega.{arith}
 use Rattle.definitions.specs.Limits.{mostChildren}
 use Rattle.definitions.specs.Refusals.{badRecord, badCode, badChildCount}
-use Rattle.definitions.specs.Node.{Node, node, variableKind, constantKind, functionKind, lastOperator, bothFlags}
+use Rattle.definitions.specs.Node.{Node, node}
 use Rattle.definitions.specs.Intern.{Lent}
 use Rattle.definitions.specs.Machine as M
 use Rattle.definitions.specs.Sheet as Sheet
@@ -25,14 +24,13 @@ use Rattle.walk.specs.Answers as W
 use Rattle.pruner.specs.declared.Answer.{Answer as Pruned}
 use Rattle.pruner.specs.Answers as P
 use Rattle.builder.specs.Stores.{BuildsSound, Asked}
-use Rattle.builder.proofs.Codes.{asked-operator-code, asked-control-code}
 use Rattle.records.specs.declared.Body.{Body}
-use Rattle.records.specs.declared.Body.the-variants.{Variable, Constant, Operator, Function, Control, Simplify, Prune}
-use Rattle.records.specs.Reading.{operandsFrom, callOf}
+use Rattle.records.specs.declared.Body.the-variants.{Simplify, Prune}
+use Rattle.records.specs.Reading.{callOf}
 use Rattle.sheet.specs.declared.building.Request.{Request}
 use Rattle.sheet.specs.declared.performing.Answer.{Answer}
 use Rattle.sheet.specs.declared.performing.Answer.the-variants.{Refused}
-use Rattle.sheet.specs.Running.{answerAs, Performs, idOf, idBelow, wanted, PerformsStore, PerformsBody, operatorRequest, controlRequest}
+use Rattle.sheet.specs.Running.{answerAs, PerformsAs, Performs, idOf, idBelow, wanted, PerformsStore, PerformsBody}
 use Rattle.sheet.proofs.Clamping.{store-same, simplify-same, prune-same, store-many, store-unlisted}
 
 -- what every call keeps stays
@@ -141,37 +139,25 @@ module _ (s : List ℕ) (body : Body) (ids : List ℕ) (done : ℕ) (m : Memory)
 
 -- ---- each body's record
 
-pub operator-asked : (q : Request) (code flags : ℕ) → q ≡ operatorRequest code flags → Asked (q .listed) (q .kind) (q .payload) (q .flags)
-operator-asked q code flags e =
-    subst (λ (r : Request). Asked (r .listed) (r .kind) (r .payload) (r .flags)) (sym e) (asked-operator-code (leb code lastOperator && leb flags bothFlags) code flags refl)
+abbrev AskedFor : Request → Type 0
+AskedFor q = Asked (q .listed) (q .kind) (q .payload) (q .flags)
 
-pub control-asked : (q : Request) (code : ℕ) → q ≡ controlRequest code → Asked (q .listed) (q .kind) (q .payload) (q .flags)
-control-asked q code e = subst (λ (r : Request). Asked (r .listed) (r .kind) (r .payload) (r .flags)) (sym e) (asked-control-code code)
+-- what may be asked for may be asked for by a request that is the same
+pub asked-as : (q w : Request) → q ≡ w → AskedFor w → AskedFor q
+asked-as q w e k = subst AskedFor (sym e) k
 
 module _ (s : List ℕ) (body : Body) (ids : List ℕ) (done : ℕ) (m : Memory) (a : Answer) (m′ : Memory) where
-  pub variable-body : (v : ℕ) → body ≡ Variable v → PerformsStore (record { listed = true; kind = variableKind; payload = v; flags = 0 }) (operandsFrom s 0 0) ids done m a m′ → PerformsBody s body ids done m a m′
-  unfolding M.call operandsFrom
-  variable-body v e p = body-whole s body ids done m (M.store (M.variable v)) (ap (callOf s) e) a m′ p
+  abbrev onIds : List ℕ → List ℕ
+  onIds = map (idOf ids done (m .arena .count))
 
-  pub constant-body : (v : ℕ) → body ≡ Constant v → PerformsStore (record { listed = true; kind = constantKind; payload = v; flags = 0 }) (operandsFrom s 0 0) ids done m a m′ → PerformsBody s body ids done m a m′
-  unfolding M.call operandsFrom
-  constant-body v e p = body-whole s body ids done m (M.store (M.constant v)) (ap (callOf s) e) a m′ p
-
-  pub operator-body : (q : Request) (code flags first n : ℕ) → q ≡ operatorRequest code flags → body ≡ Operator code flags first n → PerformsStore q (operandsFrom s first n) ids done m a m′ → PerformsBody s body ids done m a m′
+  -- a body that builds a node, by a request for what its call wants
+  pub store-body : (c : M.Store) (q w : Request) → callOf s body ≡ some (M.store c) → q ≡ w → wanted w (onIds (M.requested c .node .children)) ≡ M.requested (Sheet.storeOn (idOf ids done (m .arena .count)) c) → PerformsStore q (M.requested c .node .children) ids done m a m′ → PerformsBody s body ids done m a m′
   unfolding M.call
-  operator-body q code flags first n f e p =
-      body-whole s body ids done m (M.store (M.operator code flags (operandsFrom s first n))) (ap (callOf s) e) a m′
-      (subst (λ (r : Request). PerformsStore r (operandsFrom s first n) ids done m a m′) f p)
-
-  pub function-body : (f first n : ℕ) → body ≡ Function f first n → PerformsStore (record { listed = true; kind = functionKind; payload = f; flags = 0 }) (operandsFrom s first n) ids done m a m′ → PerformsBody s body ids done m a m′
-  unfolding M.call
-  function-body f first n e p = body-whole s body ids done m (M.store (M.function f (operandsFrom s first n))) (ap (callOf s) e) a m′ p
-
-  pub control-body : (q : Request) (code first n : ℕ) → q ≡ controlRequest code → body ≡ Control code first n → PerformsStore q (operandsFrom s first n) ids done m a m′ → PerformsBody s body ids done m a m′
-  unfolding M.call
-  control-body q code first n f e p =
-      body-whole s body ids done m (M.store (M.control code (operandsFrom s first n))) (ap (callOf s) e) a m′
-      (subst (λ (r : Request). PerformsStore r (operandsFrom s first n) ids done m a m′) f p)
+  store-body c q w e f t p =
+      body-whole s body ids done m (M.store c) e a m′
+      (subst (λ (r : M.Request). PerformsAs (M.onNodes (model .view m) (M.storeCall (model .lent m) (model .view m .nodes) r)) m a m′)
+      (ap (λ (r : Request). wanted r (onIds (M.requested c .node .children))) f ∙ t)
+      p)
 
   pub simplify-body : (o depth budget : ℕ) → body ≡ Simplify o depth budget → Performs (M.simplify (idOf ids done (m .arena .count) o) depth budget) m a m′ → PerformsBody s body ids done m a m′
   simplify-body o depth budget e p = body-whole s body ids done m (M.simplify o depth budget) (ap (callOf s) e) a m′ p

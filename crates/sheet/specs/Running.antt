@@ -61,6 +61,10 @@ abbrev pub PerformsStore : Request → List ℕ → List ℕ → ℕ → Memory 
 PerformsStore q operands ids done m a m′ =
     PerformsAs (M.onNodes (model .view m) (M.storeCall (model .lent m) (model .view m .nodes) (wanted q (map (idOf ids done (m .arena .count)) operands)))) m a m′
 
+-- what 01, 02 and 04 want
+abbrev pub listedRequest : ℕ → ℕ → Request
+listedRequest kind payload = record { listed = true; kind = kind; payload = payload; flags = 0 }
+
 -- what 03 and 05 want
 abbrev pub operatorRequest : ℕ → ℕ → Request
 operatorRequest code flags = record { listed = leb code lastOperator && leb flags bothFlags; kind = addKind + code; payload = 0; flags = flags }

@@ -7,7 +7,7 @@ ghost use Rattle.store.specs.Sound.{Sound};
 ghost use Rattle.store.specs.Memory.{memory};
 ghost use Rattle.builder.specs.Stores.{Asked};
 ghost use Rattle.records.specs.Reading.{operandsFrom};
-ghost use Rattle.sheet.specs.Running.{PerformsStore, operatorRequest, controlRequest};
+ghost use Rattle.sheet.specs.Running.{PerformsStore, listedRequest, operatorRequest, controlRequest};
 use crate::MOST_RECORDS;
 use crate::operands::operand_ids;
 use crate::performing::Answer;
@@ -28,6 +28,18 @@ pub struct Request {
     pub kind: u64,
     pub payload: u64,
     pub flags: u64,
+}
+
+// 01 symbol(4), 02 bits(8), 04 function(4): kinds without flags, of which every payload is listed.
+pub fn listed_request(kind: u64, payload: u64) -> Request
+    ensures { λ r. ⌜ r ≡ listedRequest kind payload ⌝ }
+{
+    Request {
+        listed: true,
+        kind,
+        payload,
+        flags: 0,
+    }
 }
 
 // 03 operator(1: 0 Add to 6 Neg), flags(1).

@@ -9,9 +9,9 @@ ghost use Rattle.records.specs.Reading.{OperandsInSheet};
 ghost use Rattle.definitions.specs.Machine as M;
 ghost use Rattle.sheet.specs.Running.{Performs, PerformsBody, idOf};
 use crate::MOST_RECORDS;
-use crate::building::Request;
 use crate::building::build;
 use crate::building::control_request;
+use crate::building::listed_request;
 use crate::building::operator_request;
 use crate::operands::operand_id;
 use arena::DagArena;
@@ -117,21 +117,11 @@ pub(crate) fn perform(
 {
     match body {
         Body::Variable(symbol) => {
-            let request = Request {
-                listed: true,
-                kind: VARIABLE,
-                payload: symbol as u64,
-                flags: 0,
-            };
+            let request = listed_request(VARIABLE, symbol as u64);
             build(sheet, 0, 0, ids, done, nodes, slots, arena, request)
         }
         Body::Constant(bits) => {
-            let request = Request {
-                listed: true,
-                kind: CONSTANT,
-                payload: bits,
-                flags: 0,
-            };
+            let request = listed_request(CONSTANT, bits);
             build(sheet, 0, 0, ids, done, nodes, slots, arena, request)
         }
         Body::Operator {
@@ -139,57 +129,30 @@ pub(crate) fn perform(
             flags,
             first,
             count,
-        } => build(
-            sheet,
-            first,
-            count,
-            ids,
-            done,
-            nodes,
-            slots,
-            arena,
-            operator_request(code, flags),
-        ),
+        } => {
+            let request = operator_request(code, flags);
+            build(sheet, first, count, ids, done, nodes, slots, arena, request)
+        }
         Body::Function {
             number,
             first,
             count,
         } => {
-            let request = Request {
-                listed: true,
-                kind: FUNCTION,
-                payload: number as u64,
-                flags: 0,
-            };
+            let request = listed_request(FUNCTION, number as u64);
             build(sheet, first, count, ids, done, nodes, slots, arena, request)
         }
         Body::Control { code, first, count } => {
-            build(
-                sheet,
-                first,
-                count,
-                ids,
-                done,
-                nodes,
-                slots,
-                arena,
-                control_request(code),
-            )
+            let request = control_request(code);
+            build(sheet, first, count, ids, done, nodes, slots, arena, request)
         }
         Body::Simplify {
             operand,
             depth,
             budget,
         } => simplify(ids, done, nodes, slots, arena, operand, depth, budget),
-        Body::Prune { operand, threshold } => prune(
-            ids,
-            done,
-            nodes,
-            slots,
-            arena,
-            operand,
-            threshold,
-        ),
+        Body::Prune { operand, threshold } => {
+            prune(ids, done, nodes, slots, arena, operand, threshold)
+        }
         Body::Malformed => Performed {
             answer: Answer::Refused(BAD_RECORD),
             arena,

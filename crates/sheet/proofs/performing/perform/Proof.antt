@@ -1,37 +1,40 @@
-use mathlib.Core.Path.{sym, ap, subst}
+use mathlib.Core.Path.{refl, ap, subst}
 use lib.ListN.{length}
 use native.Mathlib.Omega.{arith}
 use denote.Ref.{now}
 use Rattle.store.specs.Memory.{memory}
-use Rattle.builder.proofs.Codes.{asked-variable, asked-constant, asked-function}
+use Rattle.builder.proofs.Codes.{asked-variable, asked-constant, asked-operator-code, asked-function, asked-control-code}
 use Rattle.records.specs.declared.Body.{Body}
-use Rattle.records.specs.Reading.{callOf, OperandsInSheet}
+use Rattle.records.specs.Reading.{callOf, operandsFrom, OperandsInSheet}
 use Rattle.sheet.proofs.Calls as C
 use borrow.Author.Needs.{needs}
 use Rattle.sheet.proofs.performing.perform.Statement.{statement}
 use Rattle.sheet.proofs.performing.perform.Tie as tie
-use Rattle.sheet.proofs.performing.perform.Reads as reads
-use Rattle.sheet.proofs.performing.perform.Lts as lts
-use Rattle.sheet.proofs.building.build.Reads as build-reads
-use Rattle.sheet.proofs.building.control_request.Reads as control-request-reads
-use Rattle.sheet.proofs.building.operator_request.Reads as operator-request-reads
-use Rattle.sheet.proofs.performing.prune.Reads as prune-reads
-use Rattle.sheet.proofs.performing.simplify.Reads as simplify-reads
 
 enum-known-body : tie.Need-enum-known-body
 enum-known-body c = search needs
 
-cast-t29 : tie.Need-cast-t29
-cast-t29 c = search needs
+cast-listed-request : tie.Need-cast-listed-request
+cast-listed-request c = search needs
+
+listed-request-requires : tie.Need-listed-request-requires
+listed-request-requires c κs = search needs
 
 build-requires : tie.Need-build-requires
-build-requires c κs = (omega arith, c .before .before .before .before .before .before .before .before .pre .1, c .before .before .before .before .before .before .before .before .pre .2, asked-variable _ (search needs), c .before .before .before .before .before .before .before .before .pre .3)
+build-requires c κs =
+    let e = c .before .before .before .before .before .before .before .before .before in
+    (omega arith, e .pre .1, e .pre .2, C.asked-as _ _ (c .before .before .listed-request .ensures) (asked-variable _ (search needs)), e .pre .3)
 
 enum-known-body-2 : tie.Need-enum-known-body-2
 enum-known-body-2 c = search needs
 
+listed-request-requires-2 : tie.Need-listed-request-requires-2
+listed-request-requires-2 c κs = search needs
+
 build-requires-2 : tie.Need-build-requires-2
-build-requires-2 c κs = (omega arith, c .before .before .before .before .before .before .before .before .pre .1, c .before .before .before .before .before .before .before .before .pre .2, asked-constant _, c .before .before .before .before .before .before .before .before .pre .3)
+build-requires-2 c κs =
+    let e = c .before .before .before .before .before .before .before .before .before in
+    (omega arith, e .pre .1, e .pre .2, C.asked-as _ _ (c .before .before .listed-request2 .ensures) (asked-constant _), e .pre .3)
 
 enum-known-body-3 : tie.Need-enum-known-body-3
 enum-known-body-3 c = search needs
@@ -40,16 +43,23 @@ operator-request-requires : tie.Need-operator-request-requires
 operator-request-requires c κs = search needs
 
 build-requires-3 : tie.Need-build-requires-3
-build-requires-3 c κs = (subst (λ (b : Body). OperandsInSheet (length (now (c .before .before .before .before .before .before .before .before .before .args .sheet))) b) (c .before .before .before .before .body3 .given .1) (c .before .before .before .before .before .before .before .before .before .pre .0), c .before .before .before .before .before .before .before .before .before .pre .1, c .before .before .before .before .before .before .before .before .before .pre .2, C.operator-asked _ _ _ (c .operator-request .ensures), c .before .before .before .before .before .before .before .before .before .pre .3)
+build-requires-3 c κs =
+    let e = c .before .before .before .before .before .before .before .before .before in
+    (subst (λ (b : Body). OperandsInSheet (length (now (e .args .sheet))) b) (c .before .before .before .before .body3 .given .1) (e .pre .0), e .pre .1, e .pre .2, C.asked-as _ _ (c .before .before .operator-request .ensures) (asked-operator-code _ _ _ refl), e .pre .3)
 
 enum-known-body-4 : tie.Need-enum-known-body-4
 enum-known-body-4 c = search needs
 
-cast-t43 : tie.Need-cast-t43
-cast-t43 c = search needs
+cast-listed-request-2 : tie.Need-cast-listed-request-2
+cast-listed-request-2 c = search needs
+
+listed-request-requires-3 : tie.Need-listed-request-requires-3
+listed-request-requires-3 c κs = search needs
 
 build-requires-4 : tie.Need-build-requires-4
-build-requires-4 c κs = (subst (λ (b : Body). OperandsInSheet (length (now (c .before .before .before .before .before .before .before .before .args .sheet))) b) (c .before .before .before .body4 .given .1) (c .before .before .before .before .before .before .before .before .pre .0), c .before .before .before .before .before .before .before .before .pre .1, c .before .before .before .before .before .before .before .before .pre .2, asked-function _ (search needs), c .before .before .before .before .before .before .before .before .pre .3)
+build-requires-4 c κs =
+    let e = c .before .before .before .before .before .before .before .before .before in
+    (subst (λ (b : Body). OperandsInSheet (length (now (e .args .sheet))) b) (c .before .before .before .before .body4 .given .1) (e .pre .0), e .pre .1, e .pre .2, C.asked-as _ _ (c .before .before .listed-request3 .ensures) (asked-function _ (search needs)), e .pre .3)
 
 enum-known-body-5 : tie.Need-enum-known-body-5
 enum-known-body-5 c = search needs
@@ -58,19 +68,25 @@ control-request-requires : tie.Need-control-request-requires
 control-request-requires c κs = search needs
 
 build-requires-5 : tie.Need-build-requires-5
-build-requires-5 c κs = (subst (λ (b : Body). OperandsInSheet (length (now (c .before .before .before .before .before .before .before .before .before .args .sheet))) b) (c .before .before .before .before .body5 .given .1) (c .before .before .before .before .before .before .before .before .before .pre .0), c .before .before .before .before .before .before .before .before .before .pre .1, c .before .before .before .before .before .before .before .before .before .pre .2, C.control-asked _ _ (c .control-request .ensures), c .before .before .before .before .before .before .before .before .before .pre .3)
+build-requires-5 c κs =
+    let e = c .before .before .before .before .before .before .before .before .before in
+    (subst (λ (b : Body). OperandsInSheet (length (now (e .args .sheet))) b) (c .before .before .before .before .body5 .given .1) (e .pre .0), e .pre .1, e .pre .2, C.asked-as _ _ (c .before .before .control-request .ensures) (asked-control-code _), e .pre .3)
 
 enum-known-body-6 : tie.Need-enum-known-body-6
 enum-known-body-6 c = search needs
 
 simplify-requires : tie.Need-simplify-requires
-simplify-requires c κs = (c .before .before .before .before .before .before .before .before .pre .1, c .before .before .before .before .before .before .before .before .pre .2, c .before .before .before .before .before .before .before .before .pre .3)
+simplify-requires c κs =
+    let e = c .before .before .before .before .before .before .before .before in
+    (e .pre .1, e .pre .2, e .pre .3)
 
 enum-known-body-7 : tie.Need-enum-known-body-7
 enum-known-body-7 c = search needs
 
 prune-requires : tie.Need-prune-requires
-prune-requires c κs = (c .before .before .before .before .before .before .before .before .pre .1, c .before .before .before .before .before .before .before .before .pre .2, c .before .before .before .before .before .before .before .before .pre .3)
+prune-requires c κs =
+    let e = c .before .before .before .before .before .before .before .before in
+    (e .pre .1, e .pre .2, e .pre .3)
 
 enum-told : tie.Need-enum-told
 enum-told c = search needs
@@ -82,9 +98,10 @@ same-length-2 : tie.Need-same-length-2
 same-length-2 c = search needs
 
 returns : tie.Need-returns
+unfolding operandsFrom
 returns c =
-    let a = c .before .before .before .before .before .before .before .before .before .before .before .before .before .args in
-    C.variable-body (now (a .sheet)) (a .body) (now (a .ids)) (a .done) (memory (now (a .nodes)) (now (a .slots)) (a .arena)) _ _ _ (c .before .before .before .before .before .before .before .before .body .given .1) (c .before .before .before .before .build .ensures)
+    let a = c .before .before .before .before .before .before .before .before .before .before .before .before .before .before .args in
+    C.store-body (now (a .sheet)) (a .body) (now (a .ids)) (a .done) (memory (now (a .nodes)) (now (a .slots)) (a .arena)) _ _ _ _ _ (ap (callOf (now (a .sheet))) (c .before .before .before .before .before .before .before .before .before .body .given .1)) (c .before .before .before .before .before .before .before .listed-request .ensures) refl (c .before .before .before .before .build .ensures)
 
 same-length-3 : tie.Need-same-length-3
 same-length-3 c = search needs
@@ -93,9 +110,10 @@ same-length-4 : tie.Need-same-length-4
 same-length-4 c = search needs
 
 returns-2 : tie.Need-returns-2
+unfolding operandsFrom
 returns-2 c =
-    let a = c .before .before .before .before .before .before .before .before .before .before .before .before .before .args in
-    C.constant-body (now (a .sheet)) (a .body) (now (a .ids)) (a .done) (memory (now (a .nodes)) (now (a .slots)) (a .arena)) _ _ _ (c .before .before .before .before .before .before .before .before .body2 .given .1) (c .before .before .before .before .build2 .ensures)
+    let a = c .before .before .before .before .before .before .before .before .before .before .before .before .before .before .args in
+    C.store-body (now (a .sheet)) (a .body) (now (a .ids)) (a .done) (memory (now (a .nodes)) (now (a .slots)) (a .arena)) _ _ _ _ _ (ap (callOf (now (a .sheet))) (c .before .before .before .before .before .before .before .before .before .body2 .given .1)) (c .before .before .before .before .before .before .before .listed-request2 .ensures) refl (c .before .before .before .before .build2 .ensures)
 
 same-length-5 : tie.Need-same-length-5
 same-length-5 c = search needs
@@ -106,7 +124,7 @@ same-length-6 c = search needs
 returns-3 : tie.Need-returns-3
 returns-3 c =
     let a = c .before .before .before .before .before .before .before .before .before .before .before .before .before .before .args in
-    C.operator-body (now (a .sheet)) (a .body) (now (a .ids)) (a .done) (memory (now (a .nodes)) (now (a .slots)) (a .arena)) _ _ _ _ _ _ _ (c .before .before .before .before .before .operator-request .ensures) (c .before .before .before .before .before .before .before .before .before .body3 .given .1) (c .before .before .before .before .build3 .ensures)
+    C.store-body (now (a .sheet)) (a .body) (now (a .ids)) (a .done) (memory (now (a .nodes)) (now (a .slots)) (a .arena)) _ _ _ _ _ (ap (callOf (now (a .sheet))) (c .before .before .before .before .before .before .before .before .before .body3 .given .1)) (c .before .before .before .before .before .before .before .operator-request .ensures) refl (c .before .before .before .before .build3 .ensures)
 
 same-length-7 : tie.Need-same-length-7
 same-length-7 c = search needs
@@ -116,8 +134,8 @@ same-length-8 c = search needs
 
 returns-4 : tie.Need-returns-4
 returns-4 c =
-    let a = c .before .before .before .before .before .before .before .before .before .before .before .before .before .args in
-    C.function-body (now (a .sheet)) (a .body) (now (a .ids)) (a .done) (memory (now (a .nodes)) (now (a .slots)) (a .arena)) _ _ _ _ _ (c .before .before .before .before .before .before .before .before .body4 .given .1) (c .before .before .before .before .build4 .ensures)
+    let a = c .before .before .before .before .before .before .before .before .before .before .before .before .before .before .args in
+    C.store-body (now (a .sheet)) (a .body) (now (a .ids)) (a .done) (memory (now (a .nodes)) (now (a .slots)) (a .arena)) _ _ _ _ _ (ap (callOf (now (a .sheet))) (c .before .before .before .before .before .before .before .before .before .body4 .given .1)) (c .before .before .before .before .before .before .before .listed-request3 .ensures) refl (c .before .before .before .before .build4 .ensures)
 
 same-length-9 : tie.Need-same-length-9
 same-length-9 c = search needs
@@ -128,7 +146,7 @@ same-length-10 c = search needs
 returns-5 : tie.Need-returns-5
 returns-5 c =
     let a = c .before .before .before .before .before .before .before .before .before .before .before .before .before .before .args in
-    C.control-body (now (a .sheet)) (a .body) (now (a .ids)) (a .done) (memory (now (a .nodes)) (now (a .slots)) (a .arena)) _ _ _ _ _ _ (c .before .before .before .before .before .control-request .ensures) (c .before .before .before .before .before .before .before .before .before .body5 .given .1) (c .before .before .before .before .build5 .ensures)
+    C.store-body (now (a .sheet)) (a .body) (now (a .ids)) (a .done) (memory (now (a .nodes)) (now (a .slots)) (a .arena)) _ _ _ _ _ (ap (callOf (now (a .sheet))) (c .before .before .before .before .before .before .before .before .before .body5 .given .1)) (c .before .before .before .before .before .before .before .control-request .ensures) refl (c .before .before .before .before .build5 .ensures)
 
 same-length-11 : tie.Need-same-length-11
 same-length-11 c = search needs
@@ -162,15 +180,18 @@ perform-spec =
     tie.close
     (tie.spec
     enum-known-body
-    cast-t29
+    cast-listed-request
+    listed-request-requires
     build-requires
     enum-known-body-2
+    listed-request-requires-2
     build-requires-2
     enum-known-body-3
     operator-request-requires
     build-requires-3
     enum-known-body-4
-    cast-t43
+    cast-listed-request-2
+    listed-request-requires-3
     build-requires-4
     enum-known-body-5
     control-request-requires
