@@ -1,34 +1,48 @@
 -- The test of kinds, payloads and child counts, by the kind.
-use Prim.Native.Nat.{ℕ, zero, suc, _≤_, _<_}
-use mathlib.Core.Path.{_≡_, refl, sym, ap, _∙_}
+use Prim.Native.Nat.{ℕ, zero, suc, _*_, _/_, _%_, _^_, _≤_, _<_}
+use mathlib.Core.Path.{_≡_, refl, sym}
 use mathlib.Core.Bool.{Bool, true, false, cond, _&&_, _||_, false≢true}
 use mathlib.Core.Logic.{_⊎_, inl, inr, ⊎-elim}
-use lib.Dec.{eqb, leb}
+use lib.Dec.{eqb, leb, ltb}
 use native.Mathlib.Omega.{arith}
 use borrow.Author.Tests.{eq-eqb, ne-eqb, le-leb, lt-leb, lt-ltb, le-ltb, eqb-true, leb-true}
 use Rattle.arena.specs.Layout.{mostChildren}
 use Rattle.arena.specs.Kind.{operatorArity, controlArity, listed, isNumber}
-use Rattle.definitions.proofs.Deciding.{both}
+use Rattle.definitions.proofs.Deciding.{both, same-test}
 
-module _ (kind arity : ℕ) where
-  several : (kind ≡ 2) ⊎ (kind ≡ 4) → leb 1 arity && leb arity 4 ≡ operatorArity kind arity
-  unfolding operatorArity
-  several (inl e) = rw e refl
-  several (inr e) = rw e refl
+-- a count of at least n is at most n just if it is n
+at-least : (n arity : ℕ) → n ≤ arity → leb arity n ≡ eqb arity n
+at-least n arity l = same-test (leb arity n) (eqb arity n)
+    (λ e. let z = leb-true arity n e in eq-eqb arity n (omega arith))
+    (λ e. let z = eqb-true arity n e in le-leb arity n (omega arith))
 
-  pub several-none : (kind ≡ 2) ⊎ (kind ≡ 4) → arity ≡ 0 → false ≡ operatorArity kind arity
-  several-none k e = sym (ap (λ (b : Bool). b && leb arity 4) (lt-leb 1 arity (omega arith))) ∙ several k
+-- fewer children than the kind's digit of `LEAST_OPERANDS`
+pub too-few : (kind arity : ℕ) → 2 ≤ kind → kind ≤ 8 → arity < 4867563776 / 2 ^ (kind * 4) % 16 → false ≡ operatorArity kind arity
+unfolding operatorArity
+too-few zero arity l h f = absurd (omega arith)
+too-few (suc zero) arity l h f = absurd (omega arith)
+too-few (suc (suc zero)) arity l h f = rw (lt-leb 1 arity f) refl
+too-few (suc (suc (suc zero))) arity l h f = sym (ne-eqb arity 2 (omega (arith, f)))
+too-few (suc (suc (suc (suc zero)))) arity l h f = rw (lt-leb 1 arity f) refl
+too-few (suc (suc (suc (suc (suc zero))))) arity l h f = sym (ne-eqb arity 2 (omega (arith, f)))
+too-few (suc (suc (suc (suc (suc (suc zero)))))) arity l h f = sym (ne-eqb arity 2 (omega (arith, f)))
+too-few (suc (suc (suc (suc (suc (suc (suc zero))))))) arity l h f = sym (ne-eqb arity 2 (omega (arith, f)))
+too-few (suc (suc (suc (suc (suc (suc (suc (suc zero)))))))) arity l h f = sym (ne-eqb arity 1 (omega (arith, f)))
+too-few (suc (suc (suc (suc (suc (suc (suc (suc (suc kind))))))))) arity l h f = absurd (omega arith)
 
-  pub several-some : (kind ≡ 2) ⊎ (kind ≡ 4) → (arity ≡ 0 → ⊥) → leb arity 4 ≡ operatorArity kind arity
-  several-some k n = sym (ap (λ (b : Bool). b && leb arity 4) (le-leb 1 arity (omega arith))) ∙ several k
-
-  pub single : kind ≡ 8 → eqb arity 1 ≡ operatorArity kind arity
-  unfolding operatorArity
-  single e = rw e refl
-
-  pub pair : (kind ≡ 2 → ⊥) → (kind ≡ 4 → ⊥) → (kind ≡ 8 → ⊥) → eqb arity 2 ≡ operatorArity kind arity
-  unfolding operatorArity
-  pair a b c = rw (ne-eqb kind 2 a, ne-eqb kind 4 b, ne-eqb kind 8 c) refl
+-- else the kind's digit of `MOST_OPERANDS` decides
+pub enough : (kind arity : ℕ) → 2 ≤ kind → kind ≤ 8 → 4867563776 / 2 ^ (kind * 4) % 16 ≤ arity → leb arity (4867761152 / 2 ^ (kind * 4) % 16) ≡ operatorArity kind arity
+unfolding operatorArity
+enough zero arity l h f = absurd (omega arith)
+enough (suc zero) arity l h f = absurd (omega arith)
+enough (suc (suc zero)) arity l h f = rw (le-leb 1 arity f) refl
+enough (suc (suc (suc zero))) arity l h f = at-least 2 arity f
+enough (suc (suc (suc (suc zero)))) arity l h f = rw (le-leb 1 arity f) refl
+enough (suc (suc (suc (suc (suc zero))))) arity l h f = at-least 2 arity f
+enough (suc (suc (suc (suc (suc (suc zero)))))) arity l h f = at-least 2 arity f
+enough (suc (suc (suc (suc (suc (suc (suc zero))))))) arity l h f = at-least 2 arity f
+enough (suc (suc (suc (suc (suc (suc (suc (suc zero)))))))) arity l h f = at-least 1 arity f
+enough (suc (suc (suc (suc (suc (suc (suc (suc (suc kind))))))))) arity l h f = absurd (omega arith)
 
 pub three : (payload arity : ℕ) → payload < 2 → eqb arity 3 ≡ controlArity payload arity
 unfolding controlArity
@@ -44,19 +58,32 @@ pub no-control : (payload arity : ℕ) → 2 ≤ payload → (payload ≡ 2 → 
 unfolding controlArity
 no-control payload arity l n = rw (lt-leb payload 2 (omega arith)) refl
 
+and-false : (b : Bool) → false ≡ b && false
+and-false true = refl
+and-false false = refl
+
+and-true : (b : Bool) → b ≡ b && true
+and-true true = refl
+and-true false = refl
+
+-- a variable or a constant
+pub leaf-children : (kind payload arity : ℕ) → kind ≤ 1 → (arity ≡ 0 → ⊥) → false ≡ listed kind payload arity
+unfolding listed
+leaf-children zero payload arity l n = rw (ne-eqb arity 0 n) (and-false (isNumber payload))
+leaf-children (suc zero) payload arity l n = rw (ne-eqb arity 0 n) refl
+leaf-children (suc (suc kind)) payload arity l n = absurd (omega arith)
+
+pub constant : (kind payload arity : ℕ) → kind ≡ 1 → arity ≡ 0 → true ≡ listed kind payload arity
+unfolding listed
+constant kind payload arity e n = rw (e, n) refl
+
+pub variable : (kind payload arity : ℕ) → kind ≤ 1 → (kind ≡ 1 → ⊥) → arity ≡ 0 → ltb payload 4294967296 ≡ listed kind payload arity
+unfolding listed
+variable zero payload arity l c n = rw n (and-true (isNumber payload))
+variable (suc zero) payload arity l c n = absurd (c refl)
+variable (suc (suc kind)) payload arity l c n = absurd (omega arith)
+
 module _ (kind payload arity : ℕ) where
-  pub variable-low : kind ≡ 0 → payload < 4294967296 → eqb arity 0 ≡ listed kind payload arity
-  unfolding listed
-  variable-low e l = rw (e, lt-ltb payload 4294967296 l) refl
-
-  pub variable-high : kind ≡ 0 → 4294967296 ≤ payload → false ≡ listed kind payload arity
-  unfolding listed
-  variable-high e l = rw (e, le-ltb payload 4294967296 l) refl
-
-  pub constant : kind ≡ 1 → eqb arity 0 ≡ listed kind payload arity
-  unfolding listed
-  constant e = rw e refl
-
   pub function-low : kind ≡ 16 → payload < 4294967296 → leb arity mostChildren ≡ listed kind payload arity
   unfolding listed
   function-low e l = rw (e, lt-ltb payload 4294967296 l) refl
@@ -70,18 +97,18 @@ module _ (kind payload arity : ℕ) where
   control e = rw e refl
 
   -- what is neither a variable nor a constant
-  module _ (n0 : kind ≡ 0 → ⊥) (n1 : kind ≡ 1 → ⊥) where
+  module _ (from : 2 ≤ kind) where
     pub operator : kind < 9 → payload ≡ 0 → operatorArity kind arity ≡ listed kind payload arity
     unfolding listed
-    operator l e = rw (ne-eqb kind 0 n0, ne-eqb kind 1 n1, le-leb 2 kind (omega arith), le-leb kind 8 (omega arith), eq-eqb payload 0 e) refl
+    operator l e = rw (ne-eqb kind 0 (omega arith), ne-eqb kind 1 (omega arith), le-leb 2 kind (omega arith), le-leb kind 8 (omega arith), eq-eqb payload 0 e) refl
 
     pub operator-payload : kind < 9 → (payload ≡ 0 → ⊥) → false ≡ listed kind payload arity
     unfolding listed
-    operator-payload l e = rw (ne-eqb kind 0 n0, ne-eqb kind 1 n1, le-leb 2 kind (omega arith), le-leb kind 8 (omega arith), ne-eqb payload 0 e) refl
+    operator-payload l e = rw (ne-eqb kind 0 (omega arith), ne-eqb kind 1 (omega arith), le-leb 2 kind (omega arith), le-leb kind 8 (omega arith), ne-eqb payload 0 e) refl
 
     pub no-kind : 9 ≤ kind → (kind ≡ 16 → ⊥) → (kind ≡ 32 → ⊥) → false ≡ listed kind payload arity
     unfolding listed
-    no-kind l n16 n32 = rw (ne-eqb kind 0 n0, ne-eqb kind 1 n1, le-leb 2 kind (omega arith), lt-leb kind 8 (omega arith), ne-eqb kind 16 n16, ne-eqb kind 32 n32) refl
+    no-kind l n16 n32 = rw (ne-eqb kind 0 (omega arith), ne-eqb kind 1 (omega arith), le-leb 2 kind (omega arith), lt-leb kind 8 (omega arith), ne-eqb kind 16 n16, ne-eqb kind 32 n32) refl
 
 -- a child count that is listed is at most that of the places
 choice : (b x y : Bool) → cond b x y ≡ true → (x ≡ true) ⊎ (y ≡ true)

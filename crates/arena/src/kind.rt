@@ -2,6 +2,8 @@
 // operator Add, Sub, Mul, Div, Pow, Mod, Neg (payload 0), 16 function (payload its number), 32 control (payload
 // 0 Select, 1 IfElse, 2 ForLoop)."
 ghost use mathlib.Core.Path.{_≡_};
+ghost use Prim.Native.Nat.{_≤_, _<_};
+ghost use Rattle.definitions.specs.Node.{constantKind, addKind, negKind};
 ghost use Rattle.arena.specs.Kind.{operatorArity, controlArity, listed};
 use crate::MOST_CHILDREN;
 
@@ -35,24 +37,26 @@ pub const FOR_LOOP: u64 = 2;
 
 // Symbols and function numbers are below 2^32.
 pub const NUMBERS: u64 = 4_294_967_296;
-// Add and Mul have one to four children.
-pub const MOST_OPERANDS: u64 = 4;
+// How many children an operator has at least and at most, a hexadecimal digit for each kind, that of kind 0 last: Add and
+// Mul one to four, Neg one, other operators two. A digit is read without a branch on the kind, which cannot be foreseen.
+const LEAST_OPERANDS: u64 = 0x1_2221_2100;
+
+const MOST_OPERANDS: u64 = 0x1_2224_2400;
+
+const DIGIT_BITS: u64 = 4;
+
+const DIGITS: u64 = 16;
 
 // Whether an operator has so many children.
 fn operator_arity(kind: u64, arity: u64) -> bool
+    requires { ⌜ (addKind ≤ kind) × (kind ≤ negKind) ⌝ }
     ensures { λ r. ⌜ r ≡ operatorArity kind arity ⌝ }
 {
-    match kind {
-        ADD | MUL => {
-            if arity == 0 {
-                false
-            } else {
-                arity <= MOST_OPERANDS
-            }
-        }
-        NEG => arity == 1,
-        _ => arity == 2,
+    let below = kind * DIGIT_BITS;
+    if arity < (LEAST_OPERANDS >> below) % DIGITS {
+        return false;
     }
+    arity <= (MOST_OPERANDS >> below) % DIGITS
 }
 
 // Whether a control has so many children.
@@ -66,20 +70,26 @@ fn control_arity(control: u64, arity: u64) -> bool
     }
 }
 
-// Whether kind, payload and child count are as listed.
-pub fn is_listed(kind: u64, payload: u64, arity: u64) -> bool
+// Whether payload and child count of a variable or constant are as listed.
+fn is_listed_leaf(kind: u64, payload: u64, arity: u64) -> bool
+    requires { ⌜ kind ≤ constantKind ⌝ }
+    ensures { λ r. ⌜ r ≡ listed kind payload arity ⌝ }
+{
+    if arity != 0 {
+        return false;
+    }
+    if kind == CONSTANT {
+        return true;
+    }
+    payload < NUMBERS
+}
+
+// Whether kind, payload and child count are as listed, of a kind past the operators.
+fn is_listed_other(kind: u64, payload: u64, arity: u64) -> bool
+    requires { ⌜ negKind < kind ⌝ }
     ensures { λ r. ⌜ r ≡ listed kind payload arity ⌝ }
 {
     match kind {
-        VARIABLE => { if payload < NUMBERS { arity == 0 } else { false } }
-        CONSTANT => arity == 0,
-        ADD..=NEG => {
-            if payload == 0 {
-                operator_arity(kind, arity)
-            } else {
-                false
-            }
-        }
         FUNCTION => {
             if payload < NUMBERS {
                 arity <= MOST_CHILDREN as u64
@@ -89,5 +99,22 @@ pub fn is_listed(kind: u64, payload: u64, arity: u64) -> bool
         }
         CONTROL => control_arity(payload, arity),
         _ => false,
+    }
+}
+
+// Whether kind, payload and child count are as listed.
+pub fn is_listed(kind: u64, payload: u64, arity: u64) -> bool
+    ensures { λ r. ⌜ r ≡ listed kind payload arity ⌝ }
+{
+    match kind {
+        VARIABLE..=CONSTANT => is_listed_leaf(kind, payload, arity),
+        ADD..=NEG => {
+            if payload == 0 {
+                operator_arity(kind, arity)
+            } else {
+                false
+            }
+        }
+        _ => is_listed_other(kind, payload, arity),
     }
 }

@@ -1,20 +1,23 @@
--- `arena::kind::operator_arity` meets its contract.
-use mathlib.Core.Logic.{inl, inr}
+-- `arena::kind::operator_arity` meets its contract: by the digits of the kind.
+use borrow.Author.Needs.{needs}
 use Rattle.arena.proofs.Listing as L
 use Rattle.arena.proofs.kind.operator_arity.Statement.{statement}
 use Rattle.arena.proofs.kind.operator_arity.Tie as tie
 
+mul-below : tie.Need-mul-below
+mul-below c = search needs
+
+shr-if1 : tie.Need-shr-if1
+shr-if1 c = search needs
+
 returns : tie.Need-returns
-returns c = L.several-none _ _ (c .before .match .keys1) (c .if1 .taken)
+returns c = L.too-few _ _ (c .before .pre .0) (c .before .pre .1) (c .if1 .taken)
+
+shr-result : tie.Need-shr-result
+shr-result c = search needs
 
 returns-2 : tie.Need-returns-2
-returns-2 c = L.several-some _ _ (c .before .match .keys1) (c .if1 .left)
-
-returns-3 : tie.Need-returns-3
-returns-3 c = L.single _ _ (c .match .keys2)
-
-returns-4 : tie.Need-returns-4
-returns-4 c = L.pair _ _ (λ e. c .match .rest .0 .1 (inl e)) (λ e. c .match .rest .0 .1 (inr e)) (c .match .rest .1)
+returns-2 c = L.enough _ _ (c .before .pre .0) (c .before .pre .1) (c .if1 .left)
 
 pub operator-arity-spec : {M : Type 1} → statement M
-operator-arity-spec = tie.close (tie.spec returns returns-2 returns-3 returns-4)
+operator-arity-spec = tie.close (tie.spec mul-below shr-if1 returns shr-result returns-2)
