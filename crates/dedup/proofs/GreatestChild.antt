@@ -1,18 +1,19 @@
 -- A node that is one with a key is not below the key's greatest child, and above it if there is one.
 use Prim.Native.Nat.{ℕ, zero, suc, _-_, _≤_, _<_, max}
 use mathlib.Core.Path.{_≡_, refl, sym, ap, _∙_}
-use mathlib.Core.Bool.{false}
+use mathlib.Core.Bool.{false, _&&_}
 use mathlib.Core.List.{List, [], _∷_}
-use mathlib.Core.Option.{none}
 use lib.ListN.{getD, take}
+use lib.Dec.{ltb}
 use native.Mathlib.Omega.{arith}
 use native.Mathlib.Decide.{decLt}
+use borrow.Author.Tests.{lt-ltb, le-ltb}
 use Rattle.arena.specs.declared.node.DagNode.{DagNode}
-use Rattle.arena.specs.Node.{nodeAt, find}
+use Rattle.arena.specs.Node.{nodeAt, one}
 use Rattle.arena.specs.Nodes.{LowerChildren, AllWellFormed}
 use Rattle.arena.proofs.OneNode.{not-one}
-use Rattle.arena.proofs.Finding.{find-none}
-use Rattle.dedup.specs.Probe.{greatestChild, holds}
+use Rattle.dedup.specs.Probe.{greatestChild, holds, Frees}
+use Rattle.dedup.specs.Insert.{FirstFree}
 use Rattle.dedup.specs.Intern.{OverNewest}
 use Rattle.dedup.proofs.Searching.{holds-known}
 
@@ -52,8 +53,23 @@ above id arity children l p = let z = l .lower 0 p in let g = greatest-within (i
     by j (yes m) = let b = l .lower j m in omega arith
     by j (no m) = let e = l .unused j (omega arith) in omega arith
 
--- no node is over the newest
-pub over-newest-absent : (w : List ℕ) (count : ℕ) (key : DagNode) → AllWellFormed w count → OverNewest count key → find w count key ≡ none
-over-newest-absent w count key f n =
-    find-none w key count
-    (λ i l. sym (not-one (nodeAt w i) key (λ o. let s : 0 < nodeAt w i .arity = rw (o .arity) (n .with-children) in let a = above i _ _ (f .each i l .places) s in let g = ap greatestChild (o .children) in let e = n .newest in omega arith)))
+-- no node is over the newest, so that no slot holds one
+module _ (w : List ℕ) (count : ℕ) (key : DagNode) (f : AllWellFormed w count) (n : OverNewest count key) where
+  not-key : (id : ℕ) → id < count → false ≡ one (nodeAt w id) key
+  not-key id l = not-one (nodeAt w id) key (λ o. let s : 0 < nodeAt w id .arity = rw (o .arity) (n .with-children) in let a = above id _ _ (f .each id l .places) s in let g = ap greatestChild (o .children) in let e = n .newest in omega arith)
+
+  in-no-slot : (slot : ℕ) → holds w count key slot ≡ false
+  unfolding holds
+  in-no-slot zero = refl
+  in-no-slot (suc id) = by (decLt id count)
+    where
+      by : Dec (id < count) → ltb id count && one (nodeAt w id) key ≡ false
+      by (yes l) = rw (lt-ltb id count l) (sym (not-key id l))
+      by (no l) = rw (le-ltb id count (omega arith)) refl
+
+  -- the first free place ends the search for it
+  pub over-newest-free : (slots : List ℕ) (size place : ℕ) → FirstFree slots size (key .hash) place → Frees w count slots size key place
+  over-newest-free slots size place free = record {
+    reached = record { far = free .far; near = free .near; is = free .is; passed = record { used = free .used; other = λ d l. in-no-slot _ } };
+    empty = free .empty;
+  }

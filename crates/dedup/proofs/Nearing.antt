@@ -9,7 +9,7 @@ use native.Mathlib.Decide.{decLt}
 use Rattle.arena.specs.declared.node.DagNode.{DagNode}
 use Rattle.arena.specs.Layout.{nodeWords}
 use Rattle.dedup.specs.Table.{slotFrom, AllKnown, hashAt}
-use Rattle.dedup.specs.Probe.{window, greatestChild, holds, Ready, Passed, ComparedId, OtherSlot, NearReady, PassedNear}
+use Rattle.dedup.specs.Probe.{searchWindow, greatestChild, holds, Ready, Passed, ComparedId, OtherSlot, NearReady, PassedNear}
 use Rattle.dedup.proofs.Rounds.{round-inside}
 use Rattle.dedup.proofs.Searching.{holds-beyond, holds-hash}
 use Rattle.dedup.proofs.GreatestChild.{holds-below}
@@ -35,7 +35,7 @@ module _ (words slots : List ℕ) (home hash greatest first end : ℕ) where
   pub others-none : end ≤ first → Others words slots home hash greatest first end
   others-none l = record { each = λ d a b. absurd (omega arith) }
 
-  pub passed-near : first ≤ 0 → end ≤ window → Others words slots home hash greatest first end → PassedNear words slots home hash greatest end
+  pub passed-near : first ≤ 0 → end ≤ searchWindow → Others words slots home hash greatest first end → PassedNear words slots home hash greatest end
   passed-near z l os = record { few = l; each = λ d b. os .each d (omega arith) b }
 
   -- one slot more
@@ -59,8 +59,8 @@ module _ (words : List ℕ) (known : ℕ) (slots : List ℕ) (size : ℕ) (key :
       by (yes l) (yes b) = holds-below words known key slot (slot - 1) used refl l (r .formed) (rw g at b)
       by (yes l) (no m) = let u = used in holds-hash words known key slot (slot - 1) used refl l (r .formed) (r .hashed) (o .differs (omega arith))
 
-  module _ (home : ℕ) (is : home ≡ key .hash % size) (inside : home + window ≤ size) where
-    near-slot : (d : ℕ) → d < window → getD slots (home + d) 0 ≡ slotFrom slots size (key .hash) d
+  module _ (home : ℕ) (is : home ≡ key .hash % size) (inside : home + searchWindow ≤ size) where
+    near-slot : (d : ℕ) → d < searchWindow → getD slots (home + d) 0 ≡ slotFrom slots size (key .hash) d
     near-slot d l = ap (λ (x : ℕ). getD slots x 0) (round-inside (key .hash) home d size is (let m = inside in omega arith))
 
     -- what looking at them together needs is there

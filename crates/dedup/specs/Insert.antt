@@ -5,7 +5,6 @@ use mathlib.Core.List.{List}
 use lib.ListN.{length, getD, set, drop}
 use Rattle.definitions.specs.Intern.{capacity}
 use Rattle.dedup.specs.Table.{TableSize, Table, InUse}
-use Rattle.dedup.specs.Probe.{window}
 
 -- some slot is empty
 pub record Room (slots : List ℕ) (size : ℕ) : Type 0 where
@@ -15,11 +14,15 @@ pub record Room (slots : List ℕ) (size : ℕ) : Type 0 where
   pub below : place < size
   pub empty : getD slots place 0 ≡ 0
 
+-- how many slots are looked at together for an empty one
+abbrev pub freeWindow : ℕ
+freeWindow = 6
+
 -- so many slots from a place on are in use, and the next is empty or past the window
 pub record FirstEmpty (slots : List ℕ) (home first : ℕ) : Type 0 where
-  pub within : first ≤ window
+  pub within : first ≤ freeWindow
   pub used : (i : ℕ) → i < first → getD slots (home + i) 0 ≡ 0 → ⊥
-  pub empty : first < window → getD slots (home + first) 0 ≡ 0
+  pub empty : first < freeWindow → getD slots (home + first) 0 ≡ 0
 
 -- the first free place from a hash onward, round the end
 pub record FirstFree (slots : List ℕ) (size hash place : ℕ) : Type 0 where

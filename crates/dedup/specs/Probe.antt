@@ -59,9 +59,9 @@ Probed words known slots size key (Free place) = Frees words known slots size ke
 Probed words known slots size key Nowhere = Passed words known slots size key size
 
 -- ---- the first slots, looked at together
--- how many slots are looked at together
-abbrev pub window : ℕ
-window = 6
+-- how many slots are compared together
+abbrev pub searchWindow : ℕ
+searchWindow = 4
 
 -- the id whose hash is compared: the slot's own if it is not below the greatest child, else that child's
 pub record ComparedId (slot greatest id : ℕ) : Type 0 where
@@ -75,11 +75,11 @@ pub record OtherSlot (words : List ℕ) (hash greatest slot : ℕ) : Type 0 wher
 
 -- what looking at slots together needs: they do not go round the end, and the nodes of their ids and of the greatest child are there
 pub record NearReady (words slots : List ℕ) (home greatest : ℕ) : Type 0 where
-  pub inside : home + window ≤ length slots
+  pub inside : home + searchWindow ≤ length slots
   pub fits : greatest * nodeWords + nodeWords ≤ length words
-  pub there : (d : ℕ) → d < window → getD slots (home + d) 0 * nodeWords ≤ length words
+  pub there : (d : ℕ) → d < searchWindow → getD slots (home + d) 0 * nodeWords ≤ length words
 
 -- so many slots from a place on are in use by other nodes
 pub record PassedNear (words slots : List ℕ) (home hash greatest passed : ℕ) : Type 0 where
-  pub few : passed ≤ window
+  pub few : passed ≤ searchWindow
   pub each : (d : ℕ) → d < passed → OtherSlot words hash greatest (getD slots (home + d) 0)

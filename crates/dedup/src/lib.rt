@@ -1,12 +1,11 @@
 // The duplicate table of a store (dedup.rs): one node, one id. 01: "A slot is a 32-bit id + 1, or 0."
 ghost use mathlib.Core.Path.{_≡_};
-ghost use mathlib.Core.Option.{none};
 ghost use Prim.Native.Nat.{_≤_};
 ghost use Rattle.arena.specs.Layout.{mostNodes, arenaOf};
-ghost use Rattle.arena.specs.Node.{find};
 ghost use Rattle.definitions.specs.Says.{Says};
 ghost use Rattle.arena.specs.Nodes.{WellFormed, Nodes};
 ghost use Rattle.dedup.specs.Table.{TableSize, Table, hashAt};
+ghost use Rattle.dedup.specs.Probe.{Probed};
 ghost use Rattle.dedup.specs.Intern.{answered, Interns, Absent, HasRoom, OverNewest, InternsInRoom};
 ghost use Rattle.dedup.specs.declared.Answer.the-variants.{Refused};
 
@@ -143,26 +142,48 @@ fn has_room(words: usize, count: u64, size: usize) -> bool
     (count as usize) < load_limit(size)
 }
 
-// The id of a node that is none of the old ones, where it has room; else NO_ROOM, and nothing changes.
-fn insert_in_room(
+// What a search for a key ended at, answered: the id of an old node, or of a new one where it has room; else NO_ROOM, and
+// nothing changes.
+fn answer_in_room(
+    nodes: &mut [u64],
+    slots: &mut [u32],
+    count: &mut u64,
+    size: usize,
+    key: DagNode,
+    found: Place,
+) -> u64
+    requires { ⌜ Nodes (now nodes) (now count) × Table (hashAt (now nodes)) (now count) (now slots) size × WellFormed (now count) key × Probed (now nodes) (now count) (now slots) size key found ⌝ }
+    ensures { λ r. ⌜ InternsInRoom (now (nodes .entry)) (now (slots .entry)) (arenaOf (now (count .entry)) size) key r (now (nodes .exit)) (now (slots .exit)) (now (count .exit)) ⌝ }
+{
+    match found {
+        Place::Here(at) => slot_id(slots[at]),
+        Place::Free(at) => {
+            let id = *count;
+            if has_room(nodes.len(), id, size) {
+                slots[at] = (id + 1) as u32;
+                store_node(nodes, id, key);
+                *count = id + 1;
+                return id;
+            }
+            NO_ROOM
+        }
+        Place::Nowhere => NO_ROOM,
+    }
+}
+
+// The id of a node, old or new, where a new one has room; else NO_ROOM, and nothing changes.
+pub fn get_or_insert_in_room(
     nodes: &mut [u64],
     slots: &mut [u32],
     count: &mut u64,
     size: usize,
     key: DagNode,
 ) -> u64
-    requires { ⌜ Nodes (now nodes) (now count) × Table (hashAt (now nodes)) (now count) (now slots) size × WellFormed (now count) key × (find (now nodes) (now count) key ≡ none) ⌝ }
+    requires { ⌜ Nodes (now nodes) (now count) × Table (hashAt (now nodes)) (now count) (now slots) size × WellFormed (now count) key ⌝ }
     ensures { λ r. ⌜ InternsInRoom (now (nodes .entry)) (now (slots .entry)) (arenaOf (now (count .entry)) size) key r (now (nodes .exit)) (now (slots .exit)) (now (count .exit)) ⌝ }
 {
-    let id = *count;
-    if !has_room(nodes.len(), id, size) {
-        return NO_ROOM;
-    }
-    let free = free_place(slots, size, key.hash);
-    slots[free] = (id + 1) as u32;
-    store_node(nodes, id, key);
-    *count = id + 1;
-    id
+    let found = probe(nodes, slots, size, key, *count);
+    answer_in_room(nodes, slots, count, size, key, found)
 }
 
 // Whether the newest node is a child of the key. Children are lower than their node, so that then no node is the key.
@@ -177,8 +198,19 @@ fn is_over_newest(key: DagNode, count: u64) -> bool
     greatest_child(children) + 1 == count
 }
 
-// The id of a node, old or new, where a new one has room; else NO_ROOM, and nothing changes.
-pub fn get_or_insert_in_room(
+// The same search as `probe`, by slots looked at together. For a node over the newest one no node is compared.
+fn probe_together(nodes: &[u64], slots: &[u32], size: usize, key: DagNode, count: u64) -> Place
+    requires { ⌜ Nodes (now nodes) count × Table (hashAt (now nodes)) count (now slots) size × WellFormed count key ⌝ }
+    ensures { λ r. ⌜ Probed (now (nodes .entry)) count (now (slots .entry)) size key r ⌝ }
+{
+    if is_over_newest(key, count) {
+        return Place::Free(free_place(slots, size, key.hash));
+    }
+    probe_near(nodes, slots, size, key, count)
+}
+
+// The same as `get_or_insert_in_room`, for nodes that are made one over the other.
+pub fn get_or_insert_together(
     nodes: &mut [u64],
     slots: &mut [u32],
     count: &mut u64,
@@ -188,22 +220,6 @@ pub fn get_or_insert_in_room(
     requires { ⌜ Nodes (now nodes) (now count) × Table (hashAt (now nodes)) (now count) (now slots) size × WellFormed (now count) key ⌝ }
     ensures { λ r. ⌜ InternsInRoom (now (nodes .entry)) (now (slots .entry)) (arenaOf (now (count .entry)) size) key r (now (nodes .exit)) (now (slots .exit)) (now (count .exit)) ⌝ }
 {
-    let id = *count;
-    if is_over_newest(key, id) {
-        return insert_in_room(nodes, slots, count, size, key);
-    }
-    let found = probe_near(nodes, slots, size, key, id);
-    match found {
-        Place::Here(at) => slot_id(slots[at]),
-        Place::Free(at) => {
-            if has_room(nodes.len(), id, size) {
-                slots[at] = (id + 1) as u32;
-                store_node(nodes, id, key);
-                *count = id + 1;
-                return id;
-            }
-            NO_ROOM
-        }
-        Place::Nowhere => NO_ROOM,
-    }
+    let found = probe_together(nodes, slots, size, key, *count);
+    answer_in_room(nodes, slots, count, size, key, found)
 }

@@ -12,8 +12,8 @@ use arena::MOST_CHILDREN;
 use arena::NODE_WORDS;
 use arena::has_parts;
 
-// How many slots are looked at together, without a branch for each.
-pub(crate) const WINDOW: usize = 6;
+// How many slots are compared together, without a branch for each.
+const SEARCH_WINDOW: usize = 4;
 
 // Where a search ends: at a slot that holds the key's node, at an empty one, or after all slots.
 pub enum Place {
@@ -118,13 +118,13 @@ fn compared_id(slot: u32, greatest: u64) -> u64
     if greatest < next { next - 1 } else { greatest }
 }
 
-// How many slots from a place on, WINDOW at most, are surely in use by other nodes.
+// How many slots from a place on, SEARCH_WINDOW at most, are surely in use by other nodes.
 fn pass_near(nodes: &[u64], slots: &[u32], home: usize, hash: u64, greatest: u64) -> usize
     requires { ⌜ NearReady (now nodes) (now slots) home greatest ⌝ }
     ensures { λ r. ⌜ PassedNear (now (nodes .entry)) (now (slots .entry)) home hash greatest r ⌝ }
 {
-    let mut passed = WINDOW;
-    let mut i = WINDOW;
+    let mut passed = SEARCH_WINDOW;
+    let mut i = SEARCH_WINDOW;
     while 0 < i {
         i -= 1;
         let near = slots[home + i];
@@ -153,7 +153,7 @@ pub(crate) fn probe_near(
     let children = key.children;
     let greatest = greatest_child(children);
     let home = modulo_size(key.hash as usize, size);
-    if size - home < WINDOW {
+    if size - home < SEARCH_WINDOW {
         return probe(nodes, slots, size, key, known);
     }
     if known <= greatest {

@@ -3,13 +3,13 @@ use Prim.Native.Nat.{ℕ, _+_, _-_, _≤_}
 use mathlib.Core.Path.{_≡_, subst}
 use native.Mathlib.Omega.{arith}
 use borrow.Author.Needs.{needs}
-use Rattle.dedup.specs.Probe.{window}
+use Rattle.dedup.specs.Insert.{freeWindow}
 use Rattle.dedup.proofs.FreePlaces.{EmptyFrom, none-seen, empty-seen, used-seen, all-seen}
 use Rattle.dedup.proofs.filling.first_empty.Statement.{statement}
 use Rattle.dedup.proofs.filling.first_empty.Tie as tie
 
 abbrev Inv-loop : tie.InvT-loop
-Inv-loop slots home first₀ i₀ first i = (i ≤ window) × EmptyFrom slots home i first
+Inv-loop slots home first₀ i₀ first i = (i ≤ freeWindow) × EmptyFrom slots home i first
 
 abbrev μ-loop : tie.MeasureT-loop
 μ-loop slots home first₀ i₀ first i = i

@@ -4,13 +4,13 @@ use mathlib.Core.Logic.{⊎-elim}
 use native.Mathlib.Omega.{arith}
 use borrow.Author.Needs.{needs}
 use Rattle.arena.specs.Node.{nodeAt}
-use Rattle.dedup.specs.Probe.{window}
+use Rattle.dedup.specs.Probe.{searchWindow}
 use Rattle.dedup.proofs.Nearing.{other-slot, compared-fits, Others, others-none, others-more, passed-near}
 use Rattle.dedup.proofs.probing.pass_near.Statement.{statement}
 use Rattle.dedup.proofs.probing.pass_near.Tie as tie
 
 abbrev Inv-loop : tie.InvT-loop
-Inv-loop nodes slots home hash greatest passed₀ i₀ passed i = (i ≤ passed) × (passed ≤ window) × Others nodes slots home hash greatest i passed
+Inv-loop nodes slots home hash greatest passed₀ i₀ passed i = (i ≤ passed) × (passed ≤ searchWindow) × Others nodes slots home hash greatest i passed
 
 abbrev μ-loop : tie.MeasureT-loop
 μ-loop nodes slots home hash greatest passed₀ i₀ passed i = i
