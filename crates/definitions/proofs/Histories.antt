@@ -131,7 +131,8 @@ plain-promise l cs = record {
         → nth cs j ≡ some p → prunes p ≡ some (id, t) → nth (answers l empty cs) j ≡ some (pruned answer k d)
         → nth (states l empty cs) i ≡ some s1 → nth (states l empty cs) j ≡ some s3
         → T (le (ofBits binary64 t) one64) → Exact (formula (s0 .nodes) root) → SimplifySays (s0 .nodes) root (s1 .nodes) (simplified id spent steps)
-        → Exact (formula (s1 .nodes) id) × Balanced (formula (s0 .nodes) root) (formula (s1 .nodes) id) (formula (s3 .nodes) answer) (ofBits binary64 t) k d
+        → (root < length (s0 .nodes)) × (id < length (s1 .nodes)) × (answer < length (s3 .nodes)) × Exact (formula (s1 .nodes) id)
+        × Balanced (formula (s0 .nodes) root) (formula (s1 .nodes) id) (formula (s3 .nodes) answer) (ofBits binary64 t) k d
     balanced i j root depth budget id steps t answer k d spent p s0 s1 s3 lt ep eq ea' e1 e3 tu ex simple =
         let g = simple .2 ex in
         let (s2, e2) = some-before l empty cs j p ep in
@@ -139,9 +140,9 @@ plain-promise l cs = record {
         let st = goes-on l empty cs (suc i) j s1 s2 fresh-sound lt e1 e2 in
         let says = prune-says l s2 s3 p id t answer k d (st .sound) eq (q .0) (q .1) in
         let same : formula (s2 .nodes) id ≡ formula (s1 .nodes) id = st .kept id (simple .1) in
-        let b = says .1 tu (subst Exact (sym same) (g .exact)) in
+        let b = says .2 tu (subst Exact (sym same) (g .exact)) in
         let b' = subst (λ u. Balanced u u (formula (s3 .nodes) answer) (ofBits binary64 t) k d) same b in
-        (g .exact, record { value = λ r. sym (g .equal r) ∙ b' .value r; counts = b' .counts; shape = b' .shape })
+        (simple .0, simple .1, says .1, g .exact, record { value = λ r. sym (g .equal r) ∙ b' .value r; counts = b' .counts; shape = b' .shape })
 
 -- ---- a chain of calls that meet their contracts is the plain machine's run
 module _ (M : Model) where

@@ -11,7 +11,10 @@ use Rattle.definitions.specs.Machine.{Call, store, variable, constant, a
 use Rattle.definitions.specs.Formula.{tree, nil, cons, formula}
 use Rattle.definitions.specs.Exact.{Exact, bound}
 use Rattle.definitions.specs.Promise.{Model, Called, Fresh, History, done, next, Balanced, Promise}
+use Rattle.definitions.specs.Value.{Reading, valueOf}
+use Rattle.definitions.specs.Moved.{Moved}
 use Rattle.definitions.proofs.Histories.{demand3}
+use Rattle.definitions.proofs.Moved.{dropped-count-bounds}
 
 abbrev lent : Lent
 lent = record { nodes = 512; slots = 1024 }
@@ -47,4 +50,9 @@ pub instance : Balanced (formula (stateAfter 7 .nodes) 6)
 unfolding answers states run call addFloat mulFloat le lt eq ofBits formula
 instance =
     kept-promise .balance 7 9 6 255 100 8 9 0x3FF0000000000000 0 1 1 false (prune 8 0x3FF0000000000000) (stateAfter 7) (stateAfter 8) (stateAfter 10) (lit< tt)
-    refl refl refl refl refl refl refl refl tt old-is-exact .1
+    refl refl refl refl refl refl refl refl tt old-is-exact .4
+
+-- one term was dropped at threshold 1: the value moved by less than 1
+pub instance-moved : (r : Reading) → Moved (valueOf r (formula (stateAfter 7 .nodes) 6)) (valueOf r (tree 0 7 0 nil)) (ofBits binary64 0x3FF0000000000000) 1
+unfolding le lt eq ofBits
+instance-moved = dropped-count-bounds (formula (stateAfter 7 .nodes) 6) _ (tree 0 7 0 nil) (ofBits binary64 0x3FF0000000000000) 1 1 tt instance

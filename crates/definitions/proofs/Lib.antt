@@ -20,8 +20,10 @@ pub mod NearestTest
 pub mod NearestSettings
 pub mod NearestNumber
 pub mod SettingAnswers
+pub mod Moved
 pub mod Instance
 pub mod FractionBits
+pub mod Coefficients
 pub mod OneNumber
 pub mod KnownNames
 pub mod SheetCalls

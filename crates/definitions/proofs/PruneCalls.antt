@@ -67,7 +67,7 @@ no-chain s t e =
 abbrev pub PruneSays : List Node → ℕ → ℕ → List Node → Answer → Type 0
 PruneSays ns i t ms (stored j) = Unit {0}
 PruneSays ns i t ms (simplified j b k) = Unit {0}
-PruneSays ns i t ms (pruned u k d) = (i < length ns) × (T (le (ofBits binary64 t) one64) → Exact (formula ns i) → Balanced (formula ns i) (formula ns i) (formula ms u) (ofBits binary64 t) k d)
+PruneSays ns i t ms (pruned u k d) = (i < length ns) × (u < length ms) × (T (le (ofBits binary64 t) one64) → Exact (formula ns i) → Balanced (formula ns i) (formula ns i) (formula ms u) (ofBits binary64 t) k d)
 PruneSays ns i t ms (refused r) = Unit {0}
 
 -- a prune at a threshold that is not refused
@@ -97,6 +97,7 @@ prunes-at l ns i t ht s = one (ltb i (length ns)) refl
       step = x .0;
       says = (
         h,
+        x .1,
         λ tu ex.
             let th = threshold-of t ht tu in
             let K = filter (λ u. not (belowThreshold v u)) in
@@ -119,7 +120,7 @@ prunes-at l ns i t ht s = one (ltb i (length ns)) refl
 
     two : i < length ns → (b : Bool) → eqb (n .kind) 2 ≡ b → Done ns (PruneSays ns i t) (cond b (pruneChain l ns v ts) (outcome (pruned i 1 0) ns))
     two h true e = three h e (ltb mostTerms (length ts)) refl
-    two h false e = record { step = stay ns s; says = (h, λ tu ex. no-chain (formula ns i) v (add-is h ∙ e)) }
+    two h false e = record { step = stay ns s; says = (h, h, λ tu ex. no-chain (formula ns i) v (add-is h ∙ e)) }
 
     one : (b : Bool) → ltb i (length ns) ≡ b → Done ns (PruneSays ns i t) (cond b (cond (eqb (n .kind) 2) (pruneChain l ns v ts) (outcome (pruned i 1 0) ns)) (outcome (refused 4) ns))
     one true e = two (ltb-true i (length ns) e) (eqb (n .kind) 2) refl

@@ -13,8 +13,10 @@ pub mod Formula
 pub mod Dyadic
 pub mod Value
 pub mod Exact
+pub mod ExactExamples
 pub mod Chain
 pub mod Promise
+pub mod Moved
 pub mod Names
 pub mod Sheet
 pub mod SheetCalls

@@ -94,13 +94,15 @@ pub record Promise (l : Lent) (cs : List Call) (al : List Answer) (ss : List Sta
   pub unique : (i id id' : ℕ) (s : State) → nth ss i ≡ some s → id < length (s .nodes) → id' < length (s .nodes)
       → formula (s .nodes) id ≡ formula (s .nodes) id' → id ≡ id'
   -- an answered simplify at i, of a formula of the exact kind, and a later answered prune of its answer at j, at a threshold from 0 to 1: the
-  -- simplified formula is of the exact kind too, so that every constant in it is a number
+  -- simplified formula is of the exact kind too, so that every constant in it is a number; each of the three ids is that of a node, so that
+  -- none of the three formulas is what stands for an id without one (`noFormula` of Formula.antt)
   pub balance : (i j root depth budget id steps t answer keptCount droppedCount : ℕ) (spent : Bool) (p : Call) (s0 s1 s3 : State) → i < j
       → nth cs i ≡ some (simplify root depth budget) → nth al i ≡ some (simplified id spent steps)
       → nth cs j ≡ some p → prunes p ≡ some (id, t) → nth al j ≡ some (pruned answer keptCount droppedCount)
       → nth (empty ∷ ss) i ≡ some s0 → nth ss i ≡ some s1 → nth ss j ≡ some s3
       → T (le (ofBits binary64 t) one64) → Exact (formula (s0 .nodes) root)
-      → Exact (formula (s1 .nodes) id)
+      → (root < length (s0 .nodes)) × (id < length (s1 .nodes)) × (answer < length (s3 .nodes))
+      × Exact (formula (s1 .nodes) id)
       × Balanced (formula (s0 .nodes) root) (formula (s1 .nodes) id) (formula (s3 .nodes) answer) (ofBits binary64 t) keptCount droppedCount
 
 -- ---- demand 3, one statement about the whole list
