@@ -23,18 +23,24 @@ use Rattle.store.specs.declared.Answer.{Answer}
 use Rattle.store.specs.declared.Answer.the-variants.{Id, Refused}
 use Rattle.store.specs.Sound.{Sound}
 use Rattle.store.specs.View.{plainNode, nodesIn, lent, Builds}
-use Rattle.store.specs.Number.{numberOf, BuildsNumber}
+use Rattle.store.specs.Number.{numberOf, BuildsNumber, InternsNumber}
+use Rattle.store.specs.Interning.{Interns}
 use Rattle.store.proofs.Refining.{seen}
 use Rattle.store.proofs.Stopping.{refusal-small}
 
 -- an answer that is taken apart
-pub as-number : (w slots : List ℕ) (a : DagArena) (plain : I.Built) (w′ slots′ : List ℕ) (r : Built) (x : Answer) → r .answer ≡ x → Builds w slots a plain w′ slots′ r
-    → BuildsNumber w slots a plain w′ slots′ (numberOf x) (r .arena)
-as-number w slots a plain w′ slots′ r x e b = record {
+pub as-number : (w slots : List ℕ) (a : DagArena) (n : N.Node) (w′ slots′ : List ℕ) (r : Built) (x : Answer) → r .answer ≡ x → Interns w slots a n w′ slots′ r
+    → InternsNumber w slots a n w′ slots′ (numberOf x) (r .arena)
+as-number w slots a n w′ slots′ r x e i = record {
   answer = x;
   is = refl;
-  builds = subst (λ (y : Answer). Builds w slots a plain w′ slots′ (record { answer = y; arena = r .arena })) e b;
+  interns = subst (λ (y : Answer). Interns w slots a n w′ slots′ (record { answer = y; arena = r .arena })) e i;
 }
+
+-- what is interned is built
+pub builds-number : (w slots : List ℕ) (a : DagArena) (n : N.Node) (w′ slots′ : List ℕ) (number : ℕ) (a′ : DagArena) → InternsNumber w slots a n w′ slots′ number a′
+    → BuildsNumber w slots a (I.intern (lent w slots) (nodesIn w (a .count)) n) w′ slots′ number a′
+builds-number w slots a n w′ slots′ number a′ i = record { answer = i .answer; is = i .is; builds = i .interns .builds }
 
 -- a number is past every id by a refusal's number at most
 pub number-small : (w slots : List ℕ) (a : DagArena) (n : N.Node) (w′ slots′ : List ℕ) (number : ℕ) (a′ : DagArena) → BuildsNumber w slots a (I.intern (lent w slots) (nodesIn w (a .count)) n) w′ slots′ number a′ → number ≤ mostNodes + noSlotPlace
@@ -45,13 +51,13 @@ number-small w slots a n w′ slots′ number a′ b = go (b .answer) (b .is) (b
     go (Refused k) e h = let s = refusal-small _ _ _ (Refused k) k _ refl (h .answer) in omega arith
 
 -- an id that the table answers
-pub id-builds : (w slots : List ℕ) (a : DagArena) (key : DagNode) → length (key .children) ≡ mostChildren → WellFormed (a .count) key → Sound w slots a
+pub id-interns : (w slots : List ℕ) (a : DagArena) (key : DagNode) → length (key .children) ≡ mostChildren → WellFormed (a .count) key → Sound w slots a
     → (id : ℕ) (w′ slots′ : List ℕ) (count′ : ℕ) → InternsId w slots a key id w′ slots′ count′ → length w′ ≡ length w → length slots′ ≡ length slots
-    → BuildsNumber w slots a (I.intern (lent w slots) (nodesIn w (a .count)) (plainNode key)) w′ slots′ id (arenaOf count′ (a .size))
-id-builds w slots a key four f h id w′ slots′ count′ i lw ls = record {
+    → InternsNumber w slots a (plainNode key) w′ slots′ id (arenaOf count′ (a .size))
+id-interns w slots a key four f h id w′ slots′ count′ i lw ls = record {
   answer = Id id;
   is = refl;
-  builds = ⊎-elim (λ e. seen w slots a key four f h _ w′ slots′ (i .interns) lw ls (Old id) e .builds) (λ e. seen w slots a key four f h _ w′ slots′ (i .interns) lw ls (New id) e .builds) (i .is);
+  interns = ⊎-elim (λ e. seen w slots a key four f h _ w′ slots′ (i .interns) lw ls (Old id) e) (λ e. seen w slots a key four f h _ w′ slots′ (i .interns) lw ls (New id) e) (i .is);
 }
 
 -- an id whose node is one with the key
@@ -60,13 +66,12 @@ pub likely-builds : (w slots : List ℕ) (a : DagArena) (key : DagNode) → leng
     → BuildsNumber w slots a (I.intern (lent w slots) (nodesIn w (a .count)) (plainNode key)) w slots id (arenaOf (a .count) (a .size))
 likely-builds w slots a key four f h id l o =
     let many = h .nodes .formed .many in
-    id-builds w slots a key four f h id w slots (a .count) (old-in-room w slots a key id (find-one w key (a .count) (h .nodes) id l o) (h .nodes) (h .table) .answered (λ e. omega arith)) refl refl
+    builds-number w slots a (plainNode key) w slots id _ (id-interns w slots a key four f h id w slots (a .count) (old-in-room w slots a key id (find-one w key (a .count) (h .nodes) id l o) (h .nodes) (h .table) .answered (λ e. omega arith)) refl refl)
 
 -- where nothing changed, the general call is as on the memory before
 module _ (w slots : List ℕ) (count size : ℕ) (w₁ slots₁ : List ℕ) (count₁ : ℕ) (u : Unchanged w slots (arenaOf count size) w₁ slots₁ count₁) where
   pub still-ready : (key : DagNode) → WellFormed count key → Sound w slots (arenaOf count size) → WellFormed count₁ key × Sound w₁ slots₁ (arenaOf count₁ size)
   still-ready key f h = rw (u .same-words, u .same-slots, u .same-count) (f, h)
 
-  pub still-builds : (n : N.Node) (w′ slots′ : List ℕ) (number : ℕ) (a′ : DagArena) → BuildsNumber w₁ slots₁ (arenaOf count₁ size) (I.intern (lent w₁ slots₁) (nodesIn w₁ count₁) n) w′ slots′ number a′
-      → BuildsNumber w slots (arenaOf count size) (I.intern (lent w slots) (nodesIn w count) n) w′ slots′ number a′
-  still-builds n w′ slots′ number a′ b = rw (← u .same-words, ← u .same-slots, ← u .same-count) b
+  pub still-interns : (n : N.Node) (w′ slots′ : List ℕ) (number : ℕ) (a′ : DagArena) → InternsNumber w₁ slots₁ (arenaOf count₁ size) n w′ slots′ number a′ → InternsNumber w slots (arenaOf count size) n w′ slots′ number a′
+  still-interns n w′ slots′ number a′ i = rw (← u .same-words, ← u .same-slots, ← u .same-count) i

@@ -9,7 +9,7 @@ ghost use Rattle.store.specs.Sound.{Sound};
 ghost use Rattle.store.specs.View.{plainNode, nodesIn, lent, Builds};
 ghost use Rattle.store.specs.Lookup.{Fits};
 ghost use Rattle.store.specs.Interning.{Interns};
-ghost use Rattle.store.specs.Number.{BuildsNumber};
+ghost use Rattle.store.specs.Number.{BuildsNumber, InternsNumber};
 use crate::Answer;
 use crate::Built;
 use crate::REFUSALS;
@@ -20,6 +20,7 @@ use arena::has_parts;
 use dedup::NO_ROOM;
 use dedup::get_or_insert;
 use dedup::get_or_insert_in_room;
+use dedup::get_or_insert_together;
 
 // The id of a node by value.
 pub fn intern_node(nodes: &mut [u64], slots: &mut [u32], arena: DagArena, key: DagNode) -> Built
@@ -64,7 +65,7 @@ pub fn intern(
 }
 
 // The id of a node by value, or a refusal, as one number. The table grows where it must.
-fn intern_node_number(
+fn intern_growing(
     nodes: &mut [u64],
     slots: &mut [u32],
     count: &mut u64,
@@ -72,7 +73,7 @@ fn intern_node_number(
     key: DagNode,
 ) -> u64
     requires { ⌜ WellFormed (now count) key × Sound (now nodes) (now slots) (arenaOf (now count) (now size)) ⌝ }
-    ensures { λ r. ⌜ BuildsNumber (now (nodes .entry)) (now (slots .entry)) (arenaOf (now (count .entry)) (now (size .entry))) (I.intern (lent (now (nodes .entry)) (now (slots .entry))) (nodesIn (now (nodes .entry)) (now (count .entry))) (plainNode key)) (now (nodes .exit)) (now (slots .exit)) r (arenaOf (now (count .exit)) (now (size .exit))) ⌝ }
+    ensures { λ r. ⌜ InternsNumber (now (nodes .entry)) (now (slots .entry)) (arenaOf (now (count .entry)) (now (size .entry))) (plainNode key) (now (nodes .exit)) (now (slots .exit)) r (arenaOf (now (count .exit)) (now (size .exit))) ⌝ }
 {
     let arena = DagArena {
         count: *count,
@@ -89,28 +90,40 @@ fn intern_node_number(
     }
 }
 
-// The id of a node with these parts, or a refusal, as one number. Only a new node without room takes the
-// general call.
-fn intern_number(
+// The id of a node by value, or a refusal, as one number. Only a new node without room takes the general call.
+pub fn intern_number(
     nodes: &mut [u64],
     slots: &mut [u32],
     count: &mut u64,
     size: &mut usize,
-    kind: u64,
-    payload: u64,
-    flags: u64,
-    arity: u64,
-    children: [u64; MOST_CHILDREN],
+    key: DagNode,
 ) -> u64
-    requires { ⌜ Fits (now count) kind payload flags arity children × Sound (now nodes) (now slots) (arenaOf (now count) (now size)) ⌝ }
-    ensures { λ r. ⌜ BuildsNumber (now (nodes .entry)) (now (slots .entry)) (arenaOf (now (count .entry)) (now (size .entry))) (I.intern (lent (now (nodes .entry)) (now (slots .entry))) (nodesIn (now (nodes .entry)) (now (count .entry))) (N.node kind payload flags (take arity children))) (now (nodes .exit)) (now (slots .exit)) r (arenaOf (now (count .exit)) (now (size .exit))) ⌝ }
+    requires { ⌜ WellFormed (now count) key × Sound (now nodes) (now slots) (arenaOf (now count) (now size)) ⌝ }
+    ensures { λ r. ⌜ InternsNumber (now (nodes .entry)) (now (slots .entry)) (arenaOf (now (count .entry)) (now (size .entry))) (plainNode key) (now (nodes .exit)) (now (slots .exit)) r (arenaOf (now (count .exit)) (now (size .exit))) ⌝ }
 {
-    let key = DagNode::new(kind, payload, flags, arity, children);
     let id = get_or_insert_in_room(nodes, slots, count, *size, key);
     if id != NO_ROOM {
         return id;
     }
-    intern_node_number(nodes, slots, count, size, key)
+    intern_growing(nodes, slots, count, size, key)
+}
+
+// The same for nodes that are made one over the other.
+fn intern_together(
+    nodes: &mut [u64],
+    slots: &mut [u32],
+    count: &mut u64,
+    size: &mut usize,
+    key: DagNode,
+) -> u64
+    requires { ⌜ WellFormed (now count) key × Sound (now nodes) (now slots) (arenaOf (now count) (now size)) ⌝ }
+    ensures { λ r. ⌜ InternsNumber (now (nodes .entry)) (now (slots .entry)) (arenaOf (now (count .entry)) (now (size .entry))) (plainNode key) (now (nodes .exit)) (now (slots .exit)) r (arenaOf (now (count .exit)) (now (size .exit))) ⌝ }
+{
+    let id = get_or_insert_together(nodes, slots, count, *size, key);
+    if id != NO_ROOM {
+        return id;
+    }
+    intern_growing(nodes, slots, count, size, key)
 }
 
 // The id of a node with these parts, or a refusal, as one number. An id that may be the node's own is looked at first: if
@@ -135,15 +148,6 @@ pub fn intern_likely(
             return likely;
         }
     }
-    intern_number(
-        nodes,
-        slots,
-        count,
-        size,
-        kind,
-        payload,
-        flags,
-        arity,
-        children,
-    )
+    let key = DagNode::new(kind, payload, flags, arity, children);
+    intern_together(nodes, slots, count, size, key)
 }

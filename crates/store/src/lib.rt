@@ -5,6 +5,7 @@ pub mod lookup;
 pub use interning::intern;
 pub use interning::intern_likely;
 pub use interning::intern_node;
+pub use interning::intern_number;
 pub use lookup::arity;
 pub use lookup::child;
 pub use lookup::children;

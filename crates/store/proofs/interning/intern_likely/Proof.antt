@@ -1,11 +1,12 @@
 -- `store::interning::intern_likely` meets its contract: the likely id's node is one with the key, or the call goes on as without it.
-use mathlib.Core.Path.{_≡_, sym, _∙_}
+use mathlib.Core.Path.{_≡_, sym, subst, _∙_}
 use lib.ListN.{length}
 use borrow.Author.Needs.{needs}
 use Rattle.arena.specs.Layout.{mostChildren}
 use Rattle.arena.specs.Node.{newNode}
+use Rattle.arena.specs.Nodes.{WellFormed}
 use Rattle.store.proofs.NewNodes.{new-formed, new-plain}
-use Rattle.store.proofs.Numbers.{likely-builds}
+use Rattle.store.proofs.Numbers.{likely-builds, builds-number}
 use Rattle.store.proofs.interning.intern_likely.Statement.{statement}
 use Rattle.store.proofs.interning.intern_likely.Tie as tie
 
@@ -25,8 +26,11 @@ returns c =
     rw (← new-plain _ _ _ _ _ _ (e .pre .0))
     (likely-builds _ _ _ _ (four e) (new-formed _ _ _ _ _ _ (e .pre .0)) (e .pre .1) _ (c .before .before .before .before .if1 .taken) (sym (c .before .has-parts .ensures) ∙ c .if2 .taken))
 
-intern-number-requires : tie.Need-intern-number-requires
-intern-number-requires c κs = search needs
+new-requires : tie.Need-new-requires
+new-requires c κs = search needs
+
+intern-together-requires : tie.Need-intern-together-requires
+intern-together-requires c κs = let e = c .before .before .before .before .before .before .before .before .before in (subst (WellFormed _) (sym (c .before .before .before .before .new .ensures)) (new-formed _ _ _ _ _ _ (e .pre .0)), e .pre .1)
 
 same-length-2 : tie.Need-same-length-2
 same-length-2 c = search needs
@@ -35,7 +39,9 @@ same-length-3 : tie.Need-same-length-3
 same-length-3 c = search needs
 
 returns-2 : tie.Need-returns-2
-returns-2 c = search needs
+returns-2 c =
+    let e = c .before .before .before .before .before .before .before .before .before .before .before .before .before .before in
+    rw (← new-plain _ _ _ _ _ _ (e .pre .0), ← c .before .before .before .before .before .before .before .before .before .new .ensures) (builds-number _ _ _ _ _ _ _ _ (c .before .before .before .before .intern-together .ensures))
 
 pub intern-likely-spec : {M : Type 1} → statement M
 intern-likely-spec =
@@ -44,7 +50,8 @@ intern-likely-spec =
     has-parts-requires
     same-length
     returns
-    intern-number-requires
+    new-requires
+    intern-together-requires
     same-length-2
     same-length-3
     returns-2)
