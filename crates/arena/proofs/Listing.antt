@@ -73,17 +73,25 @@ leaf-children zero payload arity l n = rw (ne-eqb arity 0 n) (and-false (isNumbe
 leaf-children (suc zero) payload arity l n = rw (ne-eqb arity 0 n) refl
 leaf-children (suc (suc kind)) payload arity l n = absurd (omega arith)
 
-pub constant : (kind payload arity : ℕ) → kind ≡ 1 → arity ≡ 0 → true ≡ listed kind payload arity
+pub leaf-constant : (kind payload arity : ℕ) → kind ≡ 1 → arity ≡ 0 → true ≡ listed kind payload arity
 unfolding listed
-constant kind payload arity e n = rw (e, n) refl
+leaf-constant kind payload arity e n = rw (e, n) refl
 
-pub variable : (kind payload arity : ℕ) → kind ≤ 1 → (kind ≡ 1 → ⊥) → arity ≡ 0 → ltb payload 4294967296 ≡ listed kind payload arity
+pub leaf-variable : (kind payload arity : ℕ) → kind ≤ 1 → (kind ≡ 1 → ⊥) → arity ≡ 0 → ltb payload 4294967296 ≡ listed kind payload arity
 unfolding listed
-variable zero payload arity l c n = rw n (and-true (isNumber payload))
-variable (suc zero) payload arity l c n = absurd (c refl)
-variable (suc (suc kind)) payload arity l c n = absurd (omega arith)
+leaf-variable zero payload arity l c n = rw n (and-true (isNumber payload))
+leaf-variable (suc zero) payload arity l c n = absurd (c refl)
+leaf-variable (suc (suc kind)) payload arity l c n = absurd (omega arith)
 
 module _ (kind payload arity : ℕ) where
+  pub variable-low : kind ≡ 0 → payload < 4294967296 → eqb arity 0 ≡ listed kind payload arity
+  unfolding listed
+  variable-low e l = rw (e, lt-ltb payload 4294967296 l) refl
+
+  pub constant : kind ≡ 1 → eqb arity 0 ≡ listed kind payload arity
+  unfolding listed
+  constant e = rw e refl
+
   pub function-low : kind ≡ 16 → payload < 4294967296 → leb arity mostChildren ≡ listed kind payload arity
   unfolding listed
   function-low e l = rw (e, lt-ltb payload 4294967296 l) refl

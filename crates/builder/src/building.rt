@@ -19,8 +19,9 @@ use definitions::refusals::BAD_OPERAND;
 use definitions::refusals::NOT_SOUND;
 use store::Answer;
 use store::Built;
+use store::answer_in;
 use store::audit;
-use store::intern_node;
+use store::intern_number;
 
 // Whether all operands are ids below the count.
 fn all_below(operands: &[u32], count: u64) -> bool
@@ -60,28 +61,6 @@ fn child_places(operands: &[u32]) -> [u64; MOST_CHILDREN]
     ]
 }
 
-// An answer, handed on part by part: a copy of the whole would wait until its parts are in memory.
-fn by_parts(built: Built) -> Built
-    ensures { λ r. ⌜ r ≡ built ⌝ }
-{
-    let answer = built.answer;
-    let after = built.arena;
-    let arena = DagArena {
-        count: after.count,
-        size: after.size,
-    };
-    match answer {
-        Answer::Id(id) => Built {
-            answer: Answer::Id(id),
-            arena,
-        },
-        Answer::Refused(number) => Built {
-            answer: Answer::Refused(number),
-            arena,
-        },
-    }
-}
-
 // The id of a node over these operands, or 5, 6, 4, 21 or 22, on a store that is known to be sound.
 pub fn build_sound(
     nodes: &mut [u64],
@@ -117,7 +96,14 @@ pub fn build_sound(
     }
     let children = child_places(operands);
     let key = DagNode::new(kind, payload, flags, arity, children);
-    by_parts(intern_node(nodes, slots, arena, key))
+    // The counts and the answer are handed on as numbers: a struct of parts just written would be waited for.
+    let mut count = arena.count;
+    let mut size = arena.size;
+    let number = intern_number(nodes, slots, &mut count, &mut size, key);
+    Built {
+        answer: answer_in(number),
+        arena: DagArena { count, size },
+    }
 }
 
 // The same after the audit: 20 comes first.

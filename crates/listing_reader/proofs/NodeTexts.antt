@@ -61,7 +61,7 @@ small-kind : (kind payload arity : ℕ) → listed kind payload arity ≡ true �
 small-kind kind payload arity h = go (decLt 32 kind)
   where
     go : Dec (32 < kind) → kind ≤ 32
-    go (yes l) = absurd (false≢true (no-kind kind payload arity (λ e. omega arith) (λ e. omega arith) (omega arith) (λ e. omega arith) (λ e. omega arith) ∙ h))
+    go (yes l) = absurd (false≢true (no-kind kind payload arity (omega arith) (omega arith) (λ e. omega arith) (λ e. omega arith) ∙ h))
     go (no l) = omega arith
 
 module _ {text : List ℕ} {id : ℕ} {n : DagNode} {rest : List ℕ} (l : LineOf text id n rest) where

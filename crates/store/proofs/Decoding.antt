@@ -1,15 +1,18 @@
 -- The answer that a number stands for.
-use Prim.Native.Nat.{ℕ, _-_, _≤_, _<_}
-use mathlib.Core.Path.{_≡_, sym, subst}
+use Prim.Native.Nat.{ℕ, _+_, _-_, _≤_, _<_}
+use mathlib.Core.Path.{_≡_, refl, sym, subst}
 use mathlib.Core.List.{List}
 use native.Mathlib.Omega.{arith}
 use Rattle.arena.specs.declared.DagArena.{DagArena}
 use Rattle.arena.specs.Layout.{mostNodes}
+use borrow.Author.Tests.{le-leb, lt-leb}
+use Rattle.definitions.specs.Node as N
 use Rattle.definitions.specs.Intern as I
 use Rattle.store.specs.declared.Answer.{Answer}
 use Rattle.store.specs.declared.Answer.the-variants.{Id, Refused}
-use Rattle.store.specs.View.{Builds}
-use Rattle.store.specs.Number.{numberOf, BuildsNumber}
+use Rattle.store.specs.View.{Low, Builds}
+use Rattle.store.specs.Interning.{Interns}
+use Rattle.store.specs.Number.{numberOf, answerIn, BuildsNumber, InternsNumber}
 
 module _ (words slots : List ℕ) (a : DagArena) (plain : I.Built) (words′ slots′ : List ℕ) (a′ : DagArena) where
   abbrev Answers : Answer → Type 0
@@ -30,6 +33,22 @@ module _ (words slots : List ℕ) (a : DagArena) (plain : I.Built) (words′ slo
         go : (answer : Answer) → number ≡ numberOf answer → Answers answer → Answers (Refused (number - mostNodes))
         go (Id id) e h = absurd (let low : id < a′ .count = h .low in omega (arith, h .kept .whole .nodes .formed .many))
         go (Refused k) e h = let same : k ≡ number - mostNodes = omega arith in subst (λ (n : ℕ). Answers (Refused n)) same h
+
+-- the number of an answer stands for it, where its id is one of the store
+answer-in : (answer : Answer) (count : ℕ) → count ≤ mostNodes → Low answer count → answerIn (numberOf answer) ≡ answer
+unfolding answerIn
+answer-in (Id id) count most low = rw (lt-leb mostNodes id (let l : id < count = low in omega arith)) refl
+answer-in (Refused k) count most low = let e : mostNodes + k - mostNodes ≡ k = omega arith in rw (le-leb mostNodes (mostNodes + k) (omega arith), e) refl
+
+pub builds-in : (words slots : List ℕ) (a : DagArena) (plain : I.Built) (words′ slots′ : List ℕ) (number : ℕ) (a′ : DagArena) → BuildsNumber words slots a plain words′ slots′ number a′
+    → Builds words slots a plain words′ slots′ (record { answer = answerIn number; arena = a′ })
+builds-in words slots a plain words′ slots′ number a′ b =
+    rw (b .is, answer-in (b .answer) (a′ .count) (b .builds .kept .whole .nodes .formed .many) (b .builds .low)) (b .builds)
+
+pub interns-in : (words slots : List ℕ) (a : DagArena) (n : N.Node) (words′ slots′ : List ℕ) (number : ℕ) (a′ : DagArena) → InternsNumber words slots a n words′ slots′ number a′
+    → Interns words slots a n words′ slots′ (record { answer = answerIn number; arena = a′ })
+interns-in words slots a n words′ slots′ number a′ i =
+    rw (i .is, answer-in (i .answer) (a′ .count) (i .interns .builds .kept .whole .nodes .formed .many) (i .interns .builds .low)) (i .interns)
 
 -- a number that answers one call answers another that leaves the same memory with the same answer
 module _ (words slots : List ℕ) (a : DagArena) (plain : I.Built) (words₀ slots₀ : List ℕ) (a₀ : DagArena) (plain₀ : I.Built) (words′ slots′ : List ℕ) (a′ : DagArena) (number : ℕ) (b : BuildsNumber words slots a plain words′ slots′ number a′) where

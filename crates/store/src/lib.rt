@@ -13,7 +13,9 @@ pub use lookup::is_canonical;
 pub use lookup::kind;
 pub use lookup::mark;
 pub use lookup::payload;
+ghost use mathlib.Core.Path.{_≡_};
 ghost use Rattle.definitions.specs.Says.{Says};
+ghost use Rattle.store.specs.Number.{answerIn};
 ghost use Rattle.store.specs.Sound.{Sound};
 use arena::DagArena;
 use arena::MOST_NODES;
@@ -31,6 +33,17 @@ pub enum Answer {
 pub struct Built {
     pub answer: Answer,
     pub arena: DagArena,
+}
+
+// The answer that a number stands for.
+pub fn answer_in(number: u64) -> Answer
+    ensures { λ r. ⌜ r ≡ answerIn number ⌝ }
+{
+    if REFUSALS <= number {
+        Answer::Refused(number - REFUSALS)
+    } else {
+        Answer::Id(number)
+    }
 }
 
 // Whether the store is sound.

@@ -4,6 +4,7 @@ use borrow.Author.Tests.{not-true, not-false}
 use Rattle.arena.specs.Nodes.{WellFormed}
 use Rattle.arena.proofs.Listing.{listed-few}
 use Rattle.store.proofs.NewNodes.{new-formed}
+use Rattle.store.proofs.Decoding.{interns-in}
 use Rattle.builder.proofs.Requesting.{refuse-code, refuse-count, refuse-operand, fits, interned}
 use borrow.Author.Needs.{needs}
 use Rattle.builder.proofs.building.build_sound.Statement.{statement}
@@ -30,11 +31,15 @@ child-places-requires c κs = listed-few _ _ _ (sym (c .before .before .before .
 new-requires : tie.Need-new-requires
 new-requires c κs = search needs
 
-intern-node-requires : tie.Need-intern-node-requires
-intern-node-requires c κs = (subst (WellFormed _) (sym (c .before .before .new .ensures)) (new-formed _ _ _ _ _ _ (fits _ _ _ _ _ _ _ _ (c .before .before .before .before .before .before .before .before .before .before .before .before .pre .0) (c .before .before .before .before .before .before .before .before .before .before .before .before .pre .1) (not-false _ (c .before .before .before .before .before .before .before .before .if1 .left)) (sym (c .before .before .before .before .before .before .before .is-listed .ensures) ∙ not-false _ (c .before .before .before .before .before .before .if2 .left)) (sym (c .before .before .before .before .before .all-below .ensures) ∙ not-false _ (c .before .before .before .before .if3 .left)) _ (c .before .before .before .child-places .ensures))), c .before .before .before .before .before .before .before .before .before .before .before .before .pre .1)
+intern-number-requires : tie.Need-intern-number-requires
+intern-number-requires c κs =
+    let n = c .before .before .before .before in
+    let e = n .before .before in
+    let s = e .before .before .before .before .before .before .before .before in
+    (subst (WellFormed _) (sym (n .new .ensures)) (new-formed _ _ _ _ _ _ (fits _ _ _ _ _ _ _ _ (s .pre .0) (s .pre .1) (not-false _ (e .before .before .before .before .if1 .left)) (sym (e .before .before .before .is-listed .ensures) ∙ not-false _ (e .before .before .if2 .left)) (sym (e .before .all-below .ensures) ∙ not-false _ (e .if3 .left)) _ (n .before .child-places .ensures))), s .pre .1)
 
-by-parts-requires : tie.Need-by-parts-requires
-by-parts-requires c κs = search needs
+answer-in-requires : tie.Need-answer-in-requires
+answer-in-requires c κs = search needs
 
 same-length : tie.Need-same-length
 same-length c = search needs
@@ -43,7 +48,12 @@ same-length-2 : tie.Need-same-length-2
 same-length-2 c = search needs
 
 returns-4 : tie.Need-returns-4
-returns-4 c = rw (c .by-parts .ensures) (interned _ _ _ _ _ _ _ _ (c .before .before .before .before .before .before .before .before .before .before .before .before .before .before .before .before .before .before .pre .0) (c .before .before .before .before .before .before .before .before .before .before .before .before .before .before .before .before .before .before .pre .1) (not-false _ (c .before .before .before .before .before .before .before .before .before .before .before .before .before .before .if1 .left)) (sym (c .before .before .before .before .before .before .before .before .before .before .before .before .before .is-listed .ensures) ∙ not-false _ (c .before .before .before .before .before .before .before .before .before .before .before .before .if2 .left)) (sym (c .before .before .before .before .before .before .before .before .before .before .before .all-below .ensures) ∙ not-false _ (c .before .before .before .before .before .before .before .before .before .before .if3 .left)) _ (c .before .before .before .before .before .before .before .before .before .child-places .ensures) _ (c .before .before .before .before .before .before .before .before .new .ensures) _ _ _ (c .before .before .before .before .before .intern-node .ensures))
+returns-4 c =
+    let n = c .before .before .before .before .before .before .before .before .before .before in
+    let e = n .before .before in
+    let s = e .before .before .before .before .before .before .before .before in
+    rw (c .answer-in .ensures)
+    (interned _ _ _ _ _ _ _ _ (s .pre .0) (s .pre .1) (not-false _ (e .before .before .before .before .if1 .left)) (sym (e .before .before .before .is-listed .ensures) ∙ not-false _ (e .before .before .if2 .left)) (sym (e .before .all-below .ensures) ∙ not-false _ (e .if3 .left)) _ (n .before .child-places .ensures) _ (n .new .ensures) _ _ _ (interns-in _ _ _ _ _ _ _ _ (c .before .before .before .before .before .intern-number .ensures)))
 
 pub build-sound-spec : {M : Type 1} → statement M
 build-sound-spec =
@@ -56,8 +66,8 @@ build-sound-spec =
     returns-3
     child-places-requires
     new-requires
-    intern-node-requires
-    by-parts-requires
+    intern-number-requires
+    answer-in-requires
     same-length
     same-length-2
     returns-4)
