@@ -31,7 +31,7 @@ pub struct Request {
 }
 
 // 01 symbol(4), 02 bits(8), 04 function(4): kinds without flags, of which every payload is listed.
-pub fn listed_request(kind: u64, payload: u64) -> Request
+pub(crate) fn listed_request(kind: u64, payload: u64) -> Request
     ensures { λ r. ⌜ r ≡ listedRequest kind payload ⌝ }
 {
     Request {
@@ -43,7 +43,7 @@ pub fn listed_request(kind: u64, payload: u64) -> Request
 }
 
 // 03 operator(1: 0 Add to 6 Neg), flags(1).
-pub fn operator_request(code: u8, flags: u8) -> Request
+pub(crate) fn operator_request(code: u8, flags: u8) -> Request
     ensures { λ r. ⌜ r ≡ operatorRequest code flags ⌝ }
 {
     let code = code as u64;
@@ -58,7 +58,7 @@ pub fn operator_request(code: u8, flags: u8) -> Request
 }
 
 // 05 control(1).
-pub fn control_request(code: u8) -> Request
+pub(crate) fn control_request(code: u8) -> Request
     ensures { λ r. ⌜ r ≡ controlRequest code ⌝ }
 {
     let payload = code as u64;
