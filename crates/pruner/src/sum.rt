@@ -12,6 +12,7 @@ use fold::BITS_OF_ZERO;
 use store::Answer;
 use store::Built;
 use store::REFUSALS;
+use store::answer_in;
 
 // The flags that `add` gives.
 const ADD_FLAGS: u64 = REORDERABLE;
@@ -131,14 +132,8 @@ pub(crate) fn balanced_add(
     // No sum came before the first, so that any id may be looked at first.
     let mut next: u64 = 0;
     let number = sum(nodes, slots, &mut count, &mut size, &mut next, terms);
-    if REFUSALS <= number {
-        return Built {
-            answer: Answer::Refused(number - REFUSALS),
-            arena: DagArena { count, size },
-        };
-    }
     Built {
-        answer: Answer::Id(number),
+        answer: answer_in(number),
         arena: DagArena { count, size },
     }
 }

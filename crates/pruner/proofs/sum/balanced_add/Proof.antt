@@ -1,7 +1,6 @@
--- `pruner::sum::balanced_add` meets its contract. Assumes nothing.
-use native.Mathlib.Omega.{arith}
+-- `pruner::sum::balanced_add` meets its contract: by the number of terms.
 use borrow.Author.Needs.{needs}
-use Rattle.store.proofs.Decoding.{is-id, is-refused}
+use Rattle.store.proofs.Decoding.{builds-in}
 use Rattle.pruner.proofs.Summing as Q
 use Rattle.pruner.proofs.sum.balanced_add.Statement.{statement}
 use Rattle.pruner.proofs.sum.balanced_add.Tie as tie
@@ -27,6 +26,9 @@ returns-2 c = Q.sums-one _ _ _ _ (c .before .before .before .before .before .bef
 sum-requires : tie.Need-sum-requires
 sum-requires c κs = search needs
 
+answer-in-requires : tie.Need-answer-in-requires
+answer-in-requires c κs = search needs
+
 same-length-3 : tie.Need-same-length-3
 same-length-3 c = search needs
 
@@ -34,16 +36,7 @@ same-length-4 : tie.Need-same-length-4
 same-length-4 c = search needs
 
 returns-3 : tie.Need-returns-3
-returns-3 c = is-refused _ _ _ _ _ _ _ _ (c .before .before .before .before .before .sum .ensures) (c .if3 .taken)
-
-same-length-5 : tie.Need-same-length-5
-same-length-5 c = search needs
-
-same-length-6 : tie.Need-same-length-6
-same-length-6 c = search needs
-
-returns-4 : tie.Need-returns-4
-returns-4 c = is-id _ _ _ _ _ _ _ _ (c .before .before .before .before .before .sum .ensures) (omega (arith, c .if3 .left))
+returns-3 c = rw (c .answer-in .ensures) (builds-in _ _ _ _ _ _ _ _ (c .before .before .before .before .before .sum .ensures))
 
 pub balanced-add-spec : {M : Type 1} → statement M
 balanced-add-spec =
@@ -56,9 +49,7 @@ balanced-add-spec =
     shared-slice-read-only
     returns-2
     sum-requires
+    answer-in-requires
     same-length-3
     same-length-4
-    returns-3
-    same-length-5
-    same-length-6
-    returns-4)
+    returns-3)
