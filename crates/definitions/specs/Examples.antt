@@ -3,7 +3,7 @@ use Prim.Native.Nat.{ℕ, zero, suc}
 use mathlib.Core.Path.{_≡_, refl}
 use mathlib.Core.Bool.{Bool, true, false}
 use mathlib.Core.List.{List, [], _∷_, _++_, map}
-use lib.ListN.{length, take}
+use lib.ListN.{take}
 use lib.Ieee.{binary64, ofBits}
 use Rattle.definitions.specs.Node.{Node, node, variableKind, constantKind, addKind, mulKind}
 use Rattle.definitions.specs.Intern.{Lent, tableSize}
@@ -11,7 +11,7 @@ use Rattle.definitions.specs.Walk.{standard, marked}
 use Rattle.definitions.specs.Exact.{constantBound}
 use Rattle.definitions.specs.Sheet.{sheet}
 use Rattle.definitions.specs.Listing.{listing}
-use Rattle.definitions.specs.Machine.{Store, variable, constant, add, sub, mul, div, operator, Call, store, simplify, prune, Answer, stored, simplified, pruned, refused, State, state, empty, call, answers, run}
+use Rattle.definitions.specs.Machine.{Store, variable, constant, add, sub, mul, div, operator, Call, store, simplify, prune, Answer, stored, simplified, pruned, refused, State, state, empty, answers, run}
 
 -- the listing program's store
 abbrev lent : Lent
@@ -87,13 +87,23 @@ abbrev variables : ℕ → ℕ → List Call
 variables zero s = []
 variables (suc n) s = store (variable s) ∷ variables n (suc s)
 
--- calls, and what the listing program's store answers to them
+-- the answers to n stores of new nodes, from the id i on
+abbrev newIds : ℕ → ℕ → List Answer
+newIds zero i = []
+newIds (suc n) i = stored i ∷ newIds n (suc i)
+
+-- calls, and what a fresh store answers to them where so much is lent
 pub record Example : Type 0 where
+  pub given : Lent
   pub calls : List Call
   pub expected : List Answer
 
+abbrev exampleOn : Lent → List Call → List Answer → Example
+exampleOn l cs al = record { given = l; calls = cs; expected = al }
+
+-- on the listing program's store
 abbrev example : List Call → List Answer → Example
-example cs al = record { calls = cs; expected = al }
+example cs al = exampleOn lent cs al
 
 -- "Settle together as one proved list"
 abbrev pub examples : List Example
@@ -103,6 +113,9 @@ examples =
     -- its budget 2 (spent) and 3
     ∷ example (x ∷ number plusZero ∷ plus 0 1 ∷ simplify 2 255 2 ∷ []) (stored 0 ∷ stored 1 ∷ stored 2 ∷ simplified 2 true 2 ∷ [])
     ∷ example (x ∷ number plusZero ∷ plus 0 1 ∷ simplify 2 255 3 ∷ []) (stored 0 ∷ stored 1 ∷ stored 2 ∷ simplified 0 false 3 ∷ [])
+    -- 44 and 45 nodes: "44 nodes in 64, the 45th brings 128", and 22 where 128 are not lent
+    ∷ exampleOn fewSlots (variables 45 0) (newIds 44 0 ++ refused 22 ∷ [])
+    ∷ example (variables 45 0) (newIds 45 0)
     -- 0.0/-0.0
     ∷ example (number plusZero ∷ number minusZero ∷ number plusZero ∷ []) (stored 0 ∷ stored 1 ∷ stored 0 ∷ [])
     -- both Adds
@@ -131,7 +144,7 @@ examples =
     (stored 0 ∷ stored 1 ∷ stored 2 ∷ stored 3 ∷ stored 4 ∷ stored 5 ∷ stored 6 ∷ stored 7 ∷ stored 8 ∷ pruned 11 5 0 ∷ stored 9 ∷ stored 10 ∷ stored 11 ∷ [])
     ∷ []
 
-pub examples-hold : map (λ (e : Example). answers lent empty (e .calls)) examples ≡ map (λ (e : Example). e .expected) examples
+pub examples-hold : map (λ (e : Example). answers (e .given) empty (e .calls)) examples ≡ map (λ (e : Example). e .expected) examples
 unfolding answers
 examples-hold = refl
 
@@ -140,19 +153,6 @@ pub listing-nodes : run lent empty (x ∷ number plusZero ∷ plus 0 1 ∷ simpl
     ≡ marked standard (node variableKind 7 0 []) ∷ node constantKind plusZero 0 [] ∷ node addKind 0 3 (0 ∷ 1 ∷ []) ∷ []
 unfolding run
 listing-nodes = refl
-
--- "44 nodes in 64, the 45th brings 128", and 22 where 128 are not lent
-pub forty-four : length (run fewSlots empty (variables 44 0) .nodes) ≡ 44
-unfolding run
-forty-four = refl
-
-pub forty-fifth-refused : call fewSlots (run fewSlots empty (variables 44 0)) (store (variable 100)) .answer ≡ refused 22
-unfolding run call
-forty-fifth-refused = refl
-
-pub forty-fifth-stored : call lent (run lent empty (variables 44 0)) (store (variable 100)) .answer ≡ stored 44
-unfolding run call
-forty-fifth-stored = refl
 
 -- the sheet of 01 and the bytes that the listing program prints for it
 abbrev pub sheetBytes : List ℕ
