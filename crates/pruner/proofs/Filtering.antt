@@ -1,22 +1,19 @@
--- Terms by their magnitude, and the loop of `filter`.
-use Prim.Native.Nat.{ℕ, suc, _+_, _-_, _<_, _≤_}
-use mathlib.Core.Path.{_≡_, refl, sym, ap, _∙_, subst}
+-- Terms by their magnitude, and a term that `flatten` puts after those kept.
+use Prim.Native.Nat.{ℕ, _+_, _<_}
+use mathlib.Core.Path.{_≡_, sym, ap, _∙_}
 use mathlib.Core.Bool.{Bool, true, false, cond}
-use mathlib.Core.List.{List, [], _∷_, _++_, append-nil}
-use lib.ListN.{length, getD, take, drop, set, length-set}
-use lib.Seq.{take-suc, drop-drop, getD-drop, getD-take, take-suc-set, take-set-le, drop-set-lt, length-take-le}
+use mathlib.Core.Logic.{_⊎_, ⊎-elim}
+use mathlib.Core.List.{List, [], _∷_, _++_, append-assoc}
+use lib.ListN.{length, take, set}
+use lib.Seq.{take-suc-set, take-set-le}
 use lib.Ieee.{binary64, ofBits}
 use native.Mathlib.Omega.{arith}
 use mathlib.Core.Option.{none, some}
 use borrow.Author.Tests.{eq-eqb, ne-eqb}
-use native.Mathlib.Nat.{add-zero}
 use native.Mathlib.Numerals.{add-one}
-use Rattle.definitions.specs.Limits.{mostTerms}
-use Rattle.definitions.specs.Node.{Node, at, constantKind}
+use Rattle.definitions.specs.Node.{Node, constantKind}
 use Rattle.definitions.specs.Patterns.{constantValue}
-use Rattle.definitions.specs.Prune.{filter, keeps, absolute, magnitude}
-use Rattle.store.specs.View.{nodesIn}
-use Rattle.pruner.specs.Terms.{AllBelow, Filters}
+use Rattle.definitions.specs.Prune.{filter, absolute, magnitude}
 
 -- ---- a term's magnitude: "constant: |v|; other: 1.0"
 pub constant-magnitude : (n : Node) (payload : ℕ) → n .kind ≡ constantKind → payload ≡ n .payload → absolute (ofBits binary64 payload) ≡ magnitude (constantValue n)
@@ -29,89 +26,25 @@ pub other-magnitude : (n : Node) → (n .kind ≡ constantKind → ⊥) → abso
 unfolding constantValue ofBits
 other-magnitude n e = ap (λ (b : Bool). magnitude (cond b (some (ofBits binary64 (n .payload))) none)) (sym (ne-eqb (n .kind) constantKind e))
 
--- ---- the loop
-filter-append : (p : ℕ → Bool) (a b : List ℕ) → filter p (a ++ b) ≡ filter p a ++ filter p b
-filter-append p [] b = refl
-filter-append p (x ∷ a) b = go (p x) (filter-append p a b)
-  where
-    go : (y : Bool) → filter p (a ++ b) ≡ filter p a ++ filter p b → cond y (x ∷ filter p (a ++ b)) (filter p (a ++ b)) ≡ cond y (x ∷ filter p a) (filter p a) ++ filter p b
-    go true e = ap (λ (l : List ℕ). x ∷ l) e
-    go false e = e
+-- ---- a term put after those kept
+-- it is counted if it is kept
+abbrev pub Counts : (ℕ → Bool) → ℕ → ℕ → ℕ → Type 0
+Counts keep id kept kept′ = ((keep id ≡ true) × (kept′ ≡ kept + 1)) ⊎ ((keep id ≡ false) × (kept′ ≡ kept))
 
--- between turns, `passed` terms have been looked at
-pub record Filtering (words : List ℕ) (count threshold : ℕ) (before : List ℕ) (found : ℕ) (array : List ℕ) (kept passed : ℕ) : Type 0 where
-  pub long : length array ≡ mostTerms
-  pub ahead : kept ≤ passed
-  pub within : passed ≤ found
-  pub rest : drop passed array ≡ drop passed before
-  pub terms : take kept array ≡ filter (keeps (nodesIn words count) (ofBits binary64 threshold)) (take passed before)
+module _ (keep : ℕ → Bool) (array : List ℕ) (kept kept′ id : ℕ) (rest : List ℕ) (inside : kept < length array) where
+  abbrev after : ℕ → List ℕ
+  after k = take k (set array kept id) ++ filter keep rest
 
-module _ (words : List ℕ) (count threshold : ℕ) (before : List ℕ) (found : ℕ) (most : found ≤ mostTerms) (whole : length before ≡ mostTerms) where
-  pub begins : Filtering words count threshold before found before 0 0
-  begins = record { long = whole; ahead = omega arith; within = omega arith; rest = refl; terms = refl }
+  abbrev chosen : Bool → List ℕ
+  chosen b = take kept array ++ cond b (id ∷ filter keep rest) (filter keep rest)
 
-  module _ (array : List ℕ) (kept passed : ℕ) (f : Filtering words count threshold before found array kept passed) (h : passed < found) where
-    abbrev keep : ℕ → Bool
-    keep = keeps (nodesIn words count) (ofBits binary64 threshold)
+  counted : after (kept + 1) ≡ chosen true
+  counted =
+      ap after (add-one kept) ∙ ap (λ (l : List ℕ). l ++ filter keep rest) (take-suc-set array kept id inside)
+      ∙ append-assoc (take kept array) (id ∷ []) (filter keep rest)
 
-    abbrev id : ℕ
-    id = getD array passed 0
+  passed-over : after kept ≡ chosen false
+  passed-over = ap (λ (l : List ℕ). l ++ filter keep rest) (take-set-le kept array kept id (omega arith))
 
-    pub same-id : getD array passed 0 ≡ getD before passed 0
-    same-id =
-        ap (λ (k : ℕ). getD array k 0) (sym (add-zero passed)) ∙ sym (getD-drop passed array 0 0)
-        ∙ ap (λ (l : List ℕ). getD l 0 0) (f .rest)
-        ∙ getD-drop passed before 0 0 ∙ ap (λ (k : ℕ). getD before k 0) (add-zero passed)
-
-    pub id-below : AllBelow count (take found before) → getD array passed 0 < count
-    id-below low =
-        subst (λ (x : ℕ). x < count) (getD-take found before passed 0 h ∙ sym same-id)
-        (low passed (omega (arith, length-take-le found before (omega arith))))
-
-    more : filter keep (take (suc passed) before) ≡ filter keep (take passed before) ++ cond (keep id) (id ∷ []) []
-    more =
-        ap (filter keep) (take-suc before passed 0 (omega arith)) ∙ filter-append keep (take passed before) (getD before passed 0 ∷ [])
-        ∙ ap (λ (x : ℕ). filter keep (take passed before) ++ cond (keep x) (x ∷ []) []) (sym same-id)
-
-    rest-more : drop (suc passed) array ≡ drop (suc passed) before
-    rest-more = rw (← add-one passed) (sym (drop-drop 1 passed array) ∙ ap (drop 1) (f .rest) ∙ drop-drop 1 passed before)
-
-    kept-more : keep id ≡ true → Filtering words count threshold before found (set array kept id) (kept + 1) (passed + 1)
-    kept-more y = record {
-      long = length-set array kept id ∙ f .long;
-      ahead = omega (arith, f .ahead);
-      within = omega arith;
-      rest = rw (add-one passed) (drop-set-lt (suc passed) array kept id (omega (arith, f .ahead)) ∙ rest-more);
-      terms =
-          rw (add-one passed, add-one kept)
-          (take-suc-set array kept id (omega (arith, f .ahead, f .long))
-          ∙ ap (λ (l : List ℕ). l ++ (id ∷ [])) (f .terms)
-          ∙ ap (λ (b : Bool). filter keep (take passed before) ++ cond b (id ∷ []) []) (sym y)
-          ∙ sym more);
-    }
-
-    kept-same : keep id ≡ false → Filtering words count threshold before found (set array kept id) kept (passed + 1)
-    kept-same n = record {
-      long = length-set array kept id ∙ f .long;
-      ahead = omega (arith, f .ahead);
-      within = omega arith;
-      rest = rw (add-one passed) (drop-set-lt (suc passed) array kept id (omega (arith, f .ahead)) ∙ rest-more);
-      terms =
-          rw (add-one passed)
-          (take-set-le kept array kept id (omega arith) ∙ f .terms ∙ sym (append-nil (filter keep (take passed before)))
-          ∙ ap (λ (b : Bool). filter keep (take passed before) ++ cond b (id ∷ []) []) (sym n)
-          ∙ sym more);
-    }
-
-    -- a turn, by what `keeps` answers
-    module _ (answer : Bool) (is : answer ≡ keeps (nodesIn words count) (ofBits binary64 threshold) (getD array passed 0)) (kept′ : ℕ) where
-      pub keeps-it : answer ≡ true → kept′ ≡ kept + 1 → Filtering words count threshold before found (set array kept (getD array passed 0)) kept′ (passed + 1)
-      keeps-it y k = subst (λ (n : ℕ). Filtering words count threshold before found (set array kept id) n (passed + 1)) (sym k) (kept-more (sym is ∙ y))
-
-      pub drops-it : answer ≡ false → kept′ ≡ kept → Filtering words count threshold before found (set array kept (getD array passed 0)) kept′ (passed + 1)
-      drops-it n k = subst (λ (m : ℕ). Filtering words count threshold before found (set array kept id) m (passed + 1)) (sym k) (kept-same (sym is ∙ n))
-
-  pub ends : (array : List ℕ) (kept passed : ℕ) → Filtering words count threshold before found array kept passed → found ≤ passed → Filters words count threshold before found kept array
-  ends array kept passed f h =
-      let e : passed ≡ found = omega (arith, f .within) in
-      record { few = omega (arith, f .ahead, f .within); terms = f .terms ∙ ap (λ (k : ℕ). filter (keeps (nodesIn words count) (ofBits binary64 threshold)) (take k before)) e; long = f .long }
+  pub put : Counts keep id kept kept′ → take kept′ (set array kept id) ++ filter keep rest ≡ take kept array ++ filter keep (id ∷ rest)
+  put = ⊎-elim (λ y. ap after (y .1) ∙ counted ∙ ap chosen (sym (y .0))) (λ n. ap after (n .1) ∙ passed-over ∙ ap chosen (sym (n .0)))

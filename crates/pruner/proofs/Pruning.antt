@@ -5,7 +5,6 @@ use mathlib.Core.Bool.{Bool, true, cond, not, false≢true}
 use mathlib.Core.Logic.{inl, inr}
 use mathlib.Core.List.{List}
 use lib.ListN.{length, take}
-use lib.Seq.{length-take-le}
 use lib.Dec.{ltb}
 use lib.Ieee.{Float, binary64, ofBits}
 use native.Mathlib.Omega.{arith}
@@ -20,6 +19,7 @@ use Rattle.definitions.specs.Threshold as T
 use Rattle.definitions.specs.Machine as M
 use Rattle.definitions.specs.Machine.{prunedAs, pruneChain, pruneAt, pruneCall, outcome}
 use Rattle.definitions.proofs.Stable.{Lower}
+use Rattle.definitions.proofs.Prune.{filter-length}
 use Rattle.arena.specs.declared.DagArena.{DagArena}
 use Rattle.store.specs.declared.Built.{Built}
 use Rattle.store.specs.declared.Answer as Store
@@ -28,7 +28,7 @@ use Rattle.store.specs.View.{nodesIn, lent, Sound, plainBuilt}
 use Rattle.store.specs.Memory.{Memory, memory, keepsInterned}
 use Rattle.store.proofs.Keeping.{kept-refl}
 use Rattle.store.proofs.Viewing.{plain-length}
-use Rattle.pruner.specs.Terms.{AllBelow, Filters, Flattens, Holds}
+use Rattle.pruner.specs.Terms.{Flattens, Holds}
 use Rattle.pruner.specs.Sums.{Summable, Sums}
 use Rattle.pruner.specs.Answers.{meaning, thresholdOf, Prunes, PrunesChain, PrunesRoot, PrunesCall}
 use Rattle.pruner.specs.declared.threshold.Threshold.{Threshold}
@@ -49,11 +49,12 @@ for-place number (inl e) = ap (λ (x : ℕ). keepsInterned x) e
 for-place number (inr e) = ap (λ (x : ℕ). keepsInterned x) e
 
 -- ---- a flattening's answer by its case
-pub holds-of : (terms : List ℕ) (answer : Flattened) (array : List ℕ) (found : ℕ) → Flattens terms answer array → answer ≡ Terms found → Holds terms (Terms found) array
-holds-of terms answer array found f e = subst (λ (x : Flattened). Holds terms x array) e (f .holds)
+pub holds-of : (terms : List ℕ) (keep : ℕ → Bool) (answer : Flattened) (array : List ℕ) (found kept : ℕ) → Flattens terms keep answer array → answer ≡ Terms found kept
+    → Holds terms keep (Terms found kept) array
+holds-of terms keep answer array found kept f e = subst (λ (x : Flattened). Holds terms keep x array) e (f .holds)
 
-pub too-many-of : (terms : List ℕ) (answer : Flattened) (array : List ℕ) → Flattens terms answer array → answer ≡ TooMany → mostTerms < length terms
-too-many-of terms answer array f e = subst (λ (x : Flattened). Holds terms x array) e (f .holds)
+pub too-many-of : (terms : List ℕ) (keep : ℕ → Bool) (answer : Flattened) (array : List ℕ) → Flattens terms keep answer array → answer ≡ TooMany → mostTerms < length terms
+too-many-of terms keep answer array f e = subst (λ (x : Flattened). Holds terms keep x array) e (f .holds)
 
 module _ (words slots : List ℕ) (s : DagArena) (sound : Sound words slots s) where
   abbrev m : Memory
@@ -105,9 +106,6 @@ module _ (words slots : List ℕ) (s : DagArena) (sound : Sound words slots s) w
         let long = plain-length words (s .count) in
         subst (λ (n : ℕ). Lower n ts) long (chain-low ns (layered words (s .count) (readable words slots s sound)) root (omega arith))
 
-    pub found-below : (found : ℕ) (array : List ℕ) → Holds (chain (nodesIn words (s .count)) root) (Terms found) array → AllBelow (s .count) (take found array)
-    found-below found array holds = below-of (s .count) (take found array) (subst (Lower (s .count)) (sym (holds .2)) terms-low)
-
     module _ (threshold : ℕ) where
       abbrev t : Float
       t = ofBits binary64 threshold
@@ -135,37 +133,42 @@ module _ (words slots : List ℕ) (s : DagArena) (sound : Sound words slots s) w
       unfolding pruneChain
       too-many h = same _ (Refused tooManyTerms) (sym (ap (λ (b : Bool). cond b (outcome (M.refused tooManyTerms) ns) (prunedAs (length ks) (length ts - length ks) (sumOfKept l ns ks))) (lt-ltb mostTerms (length ts) h)))
 
-      module _ (found : ℕ) (array : List ℕ) (holds : Holds (chain (nodesIn words (s .count)) root) (Terms found) array) (kept : ℕ) (array′ : List ℕ) (f : Filters words (s .count) threshold array found kept array′) where
-        kept-are : take kept array′ ≡ ks
-        kept-are = f .terms ∙ ap (filter (keeps ns t)) (holds .2)
+      module _ (found kept : ℕ) (array : List ℕ) (holds : Holds (chain (nodesIn words (s .count)) root) (keeps (nodesIn words (s .count)) (ofBits binary64 threshold)) (Terms found kept) array) where
+        pub few : kept ≤ found
+        few = omega (arith, holds .0, holds .2, filter-length (keeps ns t) ts)
 
-        pub kept-many : length (take kept array′) ≡ kept
-        kept-many = length-take-le kept array′ (let a = f .few in let b = holds .1 in let c = f .long in omega arith)
+        pub within : kept ≤ mostTerms
+        within = omega (arith, few, holds .1)
+
+        kept-are : take kept array ≡ ks
+        kept-are = holds .3
+
+        pub kept-many : length (take kept array) ≡ kept
+        kept-many = ap length kept-are ∙ sym (holds .2)
 
         kept-low : Lower (s .count) ks
         kept-low = lower-filter (s .count) (keeps ns t) ts terms-low
 
-        pub summable : Summable words slots s (take kept array′)
+        pub summable : Summable words slots s (take kept array)
         summable = record {
           sound = sound;
-          few = let a = f .few in let b = holds .1 in let c = kept-many in omega arith;
-          below = below-of (s .count) (take kept array′) (subst (Lower (s .count)) (sym kept-are) kept-low);
+          few = omega (arith, within, kept-many);
+          below = below-of (s .count) (take kept array) (subst (Lower (s .count)) (sym kept-are) kept-low);
         }
 
-        plain : (sum : I.Built) → sum ≡ sumOfKept l ns (take kept array′) → prunedAs kept (found - kept) sum ≡ pruneChain l ns t ts
+        plain : (sum : I.Built) → sum ≡ sumOfKept l ns (take kept array) → prunedAs kept (found - kept) sum ≡ pruneChain l ns t ts
         unfolding pruneChain
         plain sum e =
-            let a : kept ≡ length ks = sym kept-many ∙ ap length kept-are in
-            let b : found - kept ≡ length ts - length ks = ap₂ (λ (x y : ℕ). x - y) (holds .0) a in
+            let b : found - kept ≡ length ts - length ks = ap₂ (λ (x y : ℕ). x - y) (holds .0) (holds .2) in
             ap (prunedAs kept (found - kept)) (e ∙ ap (sumOfKept l ns) kept-are)
-            ∙ ap₂ (λ (x y : ℕ). prunedAs x y (sumOfKept l ns ks)) a b
+            ∙ ap₂ (λ (x y : ℕ). prunedAs x y (sumOfKept l ns ks)) (holds .2) b
             ∙ sym (ap (λ (b : Bool). cond b (outcome (M.refused tooManyTerms) ns) (prunedAs (length ks) (length ts - length ks) (sumOfKept l ns ks))) (le-ltb mostTerms (length ts) (let x = holds .0 in let y = holds .1 in omega arith)))
 
-        module _ (words′ slots′ : List ℕ) (r : Built) (b : Sums words slots s (take kept array′) words′ slots′ r) where
+        module _ (words′ slots′ : List ℕ) (r : Built) (b : Sums words slots s (take kept array) words′ slots′ r) where
           abbrev ns′ : List Node
           ns′ = nodesIn words′ (r .arena .count)
 
-          said : (answer : Store.Answer) → r .answer ≡ answer → plainBuilt answer ns′ ≡ sumOfKept l ns (take kept array′)
+          said : (answer : Store.Answer) → r .answer ≡ answer → plainBuilt answer ns′ ≡ sumOfKept l ns (take kept array)
           said answer e = ap (λ (x : Store.Answer). plainBuilt x ns′) (sym e) ∙ b .answer
 
           pub answered : (id : ℕ) → r .answer ≡ Stores.Id id
@@ -189,4 +192,4 @@ module _ (words slots : List ℕ) (s : DagArena) (sound : Sound words slots s) w
               is other q = cc
 
               by-place : NoPlace number
-              by-place = subst StopsForPlace (sym (said (Stores.Refused number) e)) (sum-stops l ns (take kept array′))
+              by-place = subst StopsForPlace (sym (said (Stores.Refused number) e)) (sum-stops l ns (take kept array))

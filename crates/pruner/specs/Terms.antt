@@ -1,13 +1,12 @@
--- The terms of a chain in an array, flattened and filtered.
+-- The terms of a chain that are kept, in an array.
 use Prim.Native.Nat.{ℕ, _+_, _<_, _≤_}
 use mathlib.Core.Path.{_≡_}
+use mathlib.Core.Bool.{Bool}
 use mathlib.Core.List.{List, _++_}
 use lib.ListN.{length, getD, take, drop}
-use lib.Ieee.{binary64, ofBits}
 use Rattle.definitions.specs.Limits.{mostTerms}
 use Rattle.definitions.specs.Node.{at, addKind}
-use Rattle.definitions.specs.Prune as Prune
-use Rattle.definitions.specs.Prune.{chain, keeps}
+use Rattle.definitions.specs.Prune.{filter}
 use Rattle.store.specs.View.{nodesIn}
 use Rattle.store.specs.Lookup.{Lookup}
 use Rattle.pruner.specs.declared.chain.Waiting.{Waiting}
@@ -35,18 +34,14 @@ Pushes children used top array (From from) array′ =
     (used ≤ from) × (from + length children ≡ top + 1) × (take used array′ ≡ take used array) × (drop from array′ ≡ drop 1 children ++ drop top array) × (length array′ ≡ mostTerms)
 Pushes children used top array Nowhere array′ = (top + 1 < used + length children) × (length array′ ≡ mostTerms)
 
--- the chain's terms in the first places of the array, or, "over 4,096 terms", the answer that there are too many
-abbrev pub Holds : List ℕ → Flattened → List ℕ → Type 0
-Holds terms (Terms found) array = (found ≡ length terms) × (found ≤ mostTerms) × (take found array ≡ terms)
-Holds terms TooMany array = mostTerms < length terms
+-- The number of the chain's terms, and those kept, "a term is kept if its magnitude is at least the threshold", in order in the first places of the
+-- array; or, "over 4,096 terms", kept or not, the answer that there are too many.
+abbrev pub Holds : List ℕ → (ℕ → Bool) → Flattened → List ℕ → Type 0
+Holds terms keep (Terms found kept) array =
+    (found ≡ length terms) × (found ≤ mostTerms) × (kept ≡ length (filter keep terms)) × (take kept array ≡ filter keep terms)
+Holds terms keep TooMany array = mostTerms < length terms
 
 -- How a flattening ends. The array keeps its length.
-pub record Flattens (terms : List ℕ) (answer : Flattened) (array : List ℕ) : Type 0 where
-  pub holds : Holds terms answer array
+pub record Flattens (terms : List ℕ) (keep : ℕ → Bool) (answer : Flattened) (array : List ℕ) : Type 0 where
+  pub holds : Holds terms keep answer array
   pub long : length array ≡ mostTerms
-
--- "a term is kept if its magnitude is at least the threshold": the kept ones of the first `found` terms, in order, in the first places
-pub record Filters (words : List ℕ) (count threshold : ℕ) (array : List ℕ) (found kept : ℕ) (array′ : List ℕ) : Type 0 where
-  pub few : kept ≤ found
-  pub terms : take kept array′ ≡ Prune.filter (keeps (nodesIn words count) (ofBits binary64 threshold)) (take found array)
-  pub long : length array′ ≡ mostTerms

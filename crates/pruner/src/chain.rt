@@ -1,12 +1,15 @@
-// The terms of an additive chain. 01: "the chain is flattened left to right through Adds".
+// The terms of an additive chain that a threshold keeps. 01: "the chain is flattened left to right through Adds".
 ghost use mathlib.Core.Path.{_≡_};
 ghost use Prim.Native.Nat.{_<_, _≤_};
 ghost use lib.ListN.{length};
+ghost use lib.Ieee.{binary64, ofBits};
 ghost use Rattle.definitions.specs.Limits.{mostTerms};
+ghost use Rattle.definitions.specs.Prune as Prune;
 ghost use Rattle.definitions.specs.Prune.{chain};
 ghost use Rattle.store.specs.View.{nodesIn};
 ghost use Rattle.store.specs.Lookup.{Lookup};
 ghost use Rattle.pruner.specs.Terms.{childrenIn, Readable, Pushes, Flattens};
+use crate::filter::keeps;
 use arena::kind::ADD;
 
 // 01: "over 4,096 terms" is refused.
@@ -21,8 +24,8 @@ pub enum Waiting {
 }
 
 pub enum Flattened {
-    // So many terms, in the first places of the array.
-    Terms(usize),
+    // So many terms were found, of which so many are kept: these stand in the first places of the array.
+    Terms { found: usize, kept: usize },
     // Over 4,096 terms.
     TooMany,
 }
@@ -76,18 +79,21 @@ fn push_siblings(
     Waiting::From(from)
 }
 
-// The terms under an id. The terms found stand in the first places, and the ids that wait in the last ones, from `top`
-// on. Each of these and `id` give a term at least, so that there are too many terms exactly if there is no place.
+// The terms under an id that a threshold keeps. They stand in the first places, and the ids that wait in the last ones,
+// from `top` on. Each of these and `id` give a term at least, so that there are too many terms exactly if those found,
+// kept or not, leave no place.
 pub(crate) fn flatten(
     nodes: &[u64],
     count: u64,
     root: u64,
+    threshold: u64,
     terms: &mut [u64; MOST_TERMS],
 ) -> Flattened
     requires { ⌜ (root < count) × Readable (now nodes) count × (length (now terms) ≡ mostTerms) ⌝ }
-    ensures { λ r. ⌜ Flattens (chain (nodesIn (now (nodes .entry)) count) root) r (now (terms .exit)) ⌝ }
+    ensures { λ r. ⌜ Flattens (chain (nodesIn (now (nodes .entry)) count) root) (Prune.keeps (nodesIn (now (nodes .entry)) count) (ofBits binary64 threshold)) r (now (terms .exit)) ⌝ }
 {
     let mut found: usize = 0;
+    let mut kept: usize = 0;
     let mut top: usize = MOST_TERMS;
     let mut id = root;
     loop {
@@ -100,10 +106,14 @@ pub(crate) fn flatten(
                 }
             }
         } else {
-            terms[found] = id;
+            // Each term is put, and only counted if it is kept, so that no branch waits for what is kept.
+            terms[kept] = id;
             found += 1;
+            if keeps(nodes, count, threshold, id) {
+                kept += 1;
+            }
             if top == MOST_TERMS {
-                return Flattened::Terms(found);
+                return Flattened::Terms { found, kept };
             }
             id = terms[top];
             top += 1;

@@ -31,7 +31,7 @@ pub struct Outcome {
     pub arena: DagArena,
 }
 
-// The chain under an Add: flattened, filtered and summed again.
+// The chain under an Add: flattened to the terms kept, and summed again.
 fn prune_chain(
     nodes: &mut [u64],
     slots: &mut [u32],
@@ -44,13 +44,12 @@ fn prune_chain(
 {
     let mut terms = [0u64; MOST_TERMS];
     let count = arena.count;
-    match chain::flatten(nodes, count, root, &mut terms) {
+    match chain::flatten(nodes, count, root, threshold, &mut terms) {
         Flattened::TooMany => Outcome {
             answer: Answer::Refused(TOO_MANY_TERMS),
             arena,
         },
-        Flattened::Terms(found) => {
-            let kept = filter::filter(nodes, count, threshold, &mut terms, found);
+        Flattened::Terms { found, kept } => {
             let built = sum::balanced_add(nodes, slots, arena, &terms[..kept]);
             let after = built.arena;
             let answer = built.answer;

@@ -18,27 +18,21 @@ enum-told c = search needs
 enum-known-found : tie.Need-enum-known-found
 enum-known-found c = search needs
 
-filter-requires : tie.Need-filter-requires
-filter-requires c κs =
-    let holds = Q.holds-of _ _ _ _ (c .before .before .before .before .before .flatten .ensures) (c .before .before .before .found .given .1) in
-    (holds .1, Q.found-below _ _ _ (c .before .before .before .before .before .before .before .before .before .before .pre .1) _ (c .before .before .before .before .before .before .before .before .before .before .pre .0) _ _ holds, readable _ _ _ (c .before .before .before .before .before .before .before .before .before .before .pre .1), c .before .before .before .before .before .flatten .ensures .long)
-
 array-share-prefix-terms : tie.Need-array-share-prefix-terms
 array-share-prefix-terms c =
-    let holds = Q.holds-of _ _ _ _ (c .before .before .before .before .before .before .before .before .flatten .ensures) (c .before .before .before .before .before .before .found .given .1) in
-    let few = c .before .before .filter .ensures .few in
-    let most = holds .1 in
+    let holds = Q.holds-of _ _ _ _ _ _ (c .before .before .before .before .before .flatten .ensures) (c .before .before .before .found .given .1) in
+    let within = Q.within _ _ _ (c .before .before .before .before .before .before .before .before .before .before .pre .1) _ (c .before .before .before .before .before .before .before .before .before .before .pre .0) _ _ _ _ holds in
     omega arith
 
 slice-aggregate-balanced-add : tie.Need-slice-aggregate-balanced-add
 slice-aggregate-balanced-add c =
-    let holds = Q.holds-of _ _ _ _ (c .before .before .before .before .before .before .before .before .before .flatten .ensures) (c .before .before .before .before .before .before .before .found .given .1) in
-    sym (Q.kept-many _ _ _ (c .before .before .before .before .before .before .before .before .before .before .before .before .before .before .pre .1) _ (c .before .before .before .before .before .before .before .before .before .before .before .before .before .before .pre .0) _ _ _ holds _ _ (c .before .before .before .filter .ensures))
+    let holds = Q.holds-of _ _ _ _ _ _ (c .before .before .before .before .before .before .flatten .ensures) (c .before .before .before .before .found .given .1) in
+    sym (Q.kept-many _ _ _ (c .before .before .before .before .before .before .before .before .before .before .before .pre .1) _ (c .before .before .before .before .before .before .before .before .before .before .before .pre .0) _ _ _ _ holds)
 
 balanced-add-requires : tie.Need-balanced-add-requires
 balanced-add-requires c κs =
-    let holds = Q.holds-of _ _ _ _ (c .before .before .before .before .before .before .before .before .before .flatten .ensures) (c .before .before .before .before .before .before .before .found .given .1) in
-    Q.summable _ _ _ (c .before .before .before .before .before .before .before .before .before .before .before .before .before .before .pre .1) _ (c .before .before .before .before .before .before .before .before .before .before .before .before .before .before .pre .0) _ _ _ holds _ _ (c .before .before .before .filter .ensures)
+    let holds = Q.holds-of _ _ _ _ _ _ (c .before .before .before .before .before .before .flatten .ensures) (c .before .before .before .before .found .given .1) in
+    Q.summable _ _ _ (c .before .before .before .before .before .before .before .before .before .before .before .pre .1) _ (c .before .before .before .before .before .before .before .before .before .before .before .pre .0) _ _ _ _ holds
 
 enum-known-answer : tie.Need-enum-known-answer
 enum-known-answer c = search needs
@@ -46,14 +40,17 @@ enum-known-answer c = search needs
 enum-known-answer-2 : tie.Need-enum-known-answer-2
 enum-known-answer-2 c = search needs
 
-sub-t33 : tie.Need-sub-t33
-sub-t33 c = search needs
+sub-t30 : tie.Need-sub-t30
+sub-t30 c =
+    let holds = Q.holds-of _ _ _ _ _ _ (c .before .before .before .before .before .before .before .before .before .before .before .before .before .before .before .flatten .ensures) (c .before .before .before .before .before .before .before .before .before .before .before .before .before .found .given .1) in
+    let few = Q.few _ _ _ (c .before .before .before .before .before .before .before .before .before .before .before .before .before .before .before .before .before .before .before .before .pre .1) _ (c .before .before .before .before .before .before .before .before .before .before .before .before .before .before .before .before .before .before .before .before .pre .0) _ _ _ _ holds in
+    omega arith
 
 same-length : tie.Need-same-length
 same-length c = search needs
 
 returns : tie.Need-returns
-returns c = Q.too-many _ _ _ (c .before .before .before .before .before .before .before .pre .1) _ (c .before .before .before .before .before .before .before .pre .0) _ (Q.too-many-of _ _ _ (c .before .before .flatten .ensures) (c .enum-told .given .1))
+returns c = Q.too-many _ _ _ (c .before .before .before .before .before .before .before .pre .1) _ (c .before .before .before .before .before .before .before .pre .0) _ (Q.too-many-of _ _ _ _ (c .before .before .flatten .ensures) (c .enum-told .given .1))
 
 same-length-2 : tie.Need-same-length-2
 same-length-2 c = search needs
@@ -63,8 +60,8 @@ same-length-3 c = search needs
 
 returns-2 : tie.Need-returns-2
 returns-2 c =
-    let holds = Q.holds-of _ _ _ _ (c .before .before .before .before .before .before .before .before .before .before .before .before .before .before .before .before .before .before .flatten .ensures) (c .before .before .before .before .before .before .before .before .before .before .before .before .before .before .before .before .found .given .1) in
-    Q.stops _ _ _ (c .before .before .before .before .before .before .before .before .before .before .before .before .before .before .before .before .before .before .before .before .before .before .before .pre .1) _ (c .before .before .before .before .before .before .before .before .before .before .before .before .before .before .before .before .before .before .before .before .before .before .before .pre .0) _ _ _ holds _ _ (c .before .before .before .before .before .before .before .before .before .before .before .before .filter .ensures) _ _ _ (c .before .before .before .before .before .before .before .before .balanced-add .ensures) _ (c .before .answer .given .1)
+    let holds = Q.holds-of _ _ _ _ _ _ (c .before .before .before .before .before .before .before .before .before .before .before .before .before .before .before .flatten .ensures) (c .before .before .before .before .before .before .before .before .before .before .before .before .before .found .given .1) in
+    Q.stops _ _ _ (c .before .before .before .before .before .before .before .before .before .before .before .before .before .before .before .before .before .before .before .before .pre .1) _ (c .before .before .before .before .before .before .before .before .before .before .before .before .before .before .before .before .before .before .before .before .pre .0) _ _ _ _ holds _ _ _ (c .before .before .before .before .before .before .before .before .balanced-add .ensures) _ (c .before .answer .given .1)
 
 same-length-4 : tie.Need-same-length-4
 same-length-4 c = search needs
@@ -74,8 +71,8 @@ same-length-5 c = search needs
 
 returns-3 : tie.Need-returns-3
 returns-3 c =
-    let holds = Q.holds-of _ _ _ _ (c .before .before .before .before .before .before .before .before .before .before .before .before .before .before .before .before .before .before .flatten .ensures) (c .before .before .before .before .before .before .before .before .before .before .before .before .before .before .before .before .found .given .1) in
-    Q.answered _ _ _ (c .before .before .before .before .before .before .before .before .before .before .before .before .before .before .before .before .before .before .before .before .before .before .before .pre .1) _ (c .before .before .before .before .before .before .before .before .before .before .before .before .before .before .before .before .before .before .before .before .before .before .before .pre .0) _ _ _ holds _ _ (c .before .before .before .before .before .before .before .before .before .before .before .before .filter .ensures) _ _ _ (c .before .before .before .before .before .before .before .before .balanced-add .ensures) _ (c .before .answer2 .given .1)
+    let holds = Q.holds-of _ _ _ _ _ _ (c .before .before .before .before .before .before .before .before .before .before .before .before .before .before .before .flatten .ensures) (c .before .before .before .before .before .before .before .before .before .before .before .before .before .found .given .1) in
+    Q.answered _ _ _ (c .before .before .before .before .before .before .before .before .before .before .before .before .before .before .before .before .before .before .before .before .pre .1) _ (c .before .before .before .before .before .before .before .before .before .before .before .before .before .before .before .before .before .before .before .before .pre .0) _ _ _ _ holds _ _ _ (c .before .before .before .before .before .before .before .before .balanced-add .ensures) _ (c .before .answer2 .given .1)
 
 pub prune-chain-spec : {M : Type 1} → statement M
 prune-chain-spec =
@@ -84,13 +81,12 @@ prune-chain-spec =
     flatten-requires
     enum-told
     enum-known-found
-    filter-requires
     array-share-prefix-terms
     slice-aggregate-balanced-add
     balanced-add-requires
     enum-known-answer
     enum-known-answer-2
-    sub-t33
+    sub-t30
     same-length
     returns
     same-length-2

@@ -1,74 +1,88 @@
 -- `pruner::chain::flatten` meets its contract. The measure is the weight of the id at hand and of the ids that wait. Assumes nothing.
 use mathlib.Core.Path.{sym, _∙_}
+use mathlib.Core.Logic.{inl, inr, ⊎-elim}
+use lib.Ieee.{binary64, ofBits}
 use native.Mathlib.Omega.{arith}
 use borrow.Author.Needs.{needs}
+use Rattle.definitions.specs.Prune.{keeps}
+use Rattle.store.specs.View.{nodesIn}
 use Rattle.pruner.proofs.Flattening as Q
 use Rattle.pruner.proofs.Flattening.{Flattening, work}
 use Rattle.pruner.proofs.chain.flatten.Statement.{statement}
 use Rattle.pruner.proofs.chain.flatten.Tie as tie
 
 abbrev Inv-loop : tie.InvT-loop
-Inv-loop nodes count root terms₀ found₀ top₀ id₀ terms found top id = Flattening nodes count root terms found top id
+Inv-loop nodes count root threshold terms₀ found₀ kept₀ top₀ id₀ terms found kept top id = Flattening nodes count root (keeps (nodesIn nodes count) (ofBits binary64 threshold)) terms found kept top id
 
 abbrev μ-loop : tie.MeasureT-loop
-μ-loop nodes count root terms₀ found₀ top₀ id₀ terms found top id = work terms top id
+μ-loop nodes count root threshold terms₀ found₀ kept₀ top₀ id₀ terms found kept top id = work terms top id
 
 loop-holds : tie.Need-loop-holds Inv-loop μ-loop
-loop-holds c = Q.begins _ _ _ (c .before .pre .0) _ (c .before .pre .2)
+loop-holds c = Q.begins _ _ _ _ (c .before .pre .0) _ (c .before .pre .2)
 
 kind-requires : tie.Need-kind-requires Inv-loop μ-loop
-kind-requires c κs = c .before .before .pre .1 .lookup _ (Q.id-below _ _ _ (c .before .before .pre .1) _ _ _ _ (c .loop .inv))
+kind-requires c κs = c .before .before .pre .1 .lookup _ (Q.id-below _ _ _ _ (c .before .before .pre .1) _ _ _ _ _ (c .loop .inv))
 
 add-push-siblings : tie.Need-add-push-siblings Inv-loop μ-loop
 add-push-siblings c = omega (arith, c .before .before .before .loop .inv .room, c .before .before .before .loop .inv .ends)
 
 push-siblings-requires : tie.Need-push-siblings-requires Inv-loop μ-loop
-push-siblings-requires c κs = (c .before .before .before .before .before .pre .1 .lookup _ (Q.id-below _ _ _ (c .before .before .before .before .before .pre .1) _ _ _ _ (c .before .before .before .loop .inv)), Q.has-child _ _ _ (c .before .before .before .before .before .pre .1) _ _ _ _ (c .before .before .before .loop .inv) (sym (c .before .before .kind .ensures) ∙ c .before .if1 .taken), omega (arith, c .before .before .before .loop .inv .room), c .before .before .before .loop .inv .ends, c .before .before .before .loop .inv .long)
+push-siblings-requires c κs = (c .before .before .before .before .before .pre .1 .lookup _ (Q.id-below _ _ _ _ (c .before .before .before .before .before .pre .1) _ _ _ _ _ (c .before .before .before .loop .inv)), Q.has-child _ _ _ _ (c .before .before .before .before .before .pre .1) _ _ _ _ _ (c .before .before .before .loop .inv) (sym (c .before .before .kind .ensures) ∙ c .before .if1 .taken), omega (arith, c .before .before .before .loop .inv .room), c .before .before .before .loop .inv .ends, c .before .before .before .loop .inv .long)
 
 enum-told : tie.Need-enum-told Inv-loop μ-loop
 enum-told c = search needs
 
 returns : tie.Need-returns Inv-loop μ-loop
-returns c = Q.exceeds _ _ _ (c .before .before .before .before .before .before .before .before .pre .1) _ _ _ _ (c .before .before .before .before .before .before .loop .inv) (sym (c .before .before .before .before .before .kind .ensures) ∙ c .before .before .before .before .if1 .taken) _ _ (c .before .before .push-siblings .ensures) (c .enum-told .given .1)
+returns c = Q.exceeds _ _ _ _ (c .before .before .before .before .before .before .before .before .pre .1) _ _ _ _ _ (c .before .before .before .before .before .before .loop .inv) (sym (c .before .before .before .before .before .kind .ensures) ∙ c .before .before .before .before .if1 .taken) _ _ (c .before .before .push-siblings .ensures) (c .enum-told .given .1)
 
 enum-known-from : tie.Need-enum-known-from Inv-loop μ-loop
 enum-known-from c = search needs
 
 child-requires : tie.Need-child-requires Inv-loop μ-loop
-child-requires c κs = (Q.has-child _ _ _ (c .before .before .before .before .before .before .before .before .before .pre .1) _ _ _ _ (c .before .before .before .before .before .before .before .loop .inv) (sym (c .before .before .before .before .before .before .kind .ensures) ∙ c .before .before .before .before .before .if1 .taken), c .before .before .before .before .before .before .before .before .before .pre .1 .lookup _ (Q.id-below _ _ _ (c .before .before .before .before .before .before .before .before .before .pre .1) _ _ _ _ (c .before .before .before .before .before .before .before .loop .inv)))
+child-requires c κs = (Q.has-child _ _ _ _ (c .before .before .before .before .before .before .before .before .before .pre .1) _ _ _ _ _ (c .before .before .before .before .before .before .before .loop .inv) (sym (c .before .before .before .before .before .before .kind .ensures) ∙ c .before .before .before .before .before .if1 .taken), c .before .before .before .before .before .before .before .before .before .pre .1 .lookup _ (Q.id-below _ _ _ _ (c .before .before .before .before .before .before .before .before .before .pre .1) _ _ _ _ _ (c .before .before .before .before .before .before .before .loop .inv)))
 
 loop-less : tie.Need-loop-less Inv-loop μ-loop
-loop-less c = Q.opens-less _ _ _ (c .before .before .before .before .before .before .before .before .before .before .pre .1) _ _ _ _ (c .before .before .before .before .before .before .before .before .loop .inv) (sym (c .before .before .before .before .before .before .before .kind .ensures) ∙ c .before .before .before .before .before .before .if1 .taken) _ _ (c .before .before .before .before .push-siblings .ensures) _ (c .before .before .from .given .1) _ (c .child .ensures)
+loop-less c = Q.opens-less _ _ _ _ (c .before .before .before .before .before .before .before .before .before .before .pre .1) _ _ _ _ _ (c .before .before .before .before .before .before .before .before .loop .inv) (sym (c .before .before .before .before .before .before .before .kind .ensures) ∙ c .before .before .before .before .before .before .if1 .taken) _ _ (c .before .before .before .before .push-siblings .ensures) _ (c .before .before .from .given .1) _ (c .child .ensures)
 
 loop-again : tie.Need-loop-again Inv-loop μ-loop
-loop-again c = Q.opens _ _ _ (c .before .before .before .before .before .before .before .before .before .before .pre .1) _ _ _ _ (c .before .before .before .before .before .before .before .before .loop .inv) (sym (c .before .before .before .before .before .before .before .kind .ensures) ∙ c .before .before .before .before .before .before .if1 .taken) _ _ (c .before .before .before .before .push-siblings .ensures) _ (c .before .before .from .given .1) _ (c .child .ensures)
+loop-again c = Q.opens _ _ _ _ (c .before .before .before .before .before .before .before .before .before .before .pre .1) _ _ _ _ _ (c .before .before .before .before .before .before .before .before .loop .inv) (sym (c .before .before .before .before .before .before .before .kind .ensures) ∙ c .before .before .before .before .before .before .if1 .taken) _ _ (c .before .before .before .before .push-siblings .ensures) _ (c .before .before .from .given .1) _ (c .child .ensures)
 
 mul-terms : tie.Need-mul-terms Inv-loop μ-loop
-mul-terms c = omega (arith, c .before .before .loop .inv .room, c .before .before .loop .inv .ends)
+mul-terms c = omega (arith, c .before .before .loop .inv .few, c .before .before .loop .inv .room, c .before .before .loop .inv .ends)
 
 element-write-terms : tie.Need-element-write-terms Inv-loop μ-loop
-element-write-terms c = omega (arith, c .before .before .loop .inv .room, c .before .before .loop .inv .ends)
+element-write-terms c = omega (arith, c .before .before .loop .inv .few, c .before .before .loop .inv .room, c .before .before .loop .inv .ends)
 
 add-found : tie.Need-add-found Inv-loop μ-loop
 add-found c = omega (arith, c .before .before .loop .inv .room, c .before .before .loop .inv .ends)
 
+keeps-requires : tie.Need-keeps-requires Inv-loop μ-loop
+keeps-requires c κs = c .before .before .before .before .pre .1 .lookup _ (Q.id-below _ _ _ _ (c .before .before .before .before .pre .1) _ _ _ _ _ (c .before .before .loop .inv))
+
+add-kept : tie.Need-add-kept Inv-loop μ-loop
+add-kept c = omega (arith, c .before .before .before .before .loop .inv .few, c .before .before .before .before .loop .inv .room, c .before .before .before .before .loop .inv .ends)
+
 returns-2 : tie.Need-returns-2 Inv-loop μ-loop
-returns-2 c = Q.ends-flat _ _ _ (c .before .before .before .before .before .pre .1) _ _ _ _ (c .before .before .before .loop .inv) (λ e. c .before .if1 .left (c .before .before .kind .ensures ∙ e)) (c .if2 .taken)
+returns-2 c =
+    let is = c .before .before .keeps .ensures in
+    Q.ends-flat _ _ _ _ (c .before .before .before .before .before .before .before .pre .1) _ _ _ _ _ (c .before .before .before .before .before .loop .inv) (λ e. c .before .before .before .if1 .left (c .before .before .before .before .kind .ensures ∙ e)) _ (⊎-elim (λ w. inl (sym is ∙ w .0 .taken, w .1)) (λ w. inr (sym is ∙ w .0 .left, w .1)) (c .before .if2 .came)) (c .if3 .taken)
 
 mul-id : tie.Need-mul-id Inv-loop μ-loop
-mul-id c = omega (arith, c .before .before .before .loop .inv .ends)
+mul-id c = omega (arith, c .before .before .before .before .before .loop .inv .ends)
 
 element-copy-out-id : tie.Need-element-copy-out-id Inv-loop μ-loop
-element-copy-out-id c = Q.next-inside _ _ _ (c .before .before .before .before .before .pre .1) _ _ _ _ (c .before .before .before .loop .inv) (λ e. c .before .if1 .left (c .before .before .kind .ensures ∙ e)) (c .if2 .left)
+element-copy-out-id c = Q.next-inside _ _ _ _ (c .before .before .before .before .before .before .before .pre .1) _ _ _ _ _ (c .before .before .before .before .before .loop .inv) (c .if3 .left)
 
 add-top : tie.Need-add-top Inv-loop μ-loop
-add-top c = omega (arith, c .before .before .before .before .loop .inv .ends)
+add-top c = omega (arith, c .before .before .before .before .before .before .loop .inv .ends)
 
 loop-less-2 : tie.Need-loop-less-2 Inv-loop μ-loop
-loop-less-2 c = Q.finds-less _ _ _ (c .before .before .before .before .before .before .pre .1) _ _ _ _ (c .before .before .before .before .loop .inv) (λ e. c .before .before .if1 .left (c .before .before .before .kind .ensures ∙ e)) (c .before .if2 .left)
+loop-less-2 c = Q.finds-less _ _ _ _ (c .before .before .before .before .before .before .before .before .pre .1) _ _ _ _ _ (c .before .before .before .before .before .before .loop .inv) (c .before .if3 .left)
 
 loop-again-2 : tie.Need-loop-again-2 Inv-loop μ-loop
-loop-again-2 c = Q.finds _ _ _ (c .before .before .before .before .before .before .pre .1) _ _ _ _ (c .before .before .before .before .loop .inv) (λ e. c .before .before .if1 .left (c .before .before .before .kind .ensures ∙ e)) (c .before .if2 .left)
+loop-again-2 c =
+    let is = c .before .before .before .keeps .ensures in
+    Q.finds _ _ _ _ (c .before .before .before .before .before .before .before .before .pre .1) _ _ _ _ _ (c .before .before .before .before .before .before .loop .inv) (λ e. c .before .before .before .before .if1 .left (c .before .before .before .before .before .kind .ensures ∙ e)) _ (⊎-elim (λ w. inl (sym is ∙ w .0 .taken, w .1)) (λ w. inr (sym is ∙ w .0 .left, w .1)) (c .before .before .if2 .came)) (c .before .if3 .left)
 
 pub flatten-spec : {M : Type 1} → statement M
 flatten-spec =
@@ -89,6 +103,8 @@ flatten-spec =
     mul-terms
     element-write-terms
     add-found
+    keeps-requires
+    add-kept
     returns-2
     mul-id
     element-copy-out-id
