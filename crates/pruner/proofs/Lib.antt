@@ -6,6 +6,8 @@ pub mod Pushing
 pub mod Flattening
 pub mod Filtering
 pub mod Halving
+pub mod Parts
+pub mod Counts
 pub mod Summing
 pub mod Pruning
 pub mod Calling

@@ -143,7 +143,7 @@ module _ (words slots : List ℕ) (s : DagArena) (sound : Sound words slots s) w
         kept-are : take kept array ≡ ks
         kept-are = holds .3
 
-        pub kept-many : length (take kept array) ≡ kept
+        kept-many : length (take kept array) ≡ kept
         kept-many = ap length kept-are ∙ sym (holds .2)
 
         kept-low : Lower (s .count) ks

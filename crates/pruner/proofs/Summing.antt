@@ -1,9 +1,8 @@
 -- The sum of terms in memory, from the sums of its halves.
 use Prim.Native.Nat.{ℕ, _-_, _/_, _<_, _≤_}
-use mathlib.Core.Path.{_≡_, refl, sym, ap, _∙_, subst}
+use mathlib.Core.Path.{_≡_, refl, sym, ap, ap₂, _∙_, subst}
 use mathlib.Core.List.{List, [], _∷_}
 use lib.ListN.{length, getD, take, drop, length-take, length-drop}
-use lib.Seq.{take-all}
 use native.Mathlib.Omega.{arith}
 use Rattle.definitions.specs.Node.{Node}
 use Rattle.definitions.specs.Intern as I
@@ -34,16 +33,6 @@ single [] e = absurd (omega arith)
 single (a ∷ []) e = refl
 single (a ∷ b ∷ ids) e = absurd (omega arith)
 
--- ---- the two halves of the terms, as the code has them
-abbrev pub leftHalf : List ℕ → List ℕ
-leftHalf ids = take (length ids / 2) ids
-
-abbrev pub rightHalf : List ℕ → List ℕ
-rightHalf ids = take (length ids - length ids / 2) (drop (length ids / 2) ids)
-
-right-half : (ids : List ℕ) → rightHalf ids ≡ drop (length ids / 2) ids
-right-half ids = take-all (length ids - length ids / 2) (drop (length ids / 2) ids) (omega (arith, length-drop (length ids / 2) ids))
-
 -- ---- what a kept store has
 pub lent-same : (words slots : List ℕ) (s : DagArena) (words′ slots′ : List ℕ) (t : DagArena) → Kept words slots s words′ slots′ t → lent words′ slots′ ≡ lent words slots
 lent-same words slots s words′ slots′ t k = rw (k .long, k .wide) refl
@@ -68,47 +57,38 @@ module _ (words slots : List ℕ) (s : DagArena) (ts : List ℕ) (sm : Summable 
   pub one-number : length ts ≡ 1 → SumsNumber words slots s ts words slots (getD ts 0 0) s
   one-number e = record { answer = Id (getD ts 0 0); is = refl; builds = sums-one e }
 
-  module _ (two : 2 ≤ length ts) where
-    right-length : length (rightHalf ts) ≡ length ts - length ts / 2
-    right-length = ap length (right-half ts) ∙ length-drop (length ts / 2) ts
+  -- the two halves of the terms
+  module _ (two : 2 ≤ length ts) (left right : List ℕ) (is-left : left ≡ take (length ts / 2) ts) (is-right : right ≡ drop (length ts / 2) ts) where
+    left-length : length left ≡ length ts / 2
+    left-length = let t = length-take (length ts / 2) ts in ap length is-left ∙ omega arith
 
-    plain : then (sumOfKept l ns (leftHalf ts)) (λ ms x. then (sumOfKept l ms (rightHalf ts)) (λ os y. internAdd l os x y)) ≡ sumOfKept l ns ts
+    right-length : length right ≡ length ts - length ts / 2
+    right-length = ap length is-right ∙ length-drop (length ts / 2) ts
+
+    plain : then (sumOfKept l ns left) (λ ms x. then (sumOfKept l ms right) (λ os y. internAdd l os x y)) ≡ sumOfKept l ns ts
     plain =
-        ap (λ (vs : List ℕ). then (sumOfKept l ns (leftHalf ts)) (λ ms x. then (sumOfKept l ms vs) (λ os y. internAdd l os x y))) (right-half ts)
+        ap₂ (λ (us vs : List ℕ). then (sumOfKept l ns us) (λ ms x. then (sumOfKept l ms vs) (λ os y. internAdd l os x y))) is-left is-right
         ∙ sym (sum-of-halves l ns ts two (sm .few))
 
-    -- each half has fewer terms than the list, and at least one
-    pub left-less : length (leftHalf ts) < length ts
-    left-less = omega (arith, length-take (length ts / 2) ts)
-
-    pub left-some : 1 ≤ length (leftHalf ts)
-    left-some = omega (arith, length-take (length ts / 2) ts)
-
-    pub right-less : length (rightHalf ts) < length ts
-    right-less = omega (arith, right-length)
-
-    pub right-some : 1 ≤ length (rightHalf ts)
-    right-some = omega (arith, right-length)
-
-    pub left-summable : Summable words slots s (leftHalf ts)
+    pub left-summable : Summable words slots s left
     left-summable = record {
       sound = sm .sound;
-      few = omega (arith, left-less, sm .few);
-      below = below-of (s .count) (leftHalf ts) (lower-take (s .count) (length ts / 2) ts (lower-of (s .count) ts (sm .below)));
+      few = omega (arith, left-length, sm .few);
+      below = below-of (s .count) left (subst (Lower (s .count)) (sym is-left) (lower-take (s .count) (length ts / 2) ts (lower-of (s .count) ts (sm .below))));
     }
 
     -- the left half's answer, and the memory after it
     module _ (words₁ slots₁ : List ℕ) (s₁ : DagArena) where
       abbrev Left : Answer → Type 0
-      Left answer = Sums words slots s (leftHalf ts) words₁ slots₁ (record { answer = answer; arena = s₁ })
+      Left answer = Sums words slots s left words₁ slots₁ (record { answer = answer; arena = s₁ })
 
       abbrev ns₁ : List Node
       ns₁ = nodesIn words₁ (s₁ .count)
 
       after-left : (answer : Answer) → Left answer
-          → then (plainBuilt answer ns₁) (λ ms x. then (sumOfKept l ms (rightHalf ts)) (λ os y. internAdd l os x y)) ≡ sumOfKept l ns ts
+          → then (plainBuilt answer ns₁) (λ ms x. then (sumOfKept l ms right) (λ os y. internAdd l os x y)) ≡ sumOfKept l ns ts
       after-left answer bl =
-          ap (λ (m : I.Built). then m (λ ms x. then (sumOfKept l ms (rightHalf ts)) (λ os y. internAdd l os x y))) (bl .answer) ∙ plain
+          ap (λ (m : I.Built). then m (λ ms x. then (sumOfKept l ms right) (λ os y. internAdd l os x y))) (bl .answer) ∙ plain
 
       left-stops : (number : ℕ) → Left (Refused number) → Sums words slots s ts words₁ slots₁ (record { answer = Refused number; arena = s₁ })
       left-stops number bl = record { answer = after-left (Refused number) bl; kept = bl .kept; low = bl .low }
@@ -116,7 +96,7 @@ module _ (words slots : List ℕ) (s : DagArena) (ts : List ℕ) (sm : Summable 
       -- an id, and the right half's answer after it
       module _ (a : ℕ) (bl : Left (Id a)) (words₂ slots₂ : List ℕ) (s₂ : DagArena) where
         abbrev Right : Answer → Type 0
-        Right answer = Sums words₁ slots₁ s₁ (rightHalf ts) words₂ slots₂ (record { answer = answer; arena = s₂ })
+        Right answer = Sums words₁ slots₁ s₁ right words₂ slots₂ (record { answer = answer; arena = s₂ })
 
         abbrev ns₂ : List Node
         ns₂ = nodesIn words₂ (s₂ .count)
@@ -127,7 +107,7 @@ module _ (words slots : List ℕ) (s : DagArena) (ts : List ℕ) (sm : Summable 
         after-right : (answer : Answer) → Right answer → then (plainBuilt answer ns₂) (λ os y. internAdd l os a y) ≡ sumOfKept l ns ts
         after-right answer br =
             ap (λ (m : I.Built). then m (λ os y. internAdd l os a y)) (br .answer)
-            ∙ ap (λ (k : Lent). then (sumOfKept k ns₁ (rightHalf ts)) (λ os y. internAdd l os a y)) (lent-same words slots s words₁ slots₁ s₁ (bl .kept))
+            ∙ ap (λ (k : Lent). then (sumOfKept k ns₁ right) (λ os y. internAdd l os a y)) (lent-same words slots s words₁ slots₁ s₁ (bl .kept))
             ∙ after-left (Id a) bl
 
         right-stops : (number : ℕ) → Right (Refused number) → Sums words slots s ts words₂ slots₂ (record { answer = Refused number; arena = s₂ })
@@ -144,7 +124,7 @@ module _ (words slots : List ℕ) (s : DagArena) (ts : List ℕ) (sm : Summable 
         }
 
     -- the same by numbers
-    module _ (words₁ slots₁ : List ℕ) (s₁ : DagArena) (a : ℕ) (na : SumsNumber words slots s (leftHalf ts) words₁ slots₁ a s₁) where
+    module _ (words₁ slots₁ : List ℕ) (s₁ : DagArena) (a : ℕ) (na : SumsNumber words slots s left words₁ slots₁ a s₁) where
       pub left-refused : mostNodes ≤ a → SumsNumber words slots s ts words₁ slots₁ a s₁
       left-refused past = refusal-stays words slots s _ words slots s _ words₁ slots₁ s₁ a na past (left-stops words₁ slots₁ s₁)
 
@@ -152,17 +132,17 @@ module _ (words slots : List ℕ) (s : DagArena) (ts : List ℕ) (sm : Summable 
         bl : Left words₁ slots₁ s₁ (Id a)
         bl = is-id words slots s _ words₁ slots₁ s₁ a na a-low
 
-        pub right-summable : Summable words₁ slots₁ s₁ (rightHalf ts)
+        pub right-summable : Summable words₁ slots₁ s₁ right
         right-summable = record {
           sound = bl .kept .whole;
-          few = omega (arith, right-less, sm .few);
+          few = omega (arith, right-length, sm .few);
           below =
-              below-of (s₁ .count) (rightHalf ts)
-              (lower-up (s .count) (s₁ .count) (bl .kept .count) (rightHalf ts)
-              (subst (Lower (s .count)) (sym (right-half ts)) (lower-drop (s .count) (length ts / 2) ts (lower-of (s .count) ts (sm .below)))));
+              below-of (s₁ .count) right
+              (lower-up (s .count) (s₁ .count) (bl .kept .count) right
+              (subst (Lower (s .count)) (sym is-right) (lower-drop (s .count) (length ts / 2) ts (lower-of (s .count) ts (sm .below)))));
         }
 
-        module _ (words₂ slots₂ : List ℕ) (s₂ : DagArena) (b : ℕ) (nb : SumsNumber words₁ slots₁ s₁ (rightHalf ts) words₂ slots₂ b s₂) where
+        module _ (words₂ slots₂ : List ℕ) (s₂ : DagArena) (b : ℕ) (nb : SumsNumber words₁ slots₁ s₁ right words₂ slots₂ b s₂) where
           pub right-refused : mostNodes ≤ b → SumsNumber words slots s ts words₂ slots₂ b s₂
           right-refused past = refusal-stays words₁ slots₁ s₁ _ words slots s _ words₂ slots₂ s₂ b nb past (right-stops words₁ slots₁ s₁ a bl words₂ slots₂ s₂)
 

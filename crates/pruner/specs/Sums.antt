@@ -1,16 +1,35 @@
 -- What a sum of kept terms leans on, and what it builds.
-use Prim.Native.Nat.{ℕ, _≤_}
+use Prim.Native.Nat.{ℕ, _+_, _≤_}
+use mathlib.Core.Path.{_≡_}
 use mathlib.Core.List.{List}
-use lib.ListN.{length}
+use lib.ListN.{length, getD, take, drop}
 use Rattle.definitions.specs.Limits.{mostTerms}
 use Rattle.definitions.specs.Patterns.{zero64, internConstant, internAdd}
 use Rattle.definitions.specs.Prune.{sumOfKept}
 use Rattle.arena.specs.declared.DagArena.{DagArena}
+use Rattle.arena.specs.Layout.{arenaOf}
 use Rattle.store.specs.declared.Built.{Built}
 use Rattle.store.specs.View.{nodesIn, lent, Sound, Builds}
 use Rattle.store.specs.Number.{BuildsNumber}
 use Rattle.pruner.specs.Terms.{AllBelow}
 
+-- ---- terms and counts in arrays
+-- n terms from a place on
+abbrev pub part : List ℕ → ℕ → ℕ → List ℕ
+part terms from n = take n (drop from terms)
+
+pub record Inside (terms : List ℕ) (from n : ℕ) : Type 0 where
+  pub long : length terms ≡ mostTerms
+  pub fits : from + n ≤ mostTerms
+
+-- the store's count and size are the first of the numbers that sums hand on
+abbrev pub countsLength : ℕ
+countsLength = 3
+
+abbrev pub arenaIn : List ℕ → DagArena
+arenaIn counts = arenaOf (getD counts 0 0) (getD counts 1 0)
+
+-- ---- sums
 -- at most 4,096 terms of a sound store
 pub record Summable (words slots : List ℕ) (arena : DagArena) (terms : List ℕ) : Type 0 where
   pub sound : Sound words slots arena

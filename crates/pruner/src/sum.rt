@@ -1,9 +1,10 @@
 // The sum of the kept terms. 01: "0.0, the one term, or halves split at floor(n/2), left first".
 ghost use Prim.Native.Nat.{_<_, _≤_};
-ghost use lib.ListN.{length};
-ghost use Rattle.arena.specs.Layout.{arenaOf};
+ghost use mathlib.Core.Path.{_≡_};
+ghost use lib.ListN.{length, getD};
 ghost use Rattle.store.specs.View.{Sound};
-ghost use Rattle.pruner.specs.Sums.{Summable, Zero, Sums, AddsNumber, SumsNumber};
+ghost use Rattle.pruner.specs.Sums.{countsLength, arenaIn, part, Inside, Summable, Zero, Sums, AddsNumber, SumsNumber};
+use crate::chain::MOST_TERMS;
 use arena::DagArena;
 use arena::REORDERABLE;
 use arena::kind::ADD;
@@ -13,6 +14,16 @@ use store::Answer;
 use store::Built;
 use store::REFUSALS;
 use store::answer_in;
+
+// The numbers that one sum hands on to the next, in one array: the store's count and size, and the id after the last sum's. So the sums'
+// arguments fit in registers.
+const COUNTS: usize = 3;
+
+const COUNT: usize = 0;
+
+const SIZE: usize = 1;
+
+const NEXT: usize = 2;
 
 // The flags that `add` gives.
 const ADD_FLAGS: u64 = REORDERABLE;
@@ -39,28 +50,31 @@ fn zero(nodes: &mut [u64], slots: &mut [u32], arena: DagArena) -> Built
 fn add(
     nodes: &mut [u64],
     slots: &mut [u32],
-    count: &mut u64,
-    size: &mut usize,
-    next: &mut u64,
+    counts: &mut [u64; COUNTS],
     left: u64,
     right: u64,
 ) -> u64
-    requires { ⌜ (left < now count) × (right < now count) × Sound (now nodes) (now slots) (arenaOf (now count) (now size)) ⌝ }
-    ensures { λ r. ⌜ AddsNumber (now (nodes .entry)) (now (slots .entry)) (arenaOf (now (count .entry)) (now (size .entry))) left right (now (nodes .exit)) (now (slots .exit)) r (arenaOf (now (count .exit)) (now (size .exit))) ⌝ }
+    requires { ⌜ (left < getD (now counts) 0 0) × (right < getD (now counts) 0 0) × Sound (now nodes) (now slots) (arenaIn (now counts)) × (length (now counts) ≡ countsLength) ⌝ }
+    ensures { λ r. ⌜ AddsNumber (now (nodes .entry)) (now (slots .entry)) (arenaIn (now (counts .entry))) left right (now (nodes .exit)) (now (slots .exit)) r (arenaIn (now (counts .exit))) × (length (now (counts .exit)) ≡ countsLength) ⌝ }
 {
+    let mut count = counts[COUNT];
+    let mut size = counts[SIZE] as usize;
+    let likely = counts[NEXT];
     let number = store::intern_likely(
         nodes,
         slots,
-        count,
-        size,
+        &mut count,
+        &mut size,
         ADD,
         0,
         ADD_FLAGS,
         2,
         [left, right, 0, 0],
-        *next,
+        likely,
     );
-    *next = number + 1;
+    counts[COUNT] = count;
+    counts[SIZE] = size as u64;
+    counts[NEXT] = number + 1;
     number
 }
 
@@ -68,55 +82,55 @@ fn add(
 fn half(
     nodes: &mut [u64],
     slots: &mut [u32],
-    count: &mut u64,
-    size: &mut usize,
-    next: &mut u64,
-    terms: &[u64],
+    counts: &mut [u64; COUNTS],
+    terms: &[u64; MOST_TERMS],
+    from: usize,
+    n: usize,
 ) -> u64
-    requires { ⌜ (1 ≤ length (now terms)) × Summable (now nodes) (now slots) (arenaOf (now count) (now size)) (now terms) ⌝ }
-    ensures { λ r. ⌜ SumsNumber (now (nodes .entry)) (now (slots .entry)) (arenaOf (now (count .entry)) (now (size .entry))) (now (terms .entry)) (now (nodes .exit)) (now (slots .exit)) r (arenaOf (now (count .exit)) (now (size .exit))) ⌝ }
+    requires { ⌜ (1 ≤ n) × Inside (now terms) from n × Summable (now nodes) (now slots) (arenaIn (now counts)) (part (now terms) from n) × (length (now counts) ≡ countsLength) ⌝ }
+    ensures { λ r. ⌜ SumsNumber (now (nodes .entry)) (now (slots .entry)) (arenaIn (now (counts .entry))) (part (now (terms .entry)) from n) (now (nodes .exit)) (now (slots .exit)) r (arenaIn (now (counts .exit))) × (length (now (counts .exit)) ≡ countsLength) ⌝ }
 {
-    if terms.len() == 1 {
-        return terms[0];
+    if n == 1 {
+        return terms[from];
     }
-    sum(nodes, slots, count, size, next, terms)
+    sum(nodes, slots, counts, terms, from, n)
 }
 
-// The sum of two or more terms, as a number. What was interned before a refusal stays.
+// The sum of two or more terms, `n` from a place on, as a number. What was interned before a refusal stays.
 fn sum(
     nodes: &mut [u64],
     slots: &mut [u32],
-    count: &mut u64,
-    size: &mut usize,
-    next: &mut u64,
-    terms: &[u64],
+    counts: &mut [u64; COUNTS],
+    terms: &[u64; MOST_TERMS],
+    from: usize,
+    n: usize,
 ) -> u64
-    requires { ⌜ (2 ≤ length (now terms)) × Summable (now nodes) (now slots) (arenaOf (now count) (now size)) (now terms) ⌝ }
-    ensures { λ r. ⌜ SumsNumber (now (nodes .entry)) (now (slots .entry)) (arenaOf (now (count .entry)) (now (size .entry))) (now (terms .entry)) (now (nodes .exit)) (now (slots .exit)) r (arenaOf (now (count .exit)) (now (size .exit))) ⌝ }
+    requires { ⌜ (2 ≤ n) × Inside (now terms) from n × Summable (now nodes) (now slots) (arenaIn (now counts)) (part (now terms) from n) × (length (now counts) ≡ countsLength) ⌝ }
+    ensures { λ r. ⌜ SumsNumber (now (nodes .entry)) (now (slots .entry)) (arenaIn (now (counts .entry))) (part (now (terms .entry)) from n) (now (nodes .exit)) (now (slots .exit)) r (arenaIn (now (counts .exit))) × (length (now (counts .exit)) ≡ countsLength) ⌝ }
 {
-    let mid = terms.len() / 2;
-    let left = half(nodes, slots, count, size, next, &terms[..mid]);
+    let mid = n / 2;
+    let left = half(nodes, slots, counts, terms, from, mid);
     if REFUSALS <= left {
         return left;
     }
-    let right = half(nodes, slots, count, size, next, &terms[mid..]);
+    let right = half(nodes, slots, counts, terms, from + mid, n - mid);
     if REFUSALS <= right {
         return right;
     }
-    add(nodes, slots, count, size, next, left, right)
+    add(nodes, slots, counts, left, right)
 }
 
-// The sum of at most 4,096 terms. What was interned before a refusal stays.
+// The sum of the first `n` terms. What was interned before a refusal stays.
 pub(crate) fn balanced_add(
     nodes: &mut [u64],
     slots: &mut [u32],
     arena: DagArena,
-    terms: &[u64],
+    terms: &[u64; MOST_TERMS],
+    n: usize,
 ) -> Built
-    requires { ⌜ Summable (now nodes) (now slots) arena (now terms) ⌝ }
-    ensures { λ r. ⌜ Sums (now (nodes .entry)) (now (slots .entry)) arena (now (terms .entry)) (now (nodes .exit)) (now (slots .exit)) r ⌝ }
+    requires { ⌜ Inside (now terms) 0 n × Summable (now nodes) (now slots) arena (part (now terms) 0 n) ⌝ }
+    ensures { λ r. ⌜ Sums (now (nodes .entry)) (now (slots .entry)) arena (part (now (terms .entry)) 0 n) (now (nodes .exit)) (now (slots .exit)) r ⌝ }
 {
-    let n = terms.len();
     if n == 0 {
         return zero(nodes, slots, arena);
     }
@@ -127,13 +141,14 @@ pub(crate) fn balanced_add(
             arena,
         };
     }
-    let mut count = arena.count;
-    let mut size = arena.size;
     // No sum came before the first, so that any id may be looked at first.
-    let mut next: u64 = 0;
-    let number = sum(nodes, slots, &mut count, &mut size, &mut next, terms);
+    let mut counts = [arena.count, arena.size as u64, 0];
+    let number = sum(nodes, slots, &mut counts, terms, 0, n);
     Built {
         answer: answer_in(number),
-        arena: DagArena { count, size },
+        arena: DagArena {
+            count: counts[COUNT],
+            size: counts[SIZE] as usize,
+        },
     }
 }

@@ -1,6 +1,5 @@
 -- `pruner::prune_chain` meets its contract. Assumes nothing.
 use Prim.Native.Nat.{ℕ}
-use mathlib.Core.Path.{sym}
 use lib.ListN.{length-replicate}
 use native.Mathlib.Omega.{arith}
 use borrow.Author.Needs.{needs}
@@ -18,21 +17,13 @@ enum-told c = search needs
 enum-known-found : tie.Need-enum-known-found
 enum-known-found c = search needs
 
-array-share-prefix-terms : tie.Need-array-share-prefix-terms
-array-share-prefix-terms c =
-    let holds = Q.holds-of _ _ _ _ _ _ (c .before .before .before .before .before .flatten .ensures) (c .before .before .before .found .given .1) in
-    let within = Q.within _ _ _ (c .before .before .before .before .before .before .before .before .before .before .pre .1) _ (c .before .before .before .before .before .before .before .before .before .before .pre .0) _ _ _ _ holds in
-    omega arith
-
-slice-aggregate-balanced-add : tie.Need-slice-aggregate-balanced-add
-slice-aggregate-balanced-add c =
-    let holds = Q.holds-of _ _ _ _ _ _ (c .before .before .before .before .before .before .flatten .ensures) (c .before .before .before .before .found .given .1) in
-    sym (Q.kept-many _ _ _ (c .before .before .before .before .before .before .before .before .before .before .before .pre .1) _ (c .before .before .before .before .before .before .before .before .before .before .before .pre .0) _ _ _ _ holds)
-
 balanced-add-requires : tie.Need-balanced-add-requires
 balanced-add-requires c κs =
-    let holds = Q.holds-of _ _ _ _ _ _ (c .before .before .before .before .before .before .flatten .ensures) (c .before .before .before .before .found .given .1) in
-    Q.summable _ _ _ (c .before .before .before .before .before .before .before .before .before .before .before .pre .1) _ (c .before .before .before .before .before .before .before .before .before .before .before .pre .0) _ _ _ _ holds
+    let p = c .before .before .before .before .before .before .before .before .before .before .before .pre in
+    let f = c .before .before .before .before .before .before .flatten .ensures in
+    let holds = Q.holds-of _ _ _ _ _ _ f (c .before .before .before .before .found .given .1) in
+    let within = Q.within _ _ _ (p .1) _ (p .0) _ _ _ _ holds in
+    (record { long = f .long; fits = omega (arith, within) }, Q.summable _ _ _ (p .1) _ (p .0) _ _ _ _ holds)
 
 enum-known-answer : tie.Need-enum-known-answer
 enum-known-answer c = search needs
@@ -40,8 +31,8 @@ enum-known-answer c = search needs
 enum-known-answer-2 : tie.Need-enum-known-answer-2
 enum-known-answer-2 c = search needs
 
-sub-t30 : tie.Need-sub-t30
-sub-t30 c =
+sub-t29 : tie.Need-sub-t29
+sub-t29 c =
     let holds = Q.holds-of _ _ _ _ _ _ (c .before .before .before .before .before .before .before .before .before .before .before .before .before .before .before .flatten .ensures) (c .before .before .before .before .before .before .before .before .before .before .before .before .before .found .given .1) in
     let few = Q.few _ _ _ (c .before .before .before .before .before .before .before .before .before .before .before .before .before .before .before .before .before .before .before .before .pre .1) _ (c .before .before .before .before .before .before .before .before .before .before .before .before .before .before .before .before .before .before .before .before .pre .0) _ _ _ _ holds in
     omega arith
@@ -81,12 +72,10 @@ prune-chain-spec =
     flatten-requires
     enum-told
     enum-known-found
-    array-share-prefix-terms
-    slice-aggregate-balanced-add
     balanced-add-requires
     enum-known-answer
     enum-known-answer-2
-    sub-t30
+    sub-t29
     same-length
     returns
     same-length-2
