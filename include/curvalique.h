@@ -37,10 +37,11 @@
  * environment is C's default: rounding to nearest, subnormal numbers kept; in
  * another one a simplify folds constants otherwise. No content is asked for:
  * stores and name lists that are not sound are refused, with 20; damage that
- * leaves a sound one, as another name in a list, is not noticed. No function keeps a pointer,
- * allocates, or touches other memory, but for its stack: as compiled now, the
- * listing of a sheet takes about 290 KB of it, a sheet 43 KB, a prune 35 KB, a
- * name call 17 KB, a simplify 13 KB and any other call under 1 KB.
+ * leaves a sound one, as another name in a list, is not noticed. No function
+ * keeps a pointer, allocates, or touches other memory, but for its stack: as
+ * compiled now, the listing of a sheet takes about 290 KB of it, a sheet 43 KB,
+ * a prune 35 KB, a name call 17 KB, a simplify 13 KB and any other call under
+ * 1 KB.
  *
  * NOT PROVED, but read or measured: time, stack, how often a store is looked
  * over, and what the compiled code needs of C's library and its calls.

@@ -10,6 +10,13 @@ use Rattle.arena.specs.Layout.{mostChildren}
 use Rattle.arena.specs.Kind.{operatorArity, controlArity, listed, isNumber}
 use Rattle.definitions.proofs.Deciding.{both, same-test}
 
+-- the digits that the code reads: `LEAST_OPERANDS` and `MOST_OPERANDS`, four bits a kind
+abbrev leastOperands : ℕ → ℕ
+leastOperands kind = 0x122212100 / 2 ^ (kind * 4) % 16
+
+abbrev mostOperands : ℕ → ℕ
+mostOperands kind = 0x122242400 / 2 ^ (kind * 4) % 16
+
 -- a count of at least n is at most n just if it is n
 at-least : (n arity : ℕ) → n ≤ arity → leb arity n ≡ eqb arity n
 at-least n arity l = same-test (leb arity n) (eqb arity n)
@@ -17,7 +24,7 @@ at-least n arity l = same-test (leb arity n) (eqb arity n)
     (λ e. let z = eqb-true arity n e in le-leb arity n (omega arith))
 
 -- fewer children than the kind's digit of `LEAST_OPERANDS`
-pub too-few : (kind arity : ℕ) → 2 ≤ kind → kind ≤ 8 → arity < 4867563776 / 2 ^ (kind * 4) % 16 → false ≡ operatorArity kind arity
+pub too-few : (kind arity : ℕ) → 2 ≤ kind → kind ≤ 8 → arity < leastOperands kind → false ≡ operatorArity kind arity
 unfolding operatorArity
 too-few zero arity l h f = absurd (omega arith)
 too-few (suc zero) arity l h f = absurd (omega arith)
@@ -31,7 +38,7 @@ too-few (suc (suc (suc (suc (suc (suc (suc (suc zero)))))))) arity l h f = sym (
 too-few (suc (suc (suc (suc (suc (suc (suc (suc (suc kind))))))))) arity l h f = absurd (omega arith)
 
 -- else the kind's digit of `MOST_OPERANDS` decides
-pub enough : (kind arity : ℕ) → 2 ≤ kind → kind ≤ 8 → 4867563776 / 2 ^ (kind * 4) % 16 ≤ arity → leb arity (4867761152 / 2 ^ (kind * 4) % 16) ≡ operatorArity kind arity
+pub enough : (kind arity : ℕ) → 2 ≤ kind → kind ≤ 8 → leastOperands kind ≤ arity → leb arity (mostOperands kind) ≡ operatorArity kind arity
 unfolding operatorArity
 enough zero arity l h f = absurd (omega arith)
 enough (suc zero) arity l h f = absurd (omega arith)

@@ -43,6 +43,7 @@ const LEAST_OPERANDS: u64 = 0x1_2221_2100;
 
 const MOST_OPERANDS: u64 = 0x1_2224_2400;
 
+// A hexadecimal digit has 4 bits and is below 16.
 const DIGIT_BITS: u64 = 4;
 
 const DIGITS: u64 = 16;

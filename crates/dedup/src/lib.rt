@@ -32,7 +32,7 @@ use probing::probe_near;
 use probing::slot_id;
 use sizes::load_limit;
 
-// What `get_or_insert_in_room` answers in place of an id: every id is below it.
+// What `get_or_insert_in_room` and `get_or_insert_together` answer in place of an id: every id is below it.
 pub const NO_ROOM: u64 = MOST_NODES;
 
 // The id of an old node or of a new one, or the number of a refusal.
@@ -209,7 +209,7 @@ fn probe_together(nodes: &[u64], slots: &[u32], size: usize, key: DagNode, count
     probe_near(nodes, slots, size, key, count)
 }
 
-// The same as `get_or_insert_in_room`, for nodes that are made one over the other.
+// The same as `get_or_insert_in_room`, by slots looked at together: for nodes that are made one over the other.
 pub fn get_or_insert_together(
     nodes: &mut [u64],
     slots: &mut [u32],

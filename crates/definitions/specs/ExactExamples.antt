@@ -207,7 +207,7 @@ pub remainder-in-sum : OnlyFirst (sum (binary modKind (constant (power 53)) two)
 unfolding decide ofBits bound
 remainder-in-sum = decided tt tt
 
-pub function-in-product : OnlyFirst (product (unary functionKind (constant (inverse 53))) (constant (inverse 53))) (product (unary functionKind (constant (inverse 53))) (constant (inverse 54)))
+pub function-in-product : OnlyFirst (product (unary functionKind (constant (inverse 53))) (constant (inverse 53))) (product (constant (inverse 53)) (constant (inverse 53)))
 unfolding decide ofBits bound
 function-in-product = decided tt tt
 

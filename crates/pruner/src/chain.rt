@@ -9,7 +9,7 @@ ghost use Rattle.definitions.specs.Prune.{chain};
 ghost use Rattle.store.specs.View.{nodesIn};
 ghost use Rattle.store.specs.Lookup.{Lookup};
 ghost use Rattle.pruner.specs.Terms.{childrenIn, Readable, Pushes, Flattens};
-use crate::filter::keeps;
+use crate::keeping::keeps;
 use arena::kind::ADD;
 
 // 01: "over 4,096 terms" is refused.

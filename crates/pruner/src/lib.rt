@@ -1,6 +1,6 @@
 // Pruning (01, "simplifier: pruning"): an additive chain without the terms whose magnitude is below a threshold.
 pub mod chain;
-pub mod filter;
+pub mod keeping;
 pub mod sum;
 pub mod threshold;
 

@@ -108,7 +108,7 @@ pub fn intern_number(
     intern_growing(nodes, slots, count, size, key)
 }
 
-// The same for nodes that are made one over the other.
+// The same by slots looked at together, for nodes that are made one over the other.
 fn intern_together(
     nodes: &mut [u64],
     slots: &mut [u32],

@@ -1,6 +1,5 @@
 -- `arena::kind::is_listed` meets its contract: by the range of the kind.
 use mathlib.Core.Path.{_∙_}
-use native.Mathlib.Omega.{arith}
 use borrow.Author.Needs.{needs}
 use Rattle.arena.proofs.Listing as L
 use Rattle.arena.proofs.kind.is_listed.Statement.{statement}

@@ -1,9 +1,9 @@
--- `pruner::filter::magnitude_of_term` meets its contract. Assumes nothing.
+-- `pruner::keeping::magnitude_of_term` meets its contract.
 use mathlib.Core.Path.{sym, _∙_}
 use borrow.Author.Needs.{needs}
 use Rattle.pruner.proofs.Filtering.{constant-magnitude, other-magnitude}
-use Rattle.pruner.proofs.filter.magnitude_of_term.Statement.{statement}
-use Rattle.pruner.proofs.filter.magnitude_of_term.Tie as tie
+use Rattle.pruner.proofs.keeping.magnitude_of_term.Statement.{statement}
+use Rattle.pruner.proofs.keeping.magnitude_of_term.Tie as tie
 
 kind-requires : tie.Need-kind-requires
 kind-requires c κs = search needs
