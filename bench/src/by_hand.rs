@@ -10,7 +10,7 @@ const CONSTANT: u64 = 1;
 const ADD: u64 = 2;
 const ADD_FLAGS: u64 = 3;
 const MOST_TERMS: usize = 4_096;
-/// Slots looked at together, as in the port.
+/// Slots looked at together, in both searches.
 const WINDOW: usize = 6;
 
 /// The hash of an Add's kind and payload, nine bytes of which eight are 0.
