@@ -1,5 +1,9 @@
-//! A prune written by hand over the port's lists, with no bounds checked and nothing passed through memory: what is left of the
-//! time is what 01's hash, its slots that hold ids alone, and its load of the table cost.
+//! A prune written by hand over the port's lists, with no bounds checked, nothing passed through memory and the processor's vector
+//! instructions (SSE2) by name: what is left of the time is what 01's hash, its slots that hold ids alone, and its load of the table cost.
+
+use std::arch::x86_64::{
+    __m128i, _mm_cmpeq_epi32, _mm_loadu_si128, _mm_movemask_epi8, _mm_packs_epi16, _mm_packs_epi32, _mm_setzero_si128,
+};
 
 use crate::ours::{NODE_WORDS, Ours};
 
@@ -10,8 +14,10 @@ const CONSTANT: u64 = 1;
 const ADD: u64 = 2;
 const ADD_FLAGS: u64 = 3;
 const MOST_TERMS: usize = 4_096;
-/// Slots looked at together, in both searches.
-const WINDOW: usize = 6;
+/// Slots looked at together for an empty one.
+const FREE_WINDOW: usize = 16;
+/// Slots whose nodes' hashes are compared together.
+const SEARCH_WINDOW: usize = 4;
 
 /// The hash of an Add's kind and payload, nine bytes of which eight are 0.
 const ADD_HASH: u64 = {
@@ -95,6 +101,50 @@ impl Lists {
         }
     }
 
+    /// How many slots from a place on are in use before the first empty one; more than `FREE_WINDOW` if none of so many is empty.
+    ///
+    /// # Safety
+    /// So many slots follow the place.
+    #[inline(always)]
+    unsafe fn first_empty(&self, home: usize) -> usize {
+        unsafe {
+            let slots: *const __m128i = self.slots.add(home).cast();
+            let empty = |quarter| _mm_cmpeq_epi32(_mm_loadu_si128(slots.add(quarter)), _mm_setzero_si128());
+            let halves = [_mm_packs_epi32(empty(0), empty(1)), _mm_packs_epi32(empty(2), empty(3))];
+            _mm_movemask_epi8(_mm_packs_epi16(halves[0], halves[1])).trailing_zeros() as usize
+        }
+    }
+
+    /// Whether a node of some slots from a place on has a hash. Nodes below the sum's greatest child are others.
+    ///
+    /// # Safety
+    /// So many slots follow the place, and the greatest child is below the count.
+    #[inline(always)]
+    unsafe fn any_near(&self, from: usize, hash: u64, greatest: u64) -> bool {
+        (0..SEARCH_WINDOW).fold(false, |met, i| unsafe {
+            let slot = u64::from(*self.slots.add(from + i));
+            let id = if slot > greatest { slot - 1 } else { greatest };
+            met | (*self.node(id).add(2) == hash)
+        })
+    }
+
+    /// The search where more slots are in use than are compared together.
+    ///
+    /// # Safety
+    /// As for `add`.
+    #[inline(never)]
+    unsafe fn add_far(&mut self, hash: u64, left: u64, right: u64, first: usize) -> u64 {
+        let home = hash as usize & (self.size - 1);
+        let greatest = left.max(right);
+        unsafe {
+            let any = |met, i| met | self.any_near(home + i, hash, greatest);
+            if first < FREE_WINDOW && !(0..first).step_by(SEARCH_WINDOW).fold(false, any) {
+                return self.put(home + first, hash, left, right);
+            }
+            self.add_by_slots(hash, left, right)
+        }
+    }
+
     /// The id of a sum, old or new. The lists have place for it, and the table need not grow. The first slots are looked at
     /// together; a sum over the newest node is new.
     ///
@@ -104,24 +154,18 @@ impl Lists {
     unsafe fn add(&mut self, left: u64, right: u64) -> u64 {
         let hash = with_child(with_child(ADD_HASH, left), right);
         let home = hash as usize & (self.size - 1);
-        if home + WINDOW > self.size {
-            return unsafe { self.add_by_slots(hash, left, right) };
-        }
         unsafe {
-            let slots = self.slots.add(home);
-            let free = (0..WINDOW).rev().fold(WINDOW, |free, i| if *slots.add(i) == 0 { i } else { free });
-            if right + 1 != self.count {
-                let greatest = left.max(right);
-                let met = (0..WINDOW).rev().fold(WINDOW, |met, i| {
-                    let slot = u64::from(*slots.add(i));
-                    let id = if slot > greatest + 1 { slot - 1 } else { greatest };
-                    if *self.node(id).add(2) == hash { i } else { met }
-                });
-                if met < free {
-                    return self.add_by_slots(hash, left, right);
-                }
+            if home + FREE_WINDOW > self.size {
+                return self.add_by_slots(hash, left, right);
             }
-            if free < WINDOW { self.put(home + free, hash, left, right) } else { self.add_by_slots(hash, left, right) }
+            let first = self.first_empty(home);
+            if right + 1 == self.count && first < FREE_WINDOW {
+                return self.put(home + first, hash, left, right);
+            }
+            if first <= SEARCH_WINDOW && !self.any_near(home, hash, left.max(right)) {
+                return self.put(home + first, hash, left, right);
+            }
+            self.add_far(hash, left, right, first)
         }
     }
 
@@ -142,27 +186,28 @@ impl Lists {
         }
     }
 
-    /// The terms of a chain of Adds of two.
+    /// The terms of a chain of Adds of two that a threshold keeps, from the last to the first: in the last places. The first of them.
     ///
     /// # Safety
     /// The store is sound, the root is below the count and has at most `MOST_TERMS` terms.
-    unsafe fn flatten(&self, root: u64, terms: &mut [u64; MOST_TERMS]) -> usize {
-        let (mut found, mut top, mut id) = (0, MOST_TERMS, root);
+    unsafe fn flatten(&self, root: u64, threshold: f64, terms: &mut [u64; MOST_TERMS]) -> usize {
+        let (mut first, mut top, mut id) = (MOST_TERMS, 0, root);
         unsafe {
             loop {
                 let node = self.node(id);
                 if *node == ADD {
-                    top -= 1;
-                    *terms.get_unchecked_mut(top) = *node.add(7);
-                    id = *node.add(6);
-                } else {
-                    *terms.get_unchecked_mut(found) = id;
-                    found += 1;
-                    if top == MOST_TERMS {
-                        return found;
-                    }
-                    id = *terms.get_unchecked(top);
+                    *terms.get_unchecked_mut(top) = *node.add(6);
                     top += 1;
+                    id = *node.add(7);
+                } else {
+                    let magnitude = if *node == CONSTANT { f64::from_bits(*node.add(1)).abs() } else { 1.0 };
+                    *terms.get_unchecked_mut(first - 1) = id;
+                    first -= usize::from(magnitude >= threshold);
+                    if top == 0 {
+                        return first;
+                    }
+                    top -= 1;
+                    id = *terms.get_unchecked(top);
                 }
             }
         }
@@ -176,16 +221,8 @@ pub fn prune(store: &mut Ours, root: u32, threshold: f64) -> u32 {
     let mut lists = Lists { nodes, slots, count, size };
     // SAFETY: the benchmark's stores are sound, its chains have Adds of two and 4,096 terms.
     let id = unsafe {
-        let found = lists.flatten(u64::from(root), &mut terms);
-        let mut kept = 0;
-        for place in 0..found {
-            let id = *terms.get_unchecked(place);
-            let node = lists.node(id);
-            let magnitude = if *node == CONSTANT { f64::from_bits(*node.add(1)).abs() } else { 1.0 };
-            *terms.get_unchecked_mut(kept) = id;
-            kept += usize::from(magnitude >= threshold);
-        }
-        lists.balanced_add(&terms[..kept])
+        let first = lists.flatten(u64::from(root), threshold, &mut terms);
+        lists.balanced_add(&terms[first..])
     };
     store.set_count(lists.count);
     id as u32

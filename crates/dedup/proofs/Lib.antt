@@ -5,6 +5,8 @@ pub mod GreatestChild
 pub mod Nearing
 pub mod Pigeon
 pub mod FreePlaces
+pub mod TrailingZeros
+pub mod EmptySlots
 pub mod Placing
 pub mod Renewing
 pub mod Keys

@@ -3,20 +3,23 @@ use Prim.Native.Nat.{ℕ, _+_, _*_, _-_, _%_, _≤_, _<_}
 use mathlib.Core.Path.{_≡_, refl, sym, ap, _∙_, subst}
 use mathlib.Core.Bool.{false}
 use mathlib.Core.List.{List}
-use lib.ListN.{getD}
+use lib.ListN.{length, getD}
 use native.Mathlib.Omega.{arith}
 use native.Mathlib.Decide.{decLt}
+use borrow.Author.Count.{below-more}
 use Rattle.arena.specs.declared.node.DagNode.{DagNode}
 use Rattle.arena.specs.Layout.{nodeWords}
+use Rattle.dedup.specs.declared.probing.Place.the-variants.{Free}
 use Rattle.dedup.specs.Table.{slotFrom, AllKnown, hashAt}
-use Rattle.dedup.specs.Probe.{searchWindow, greatestChild, holds, Ready, Passed, ComparedId, OtherSlot, NearReady, PassedNear}
+use Rattle.dedup.specs.Probe.{greatestChild, holds, Ready, Passed, Probed, ComparedId, OtherHash, NearReady, NoneNear}
+use Rattle.dedup.specs.Insert.{freeWindow, FirstEmpty}
 use Rattle.dedup.proofs.Rounds.{round-inside}
-use Rattle.dedup.proofs.Searching.{holds-beyond, holds-hash}
+use Rattle.dedup.proofs.Searching.{holds-beyond, holds-hash, ends-free}
 use Rattle.dedup.proofs.GreatestChild.{holds-below}
 
--- a slot in use whose compared hash is another
-pub other-slot : (words : List ℕ) (hash greatest slot id : ℕ) → ComparedId slot greatest id → (slot ≡ 0 → ⊥) → (hashAt words id ≡ hash → ⊥) → OtherSlot words hash greatest slot
-other-slot words hash greatest slot id c u n = record { used = u; differs = λ b e. n (ap (hashAt words) (c .own b) ∙ e) }
+-- a slot whose compared hash is another
+pub other-hash : (words : List ℕ) (hash greatest slot id : ℕ) → ComparedId slot greatest id → (hashAt words id ≡ hash → ⊥) → OtherHash words hash greatest slot
+other-hash words hash greatest slot id c n = record { differs = λ b e. n (ap (hashAt words) (c .own b) ∙ e) }
 
 -- the words of a compared id are there
 pub compared-fits : (words slot greatest id : ℕ) → ComparedId slot greatest id → greatest * nodeWords + nodeWords ≤ words → slot * nodeWords ≤ words → id * nodeWords + nodeWords ≤ words
@@ -26,54 +29,64 @@ compared-fits words slot greatest id c g s = by (decLt greatest slot)
     by (yes l) = let e = c .own l in omega arith
     by (no l) = let e = c .other (omega arith) in omega arith
 
--- ---- from the last of the slots down
--- the slots from one place to another
-pub record Others (words slots : List ℕ) (home hash greatest first end : ℕ) : Type 0 where
-  pub each : (d : ℕ) → first ≤ d → d < end → OtherSlot words hash greatest (getD slots (home + d) 0)
+-- fewer slots, from one of them on, can be looked at too
+pub ready-onward : (words slots : List ℕ) (from all greatest i at count : ℕ) → at ≡ from + i → i + count ≤ all → NearReady words slots from all greatest → NearReady words slots at count greatest
+ready-onward words slots from all greatest i at count is l r = record {
+  inside = let s = r .inside in omega arith;
+  fits = r .fits;
+  there = λ d m. let e : from + (i + d) ≡ at + d = omega arith in subst (λ (x : ℕ). getD slots x 0 * nodeWords ≤ length words) e (r .there (i + d) (omega arith));
+}
 
-module _ (words slots : List ℕ) (home hash greatest first end : ℕ) where
-  pub others-none : end ≤ first → Others words slots home hash greatest first end
-  others-none l = record { each = λ d a b. absurd (omega arith) }
+-- ---- slots of which none holds the key's node
+module _ (words slots : List ℕ) (from hash greatest : ℕ) where
+  pub none-yet : NoneNear words slots from hash greatest 0
+  none-yet = record { each = λ d l. absurd (omega arith) }
 
-  pub passed-near : first ≤ 0 → end ≤ searchWindow → Others words slots home hash greatest first end → PassedNear words slots home hash greatest end
-  passed-near z l os = record { few = l; each = λ d b. os .each d (omega arith) b }
+  pub none-more : (count : ℕ) → NoneNear words slots from hash greatest count → OtherHash words hash greatest (getD slots (from + count) 0) → NoneNear words slots from hash greatest (count + 1)
+  none-more count n o = record { each = below-more _ _ (n .each) o }
 
-  -- one slot more
-  pub others-more : 0 < first → OtherSlot words hash greatest (getD slots (home + (first - 1)) 0) → Others words slots home hash greatest first end → Others words slots home hash greatest (first - 1) end
-  others-more p o os = record { each = λ d a b. by d a b (decLt d first) }
+  pub none-fewer : (count fewer : ℕ) → fewer ≤ count → NoneNear words slots from hash greatest count → NoneNear words slots from hash greatest fewer
+  none-fewer count fewer l n = record { each = λ d m. n .each d (omega arith) }
+
+  -- the slots from a place on, and those that follow
+  pub none-onward : (i count : ℕ) → NoneNear words slots from hash greatest i → NoneNear words slots (from + i) hash greatest count → NoneNear words slots from hash greatest (i + count)
+  none-onward i count n m = record { each = λ d l. by d l (decLt d i) }
     where
-      by : (d : ℕ) → first - 1 ≤ d → d < end → Dec (d < first) → OtherSlot words hash greatest (getD slots (home + d) 0)
-      by d a b (yes l) = let e : first - 1 ≡ d = omega arith in subst (λ (x : ℕ). OtherSlot words hash greatest (getD slots (home + x) 0)) e o
-      by d a b (no l) = os .each d (omega arith) b
+      by : (d : ℕ) → d < i + count → Dec (d < i) → OtherHash words hash greatest (getD slots (from + d) 0)
+      by d l (yes b) = n .each d b
+      by d l (no b) = let e : from + i + (d - i) ≡ from + d = omega arith in subst (λ (x : ℕ). OtherHash words hash greatest (getD slots x 0)) e (m .each (d - i) (omega arith))
 
 -- ---- such slots do not hold the key
 module _ (words : List ℕ) (known : ℕ) (slots : List ℕ) (size : ℕ) (key : DagNode) (r : Ready words known slots size key) (greatest : ℕ) (g : greatest ≡ greatestChild (key .children)) where
-  other-holds : (slot : ℕ) → OtherSlot words (key .hash) greatest slot → holds words known key slot ≡ false
-  other-holds slot o = sym (by (decLt (slot - 1) known) (decLt (slot - 1) greatest))
+  other-holds : (slot : ℕ) → (slot ≡ 0 → ⊥) → OtherHash words (key .hash) greatest slot → holds words known key slot ≡ false
+  other-holds slot n o = sym (by (decLt (slot - 1) known) (decLt (slot - 1) greatest))
     where
       used : 0 < slot
-      used = let n = o .used in omega arith
+      used = let m = n in omega arith
 
       by : Dec (slot - 1 < known) → Dec (slot - 1 < greatest) → false ≡ holds words known key slot
       by (no m) b = holds-beyond words known key slot (slot - 1) used refl (omega arith)
       by (yes l) (yes b) = holds-below words known key slot (slot - 1) used refl l (r .formed) (rw g at b)
       by (yes l) (no m) = let u = used in holds-hash words known key slot (slot - 1) used refl l (r .formed) (r .hashed) (o .differs (omega arith))
 
-  module _ (home : ℕ) (is : home ≡ key .hash % size) (inside : home + searchWindow ≤ size) where
-    near-slot : (d : ℕ) → d < searchWindow → getD slots (home + d) 0 ≡ slotFrom slots size (key .hash) d
-    near-slot d l = ap (λ (x : ℕ). getD slots x 0) (round-inside (key .hash) home d size is (let m = inside in omega arith))
-
+  module _ (home : ℕ) (is : home ≡ key .hash % size) (inside : home + freeWindow ≤ size) where
     -- what looking at them together needs is there
-    pub near-ready : AllKnown known slots size → greatest < known → NearReady words slots home greatest
+    pub near-ready : AllKnown known slots size → greatest < known → NearReady words slots home freeWindow greatest
     near-ready a l = record {
       inside = let s = r .sized in omega arith;
       fits = let f = r .formed .fits in omega arith;
       there = λ d m. let b = a (home + d) (omega arith) in let f = r .formed .fits in omega arith;
     }
 
-    -- a search passes them
-    pub near-passed : (passed : ℕ) → PassedNear words slots home (key .hash) greatest passed → Passed words known slots size key passed
-    near-passed passed p = record {
-      used = λ d l z. p .each d l .used (near-slot d (let m = p .few in omega arith) ∙ z);
-      other = λ d l. ap (holds words known key) (sym (near-slot d (let m = p .few in omega arith))) ∙ other-holds _ (p .each d l);
-    }
+    -- a search ends at the first empty slot
+    pub near-free : (first : ℕ) → first < freeWindow → FirstEmpty freeWindow slots home first → NoneNear words slots home (key .hash) greatest first → Probed words known slots size key (Free (home + first))
+    near-free first l e n = ends-free words known slots size key first passed (home + first) (round-inside (key .hash) home first size is (let m = inside in omega arith)) (let m = inside in omega arith) (e .empty l)
+      where
+        near-slot : (d : ℕ) → d < first → getD slots (home + d) 0 ≡ slotFrom slots size (key .hash) d
+        near-slot d b = ap (λ (x : ℕ). getD slots x 0) (round-inside (key .hash) home d size is (let m = inside in let k = l in omega arith))
+
+        passed : Passed words known slots size key first
+        passed = record {
+          used = λ d b z. e .used d b (near-slot d b ∙ z);
+          other = λ d b. ap (holds words known key) (sym (near-slot d b)) ∙ other-holds _ (e .used d b) (n .each d b);
+        }

@@ -16,13 +16,13 @@ pub record Room (slots : List ℕ) (size : ℕ) : Type 0 where
 
 -- how many slots are looked at together for an empty one
 abbrev pub freeWindow : ℕ
-freeWindow = 6
+freeWindow = 16
 
--- so many slots from a place on are in use, and the next is empty or past the window
-pub record FirstEmpty (slots : List ℕ) (home first : ℕ) : Type 0 where
-  pub within : first ≤ freeWindow
+-- so many slots of a window from a place on are in use, and the next is empty or past the window
+pub record FirstEmpty (window : ℕ) (slots : List ℕ) (home first : ℕ) : Type 0 where
+  pub within : first ≤ window
   pub used : (i : ℕ) → i < first → getD slots (home + i) 0 ≡ 0 → ⊥
-  pub empty : first < freeWindow → getD slots (home + first) 0 ≡ 0
+  pub empty : first < window → getD slots (home + first) 0 ≡ 0
 
 -- the first free place from a hash onward, round the end
 pub record FirstFree (slots : List ℕ) (size hash place : ℕ) : Type 0 where

@@ -68,18 +68,16 @@ pub record ComparedId (slot greatest id : ℕ) : Type 0 where
   pub own : greatest < slot → id ≡ slot - 1
   pub other : slot ≤ greatest → id ≡ greatest
 
--- a slot is in use, and has another hash where its id is not below the key's greatest child
-pub record OtherSlot (words : List ℕ) (hash greatest slot : ℕ) : Type 0 where
-  pub used : slot ≡ 0 → ⊥
+-- a slot has another hash where its id is not below the key's greatest child
+pub record OtherHash (words : List ℕ) (hash greatest slot : ℕ) : Type 0 where
   pub differs : greatest < slot → hashAt words (slot - 1) ≡ hash → ⊥
 
--- what looking at slots together needs: they do not go round the end, and the nodes of their ids and of the greatest child are there
-pub record NearReady (words slots : List ℕ) (home greatest : ℕ) : Type 0 where
-  pub inside : home + searchWindow ≤ length slots
+-- what looking at so many slots from a place on needs: they do not go round the end, and the nodes of their ids and of the greatest child are there
+pub record NearReady (words slots : List ℕ) (from count greatest : ℕ) : Type 0 where
+  pub inside : from + count ≤ length slots
   pub fits : greatest * nodeWords + nodeWords ≤ length words
-  pub there : (d : ℕ) → d < searchWindow → getD slots (home + d) 0 * nodeWords ≤ length words
+  pub there : (d : ℕ) → d < count → getD slots (from + d) 0 * nodeWords ≤ length words
 
--- so many slots from a place on are in use by other nodes
-pub record PassedNear (words slots : List ℕ) (home hash greatest passed : ℕ) : Type 0 where
-  pub few : passed ≤ searchWindow
-  pub each : (d : ℕ) → d < passed → OtherSlot words hash greatest (getD slots (home + d) 0)
+-- none of so many slots from a place on holds the key's node
+pub record NoneNear (words slots : List ℕ) (from hash greatest count : ℕ) : Type 0 where
+  pub each : (d : ℕ) → d < count → OtherHash words hash greatest (getD slots (from + d) 0)

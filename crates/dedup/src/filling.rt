@@ -6,29 +6,12 @@ ghost use lib.ListN.{length, replicate, drop};
 ghost use Rattle.arena.specs.Layout.{nodeWords, mostNodes};
 ghost use Rattle.arena.specs.Nodes.{AllWellFormed};
 ghost use Rattle.dedup.specs.Table.{hashAt};
-ghost use Rattle.dedup.specs.Insert.{freeWindow, FirstEmpty, Room, FirstFree, Taken, Fits, Rehashed};
+ghost use Rattle.dedup.specs.Insert.{Room, FirstFree, Taken, Fits, Rehashed};
 use crate::sizes::modulo_size;
+use crate::window::FREE_WINDOW;
+use crate::window::first_empty;
 use arena::HASH;
 use arena::NODE_WORDS;
-
-// How many slots are looked at together for an empty one, without a branch for each.
-const FREE_WINDOW: usize = 6;
-
-// How many slots from a place on come before the first empty one; FREE_WINDOW if none of so many is empty.
-fn first_empty(slots: &[u32], home: usize) -> usize
-    requires { ⌜ home + freeWindow ≤ length (now slots) ⌝ }
-    ensures { λ r. ⌜ FirstEmpty (now (slots .entry)) home r ⌝ }
-{
-    let mut first = FREE_WINDOW;
-    let mut i = FREE_WINDOW;
-    while 0 < i {
-        i -= 1;
-        if slots[home + i] == 0 {
-            first = i;
-        }
-    }
-    first
-}
 
 // The first free place from a place on, round the end. That the count of places passed stays below the size shows that
 // the loop ends.
@@ -51,12 +34,11 @@ pub(crate) fn free_place(slots: &[u32], size: usize, hash: u64) -> usize
     ensures { λ r. ⌜ FirstFree (now (slots .entry)) size hash r ⌝ }
 {
     let home = modulo_size(hash as usize, size);
-    if size - home < FREE_WINDOW {
-        return free_from(slots, size, home);
-    }
-    let first = first_empty(slots, home);
-    if first < FREE_WINDOW {
-        return home + first;
+    if FREE_WINDOW <= size - home {
+        let first = first_empty(slots, home);
+        if first < FREE_WINDOW {
+            return home + first;
+        }
     }
     free_from(slots, size, home)
 }

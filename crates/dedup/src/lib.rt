@@ -13,6 +13,7 @@ pub mod auditing;
 pub mod filling;
 pub mod probing;
 pub mod sizes;
+pub mod window;
 
 use arena::DagArena;
 use arena::DagNode;

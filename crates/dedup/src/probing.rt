@@ -1,11 +1,15 @@
 // The search round the table, which finding, inserting and the audit share.
 ghost use mathlib.Core.Path.{_≡_};
-ghost use Prim.Native.Nat.{_-_, _≤_, _<_};
+ghost use mathlib.Core.Bool.{false};
+ghost use Prim.Native.Nat.{_-_, _<_};
 ghost use Rattle.arena.specs.Node.{nodeHash};
 ghost use Rattle.arena.specs.Nodes.{AllWellFormed};
 ghost use Rattle.dedup.specs.Table.{AllKnown};
-ghost use Rattle.dedup.specs.Probe.{greatestChild, holds, Ready, Passed, Probed, ComparedId, NearReady, PassedNear};
+ghost use Rattle.dedup.specs.Probe.{greatestChild, holds, Ready, Probed, searchWindow, ComparedId, NearReady, NoneNear};
+ghost use Rattle.dedup.specs.Insert.{freeWindow};
 use crate::sizes::modulo_size;
+use crate::window::FREE_WINDOW;
+use crate::window::first_empty;
 use arena::DagNode;
 use arena::HASH;
 use arena::MOST_CHILDREN;
@@ -70,22 +74,14 @@ fn slot_holds(nodes: &[u64], slot: u32, key: DagNode, known: u64) -> bool
     )
 }
 
-// The first slot from so many places past the key's hash onward, round the end, that is empty or holds a node that
-// is one with the key. Those before are in use by other nodes.
-fn probe_from(
-    nodes: &[u64],
-    slots: &[u32],
-    size: usize,
-    key: DagNode,
-    known: u64,
-    start: usize,
-) -> Place
-    requires { ⌜ Ready (now nodes) known (now slots) size key × Passed (now nodes) known (now slots) size key start × (start ≤ size) ⌝ }
+// The first slot from the key's hash onward, round the end, that is empty or holds a node that is one with the
+// key. Only nodes below `known` are compared.
+pub(crate) fn probe(nodes: &[u64], slots: &[u32], size: usize, key: DagNode, known: u64) -> Place
+    requires { ⌜ Ready (now nodes) known (now slots) size key ⌝ }
     ensures { λ r. ⌜ Probed (now (nodes .entry)) known (now (slots .entry)) size key r ⌝ }
 {
-    // The hash is brought into the table first, so that the sum does not overflow.
-    let mut at = modulo_size(modulo_size(key.hash as usize, size) + start, size);
-    let mut passed = start;
+    let mut at = modulo_size(key.hash as usize, size);
+    let mut passed: usize = 0;
     while passed < size {
         let slot = slots[at];
         if slot == 0 {
@@ -100,15 +96,6 @@ fn probe_from(
     Place::Nowhere
 }
 
-// The first slot from the key's hash onward, round the end, that is empty or holds a node that is one with the
-// key. Only nodes below `known` are compared.
-pub(crate) fn probe(nodes: &[u64], slots: &[u32], size: usize, key: DagNode, known: u64) -> Place
-    requires { ⌜ Ready (now nodes) known (now slots) size key ⌝ }
-    ensures { λ r. ⌜ Probed (now (nodes .entry)) known (now (slots .entry)) size key r ⌝ }
-{
-    probe_from(nodes, slots, size, key, known, 0)
-}
-
 // The id whose hash is compared for a slot: the slot's own if its node can be the key's, else the greatest child's.
 // Children are lower than their node, so that a node below the key's greatest child is another.
 fn compared_id(slot: u32, greatest: u64) -> u64
@@ -118,25 +105,48 @@ fn compared_id(slot: u32, greatest: u64) -> u64
     if greatest < next { next - 1 } else { greatest }
 }
 
-// How many slots from a place on, SEARCH_WINDOW at most, are surely in use by other nodes.
-fn pass_near(nodes: &[u64], slots: &[u32], home: usize, hash: u64, greatest: u64) -> usize
-    requires { ⌜ NearReady (now nodes) (now slots) home greatest ⌝ }
-    ensures { λ r. ⌜ PassedNear (now (nodes .entry)) (now (slots .entry)) home hash greatest r ⌝ }
+// Whether one of SEARCH_WINDOW slots from a place on may hold the key's node. Only hashes are compared.
+fn any_near(nodes: &[u64], slots: &[u32], from: usize, hash: u64, greatest: u64) -> bool
+    requires { ⌜ NearReady (now nodes) (now slots) from searchWindow greatest ⌝ }
+    ensures { λ r. ⌜ (r ≡ false → NoneNear (now (nodes .entry)) (now (slots .entry)) from hash greatest searchWindow) ⌝ }
 {
-    let mut passed = SEARCH_WINDOW;
-    let mut i = SEARCH_WINDOW;
-    while 0 < i {
-        i -= 1;
-        let near = slots[home + i];
-        let id = compared_id(near, greatest);
+    let mut met = false;
+    let mut i: usize = 0;
+    while i < SEARCH_WINDOW {
+        let id = compared_id(slots[from + i], greatest);
         if nodes[id as usize * NODE_WORDS + HASH] == hash {
-            passed = i;
+            met = true;
         }
-        if near == 0 {
-            passed = i;
-        }
+        i += 1;
     }
-    passed
+    met
+}
+
+// Whether one of so many slots from a place on may hold the key's node. They are looked at SEARCH_WINDOW at a time, so that a few past them
+// may be looked at too. Most often there are few.
+fn any_before(
+    nodes: &[u64],
+    slots: &[u32],
+    home: usize,
+    end: usize,
+    hash: u64,
+    greatest: u64,
+) -> bool
+    requires { ⌜ NearReady (now nodes) (now slots) home freeWindow greatest × (end < freeWindow) ⌝ }
+    ensures { λ r. ⌜ (r ≡ false → NoneNear (now (nodes .entry)) (now (slots .entry)) home hash greatest end) ⌝ }
+{
+    if end <= SEARCH_WINDOW {
+        return any_near(nodes, slots, home, hash, greatest);
+    }
+    let mut met = false;
+    let mut i: usize = 0;
+    while i < end {
+        if any_near(nodes, slots, home + i, hash, greatest) {
+            met = true;
+        }
+        i += SEARCH_WINDOW;
+    }
+    met
 }
 
 // The same search as `probe`, whose first slots are looked at together, in a table whose ids are all known.
@@ -153,12 +163,15 @@ pub(crate) fn probe_near(
     let children = key.children;
     let greatest = greatest_child(children);
     let home = modulo_size(key.hash as usize, size);
-    if size - home < SEARCH_WINDOW {
-        return probe(nodes, slots, size, key, known);
+    if FREE_WINDOW <= size - home {
+        if greatest < known {
+            let first = first_empty(slots, home);
+            if first < FREE_WINDOW {
+                if !any_before(nodes, slots, home, first, key.hash, greatest) {
+                    return Place::Free(home + first);
+                }
+            }
+        }
     }
-    if known <= greatest {
-        return probe(nodes, slots, size, key, known);
-    }
-    let passed = pass_near(nodes, slots, home, key.hash, greatest);
-    probe_from(nodes, slots, size, key, known, passed)
+    probe(nodes, slots, size, key, known)
 }

@@ -2,7 +2,6 @@
 use Prim.Native.Nat.{ℕ, zero, suc, _<_}
 use mathlib.Core.Bool.{Bool, true, false, cond}
 use mathlib.Core.List.{List, [], _∷_, _++_, map}
-use lib.ListN.{take, drop}
 use native.Mathlib.Omega.{arith}
 use Rattle.definitions.specs.Prune.{concat, filter}
 use Rattle.definitions.proofs.Stable.{Lower}
@@ -22,6 +21,10 @@ pub lower-append : (n : ℕ) (a b : List ℕ) → Lower n a → Lower n b → Lo
 lower-append n [] b x y = y
 lower-append n (i ∷ a) b x y = (x .0, lower-append n a b (x .1) y)
 
+pub lower-parts : (n : ℕ) (a b : List ℕ) → Lower n (a ++ b) → Lower n a × Lower n b
+lower-parts n [] b l = (tt, l)
+lower-parts n (i ∷ a) b l = let t = lower-parts n a b (l .1) in ((l .0, t .0), t .1)
+
 pub lower-concat : (n m : ℕ) (f : ℕ → List ℕ) → ((k : ℕ) → k < m → Lower n (f k)) → (ids : List ℕ) → Lower m ids → Lower n (concat (map f ids))
 lower-concat n m f h [] l = tt
 lower-concat n m f h (i ∷ ids) l = lower-append n (f i) (concat (map f ids)) (h i (l .0)) (lower-concat n m f h ids (l .1))
@@ -33,13 +36,3 @@ lower-filter n p (i ∷ ids) l = go (p i) (lower-filter n p ids (l .1))
     go : (b : Bool) → Lower n (filter p ids) → Lower n (cond b (i ∷ filter p ids) (filter p ids))
     go true r = (l .0, r)
     go false r = r
-
-pub lower-take : (n k : ℕ) (ids : List ℕ) → Lower n ids → Lower n (take k ids)
-lower-take n zero ids l = tt
-lower-take n (suc k) [] l = tt
-lower-take n (suc k) (i ∷ ids) l = (l .0, lower-take n k ids (l .1))
-
-pub lower-drop : (n k : ℕ) (ids : List ℕ) → Lower n ids → Lower n (drop k ids)
-lower-drop n zero ids l = l
-lower-drop n (suc k) [] l = tt
-lower-drop n (suc k) (i ∷ ids) l = lower-drop n k ids (l .1)

@@ -7,7 +7,9 @@ pub mod Flattening
 pub mod Filtering
 pub mod Halving
 pub mod Parts
-pub mod Counts
+pub mod Resuming
+pub mod Splitting
+pub mod Joining
 pub mod Summing
 pub mod Pruning
 pub mod Calling

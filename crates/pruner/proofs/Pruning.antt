@@ -4,7 +4,8 @@ use mathlib.Core.Path.{_≡_, refl, sym, ap, ap₂, _∙_, subst}
 use mathlib.Core.Bool.{Bool, true, cond, not, false≢true}
 use mathlib.Core.Logic.{inl, inr}
 use mathlib.Core.List.{List}
-use lib.ListN.{length, take}
+use lib.ListN.{length, drop}
+use lib.Seq.{take-all}
 use lib.Dec.{ltb}
 use lib.Ieee.{Float, binary64, ofBits}
 use native.Mathlib.Omega.{arith}
@@ -29,7 +30,7 @@ use Rattle.store.specs.Memory.{Memory, memory, keepsInterned}
 use Rattle.store.proofs.Keeping.{kept-refl}
 use Rattle.store.proofs.Viewing.{plain-length}
 use Rattle.pruner.specs.Terms.{Flattens, Holds}
-use Rattle.pruner.specs.Sums.{Summable, Sums}
+use Rattle.pruner.specs.Sums.{part, Summable, Sums}
 use Rattle.pruner.specs.Answers.{meaning, thresholdOf, Prunes, PrunesChain, PrunesRoot, PrunesCall}
 use Rattle.pruner.specs.declared.threshold.Threshold.{Threshold}
 use Rattle.pruner.specs.declared.threshold.Threshold.the-variants.{Bits, Refusing}
@@ -140,23 +141,24 @@ module _ (words slots : List ℕ) (s : DagArena) (sound : Sound words slots s) w
         pub within : kept ≤ mostTerms
         within = omega (arith, few, holds .1)
 
-        kept-are : take kept array ≡ ks
-        kept-are = holds .3
+        -- the last places hold the kept terms, and no more
+        kept-are : part array (mostTerms - kept) kept ≡ ks
+        kept-are = take-all kept (drop (mostTerms - kept) array) (omega (arith, ap length (holds .3), holds .2)) ∙ holds .3
 
-        kept-many : length (take kept array) ≡ kept
+        kept-many : length (part array (mostTerms - kept) kept) ≡ kept
         kept-many = ap length kept-are ∙ sym (holds .2)
 
         kept-low : Lower (s .count) ks
         kept-low = lower-filter (s .count) (keeps ns t) ts terms-low
 
-        pub summable : Summable words slots s (take kept array)
+        pub summable : Summable words slots s (part array (mostTerms - kept) kept)
         summable = record {
           sound = sound;
           few = omega (arith, within, kept-many);
-          below = below-of (s .count) (take kept array) (subst (Lower (s .count)) (sym kept-are) kept-low);
+          below = below-of (s .count) (part array (mostTerms - kept) kept) (subst (Lower (s .count)) (sym kept-are) kept-low);
         }
 
-        plain : (sum : I.Built) → sum ≡ sumOfKept l ns (take kept array) → prunedAs kept (found - kept) sum ≡ pruneChain l ns t ts
+        plain : (sum : I.Built) → sum ≡ sumOfKept l ns (part array (mostTerms - kept) kept) → prunedAs kept (found - kept) sum ≡ pruneChain l ns t ts
         unfolding pruneChain
         plain sum e =
             let b : found - kept ≡ length ts - length ks = ap₂ (λ (x y : ℕ). x - y) (holds .0) (holds .2) in
@@ -164,11 +166,11 @@ module _ (words slots : List ℕ) (s : DagArena) (sound : Sound words slots s) w
             ∙ ap₂ (λ (x y : ℕ). prunedAs x y (sumOfKept l ns ks)) (holds .2) b
             ∙ sym (ap (λ (b : Bool). cond b (outcome (M.refused tooManyTerms) ns) (prunedAs (length ks) (length ts - length ks) (sumOfKept l ns ks))) (le-ltb mostTerms (length ts) (let x = holds .0 in let y = holds .1 in omega arith)))
 
-        module _ (words′ slots′ : List ℕ) (r : Built) (b : Sums words slots s (take kept array) words′ slots′ r) where
+        module _ (words′ slots′ : List ℕ) (r : Built) (b : Sums words slots s (part array (mostTerms - kept) kept) words′ slots′ r) where
           abbrev ns′ : List Node
           ns′ = nodesIn words′ (r .arena .count)
 
-          said : (answer : Store.Answer) → r .answer ≡ answer → plainBuilt answer ns′ ≡ sumOfKept l ns (take kept array)
+          said : (answer : Store.Answer) → r .answer ≡ answer → plainBuilt answer ns′ ≡ sumOfKept l ns (part array (mostTerms - kept) kept)
           said answer e = ap (λ (x : Store.Answer). plainBuilt x ns′) (sym e) ∙ b .answer
 
           pub answered : (id : ℕ) → r .answer ≡ Stores.Id id
@@ -192,4 +194,4 @@ module _ (words slots : List ℕ) (s : DagArena) (sound : Sound words slots s) w
               is other q = cc
 
               by-place : NoPlace number
-              by-place = subst StopsForPlace (sym (said (Stores.Refused number) e)) (sum-stops l ns (take kept array))
+              by-place = subst StopsForPlace (sym (said (Stores.Refused number) e)) (sum-stops l ns (part array (mostTerms - kept) kept))

@@ -1,5 +1,5 @@
 -- The terms of a chain that are kept, in an array.
-use Prim.Native.Nat.{ℕ, _+_, _<_, _≤_}
+use Prim.Native.Nat.{ℕ, _+_, _-_, _<_, _≤_}
 use mathlib.Core.Path.{_≡_}
 use mathlib.Core.Bool.{Bool}
 use mathlib.Core.List.{List, _++_}
@@ -10,7 +10,7 @@ use Rattle.definitions.specs.Prune.{filter}
 use Rattle.store.specs.View.{nodesIn}
 use Rattle.store.specs.Lookup.{Lookup}
 use Rattle.pruner.specs.declared.chain.Waiting.{Waiting}
-use Rattle.pruner.specs.declared.chain.Waiting.the-variants.{From, Nowhere}
+use Rattle.pruner.specs.declared.chain.Waiting.the-variants.{Before, Nowhere}
 use Rattle.pruner.specs.declared.chain.Flattened.{Flattened}
 use Rattle.pruner.specs.declared.chain.Flattened.the-variants.{Terms, TooMany}
 
@@ -27,18 +27,18 @@ pub record Readable (words : List ℕ) (count : ℕ) : Type 0 where
 abbrev pub AllBelow : ℕ → List ℕ → Type 0
 AllBelow count ids = (place : ℕ) → place < length ids → getD ids place 0 < count
 
--- How the children of an Add after its first are put before the ids that wait from `top` on: from a place on that the first `used` places leave
--- free, or nowhere, since there are more children than places.
+-- How the children of an Add before its last are put after the ids that wait before `top`: before a place, so that those from `free` on stay, or
+-- nowhere, since there are more children than places.
 abbrev pub Pushes : List ℕ → ℕ → ℕ → List ℕ → Waiting → List ℕ → Type 0
-Pushes children used top array (From from) array′ =
-    (used ≤ from) × (from + length children ≡ top + 1) × (take used array′ ≡ take used array) × (drop from array′ ≡ drop 1 children ++ drop top array) × (length array′ ≡ mostTerms)
-Pushes children used top array Nowhere array′ = (top + 1 < used + length children) × (length array′ ≡ mostTerms)
+Pushes children top free array (Before to) array′ =
+    (to ≤ free) × (to + 1 ≡ top + length children) × (take to array′ ≡ take top array ++ take (length children - 1) children) × (drop free array′ ≡ drop free array) × (length array′ ≡ mostTerms)
+Pushes children top free array Nowhere array′ = (free + 1 < top + length children) × (length array′ ≡ mostTerms)
 
--- The number of the chain's terms, and those kept, "a term is kept if its magnitude is at least the threshold", in order in the first places of the
+-- The number of the chain's terms, and those kept, "a term is kept if its magnitude is at least the threshold", in order in the last places of the
 -- array; or, "over 4,096 terms", kept or not, the answer that there are too many.
 abbrev pub Holds : List ℕ → (ℕ → Bool) → Flattened → List ℕ → Type 0
 Holds terms keep (Terms found kept) array =
-    (found ≡ length terms) × (found ≤ mostTerms) × (kept ≡ length (filter keep terms)) × (take kept array ≡ filter keep terms)
+    (found ≡ length terms) × (found ≤ mostTerms) × (kept ≡ length (filter keep terms)) × (drop (mostTerms - kept) array ≡ filter keep terms)
 Holds terms keep TooMany array = mostTerms < length terms
 
 -- How a flattening ends. The array keeps its length.

@@ -15,73 +15,73 @@ use arena::kind::ADD;
 // 01: "over 4,096 terms" is refused.
 pub const MOST_TERMS: usize = 4096;
 
-// Where the ids that wait to be flattened stand: in the last places of the array, in order.
+// Where the ids that wait to be flattened stand: in the first places of the array, in order.
 pub enum Waiting {
-    // From this place on.
-    From(usize),
+    // Before this place.
+    Before(usize),
     // There is no place for them.
     Nowhere,
 }
 
 pub enum Flattened {
-    // So many terms were found, of which so many are kept: these stand in the first places of the array.
+    // So many terms were found, of which so many are kept: these stand in the last places of the array.
     Terms { found: usize, kept: usize },
     // Over 4,096 terms.
     TooMany,
 }
 
-// The second of a node's two children, put before the ids that wait from `top` on. The first `used` places stay.
-fn push_second(
+// The first of a node's two children, put after the ids that wait before `top`. The places from `free` on stay.
+fn push_first(
     nodes: &[u64],
     count: u64,
     id: u64,
     terms: &mut [u64; MOST_TERMS],
-    used: usize,
     top: usize,
+    free: usize,
 ) -> Waiting
-    requires { ⌜ Lookup (now nodes) count id × (length (childrenIn (now nodes) count id) ≡ 2) × (used ≤ top) × (top ≤ mostTerms) × (length (now terms) ≡ mostTerms) ⌝ }
-    ensures { λ r. ⌜ Pushes (childrenIn (now (nodes .entry)) count id) used top (now (terms .entry)) r (now (terms .exit)) ⌝ }
+    requires { ⌜ Lookup (now nodes) count id × (length (childrenIn (now nodes) count id) ≡ 2) × (top ≤ free) × (free ≤ mostTerms) × (length (now terms) ≡ mostTerms) ⌝ }
+    ensures { λ r. ⌜ Pushes (childrenIn (now (nodes .entry)) count id) top free (now (terms .entry)) r (now (terms .exit)) ⌝ }
 {
-    if top <= used {
+    if free <= top {
         return Waiting::Nowhere;
     }
-    let free = top - 1;
-    terms[free] = store::child(nodes, count, id, 1);
-    Waiting::From(free)
+    terms[top] = store::child(nodes, count, id, 0);
+    Waiting::Before(top + 1)
 }
 
-// The children of a node after its first, put before the ids that wait from `top` on. The first `used` places stay.
+// The children of a node before its last, put after the ids that wait before `top`. The places from `free` on stay.
 // Most Adds have two children. They go without the loop, since its preparation costs more than they do.
 fn push_siblings(
     nodes: &[u64],
     count: u64,
     id: u64,
     terms: &mut [u64; MOST_TERMS],
-    used: usize,
     top: usize,
+    free: usize,
 ) -> Waiting
-    requires { ⌜ Lookup (now nodes) count id × (0 < length (childrenIn (now nodes) count id)) × (used ≤ top) × (top ≤ mostTerms) × (length (now terms) ≡ mostTerms) ⌝ }
-    ensures { λ r. ⌜ Pushes (childrenIn (now (nodes .entry)) count id) used top (now (terms .entry)) r (now (terms .exit)) ⌝ }
+    requires { ⌜ Lookup (now nodes) count id × (0 < length (childrenIn (now nodes) count id)) × (top ≤ free) × (free ≤ mostTerms) × (length (now terms) ≡ mostTerms) ⌝ }
+    ensures { λ r. ⌜ Pushes (childrenIn (now (nodes .entry)) count id) top free (now (terms .entry)) r (now (terms .exit)) ⌝ }
 {
-    let mut place = store::arity(nodes, count, id) as usize;
-    if place == 2 {
-        return push_second(nodes, count, id, terms, used, top);
+    let last = store::arity(nodes, count, id) as usize - 1;
+    if last == 1 {
+        return push_first(nodes, count, id, terms, top, free);
     }
-    let mut from = top;
-    while 1 < place {
-        if from <= used {
+    let mut to = top;
+    let mut place: usize = 0;
+    while place < last {
+        if free <= to {
             return Waiting::Nowhere;
         }
-        place -= 1;
-        from -= 1;
-        terms[from] = store::child(nodes, count, id, place);
+        terms[to] = store::child(nodes, count, id, place);
+        place += 1;
+        to += 1;
     }
-    Waiting::From(from)
+    Waiting::Before(to)
 }
 
-// The terms under an id that a threshold keeps. They stand in the first places, and the ids that wait in the last ones,
-// from `top` on. Each of these and `id` give a term at least, so that there are too many terms exactly if those found,
-// kept or not, leave no place.
+// The terms under an id that a threshold keeps, from the last to the first. They stand in the last places, and the ids
+// that wait in the first ones, before `top`. Each of these and `id` give a term at least, so that there are too many terms
+// exactly if those found, kept or not, leave no place.
 pub(crate) fn flatten(
     nodes: &[u64],
     count: u64,
@@ -94,29 +94,34 @@ pub(crate) fn flatten(
 {
     let mut found: usize = 0;
     let mut kept: usize = 0;
-    let mut top: usize = MOST_TERMS;
+    let mut top: usize = 0;
     let mut id = root;
     loop {
         if store::kind(nodes, count, id) == ADD {
-            match push_siblings(nodes, count, id, terms, found + 1, top) {
+            match push_siblings(nodes, count, id, terms, top, MOST_TERMS - found - 1) {
                 Waiting::Nowhere => return Flattened::TooMany,
-                Waiting::From(from) => {
-                    top = from;
-                    id = store::child(nodes, count, id, 0);
+                Waiting::Before(to) => {
+                    top = to;
+                    id = store::child(
+                        nodes,
+                        count,
+                        id,
+                        store::arity(nodes, count, id) as usize - 1,
+                    );
                 }
             }
         } else {
             // Each term is put, and only counted if it is kept, so that no branch waits for what is kept.
-            terms[kept] = id;
+            terms[MOST_TERMS - 1 - kept] = id;
             found += 1;
             if keeps(nodes, count, threshold, id) {
                 kept += 1;
             }
-            if top == MOST_TERMS {
+            if top == 0 {
                 return Flattened::Terms { found, kept };
             }
+            top -= 1;
             id = terms[top];
-            top += 1;
         }
     }
 }

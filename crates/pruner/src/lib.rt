@@ -50,7 +50,7 @@ fn prune_chain(
             arena,
         },
         Flattened::Terms { found, kept } => {
-            let built = sum::balanced_add(nodes, slots, arena, &terms, kept);
+            let built = sum::balanced_add(nodes, slots, arena, &terms, MOST_TERMS - kept, kept);
             let after = built.arena;
             let answer = built.answer;
             match answer {

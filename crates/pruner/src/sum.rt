@@ -1,9 +1,10 @@
 // The sum of the kept terms. 01: "0.0, the one term, or halves split at floor(n/2), left first".
 ghost use Prim.Native.Nat.{_<_, _≤_};
 ghost use mathlib.Core.Path.{_≡_};
-ghost use lib.ListN.{length, getD};
+ghost use lib.ListN.{length};
+ghost use Rattle.arena.specs.Layout.{arenaOf};
 ghost use Rattle.store.specs.View.{Sound};
-ghost use Rattle.pruner.specs.Sums.{countsLength, arenaIn, part, Inside, Summable, Zero, Sums, AddsNumber, SumsNumber};
+ghost use Rattle.pruner.specs.Sums.{mostPending, part, Inside, Summable, Zero, Sums, AddsNumber, SumsNumber, Few, Splits, Summed, Joins};
 use crate::chain::MOST_TERMS;
 use arena::DagArena;
 use arena::REORDERABLE;
@@ -15,15 +16,8 @@ use store::Built;
 use store::REFUSALS;
 use store::answer_in;
 
-// The numbers that one sum hands on to the next, in one array: the store's count and size, and the id after the last sum's. So the sums'
-// arguments fit in registers.
-const COUNTS: usize = 3;
-
-const COUNT: usize = 0;
-
-const SIZE: usize = 1;
-
-const NEXT: usize = 2;
+// How many halvings of at most 4,096 terms are not done at a time.
+const MOST_PENDING: usize = 12;
 
 // The flags that `add` gives.
 const ADD_FLAGS: u64 = REORDERABLE;
@@ -50,21 +44,21 @@ fn zero(nodes: &mut [u64], slots: &mut [u32], arena: DagArena) -> Built
 fn add(
     nodes: &mut [u64],
     slots: &mut [u32],
-    counts: &mut [u64; COUNTS],
+    count: &mut u64,
+    size: &mut usize,
+    next: &mut u64,
     left: u64,
     right: u64,
 ) -> u64
-    requires { ⌜ (left < getD (now counts) 0 0) × (right < getD (now counts) 0 0) × Sound (now nodes) (now slots) (arenaIn (now counts)) × (length (now counts) ≡ countsLength) ⌝ }
-    ensures { λ r. ⌜ AddsNumber (now (nodes .entry)) (now (slots .entry)) (arenaIn (now (counts .entry))) left right (now (nodes .exit)) (now (slots .exit)) r (arenaIn (now (counts .exit))) × (length (now (counts .exit)) ≡ countsLength) ⌝ }
+    requires { ⌜ (left < now count) × (right < now count) × Sound (now nodes) (now slots) (arenaOf (now count) (now size)) ⌝ }
+    ensures { λ r. ⌜ AddsNumber (now (nodes .entry)) (now (slots .entry)) (arenaOf (now (count .entry)) (now (size .entry))) left right (now (nodes .exit)) (now (slots .exit)) r (arenaOf (now (count .exit)) (now (size .exit))) ⌝ }
 {
-    let mut count = counts[COUNT];
-    let mut size = counts[SIZE] as usize;
-    let likely = counts[NEXT];
+    let likely = *next;
     let number = store::intern_likely(
         nodes,
         slots,
-        &mut count,
-        &mut size,
+        count,
+        size,
         ADD,
         0,
         ADD_FLAGS,
@@ -72,83 +66,123 @@ fn add(
         [left, right, 0, 0],
         likely,
     );
-    counts[COUNT] = count;
-    counts[SIZE] = size as u64;
-    counts[NEXT] = number + 1;
+    *next = number + 1;
     number
 }
 
-// The sum of one half, as a number: the one term, or the sum of its own halves.
-fn half(
-    nodes: &mut [u64],
-    slots: &mut [u32],
-    counts: &mut [u64; COUNTS],
-    terms: &[u64; MOST_TERMS],
-    from: usize,
-    n: usize,
-) -> u64
-    requires { ⌜ (1 ≤ n) × Inside (now terms) from n × Summable (now nodes) (now slots) (arenaIn (now counts)) (part (now terms) from n) × (length (now counts) ≡ countsLength) ⌝ }
-    ensures { λ r. ⌜ SumsNumber (now (nodes .entry)) (now (slots .entry)) (arenaIn (now (counts .entry))) (part (now (terms .entry)) from n) (now (nodes .exit)) (now (slots .exit)) r (arenaIn (now (counts .exit))) × (length (now (counts .exit)) ≡ countsLength) ⌝ }
+// The halves of `n` terms, and of their first half, and so on to one term. The sizes of the second halves are put from a depth on. The
+// depth after them.
+fn split(rights: &mut [usize; MOST_PENDING], depth: usize, n: usize) -> usize
+    requires { ⌜ Few depth n × (length (now rights) ≡ mostPending) ⌝ }
+    ensures { λ r. ⌜ Splits (now (rights .entry)) depth n (now (rights .exit)) r ⌝ }
 {
-    if n == 1 {
-        return terms[from];
+    let mut rest = n;
+    let mut to = depth;
+    while 1 < rest {
+        rights[to] = rest - rest / 2;
+        to += 1;
+        rest = rest / 2;
     }
-    sum(nodes, slots, counts, terms, from, n)
+    to
 }
 
-// The sum of two or more terms, `n` from a place on, as a number. What was interned before a refusal stays.
+// A term added to the sums of first halves whose second half it ends. The depth after them: where a second half comes next, its first half's sum
+// is put; after the last one, and after a refusal, the depth is 0 and the number is put first.
+fn join(
+    nodes: &mut [u64],
+    slots: &mut [u32],
+    count: &mut u64,
+    size: &mut usize,
+    next: &mut u64,
+    rights: &[usize; MOST_PENDING],
+    lefts: &mut [u64; MOST_PENDING],
+    depth: usize,
+    term: u64,
+) -> usize
+    requires { ⌜ (depth ≤ mostPending) × (length (now rights) ≡ mostPending) × (length (now lefts) ≡ mostPending) × Summed (now rights) (now lefts) depth (now count) × (term < now count) × Sound (now nodes) (now slots) (arenaOf (now count) (now size)) ⌝ }
+    ensures { λ r. ⌜ Joins (now (nodes .entry)) (now (slots .entry)) (arenaOf (now (count .entry)) (now (size .entry))) (now (rights .entry)) (now (lefts .entry)) depth term (now (nodes .exit)) (now (slots .exit)) (arenaOf (now (count .exit)) (now (size .exit))) (now (lefts .exit)) r ⌝ }
+{
+    let mut number = term;
+    let mut from = depth;
+    while 0 < from {
+        if rights[from - 1] != 0 {
+            lefts[from - 1] = number;
+            return from;
+        }
+        from -= 1;
+        number = add(nodes, slots, count, size, next, lefts[from], number);
+        if REFUSALS <= number {
+            lefts[0] = number;
+            return 0;
+        }
+    }
+    lefts[0] = number;
+    0
+}
+
+// The sum of one or more terms, `n` from a place on, as a number. What was interned before a refusal stays. The halvings that are not done stand in
+// two arrays: the size of a second half, or 0 if it is being summed; and then the sum of its first half.
 fn sum(
     nodes: &mut [u64],
     slots: &mut [u32],
-    counts: &mut [u64; COUNTS],
+    count: &mut u64,
+    size: &mut usize,
     terms: &[u64; MOST_TERMS],
     from: usize,
     n: usize,
 ) -> u64
-    requires { ⌜ (2 ≤ n) × Inside (now terms) from n × Summable (now nodes) (now slots) (arenaIn (now counts)) (part (now terms) from n) × (length (now counts) ≡ countsLength) ⌝ }
-    ensures { λ r. ⌜ SumsNumber (now (nodes .entry)) (now (slots .entry)) (arenaIn (now (counts .entry))) (part (now (terms .entry)) from n) (now (nodes .exit)) (now (slots .exit)) r (arenaIn (now (counts .exit))) × (length (now (counts .exit)) ≡ countsLength) ⌝ }
+    requires { ⌜ (1 ≤ n) × Inside (now terms) from n × Summable (now nodes) (now slots) (arenaOf (now count) (now size)) (part (now terms) from n) ⌝ }
+    ensures { λ r. ⌜ SumsNumber (now (nodes .entry)) (now (slots .entry)) (arenaOf (now (count .entry)) (now (size .entry))) (part (now (terms .entry)) from n) (now (nodes .exit)) (now (slots .exit)) r (arenaOf (now (count .exit)) (now (size .exit))) ⌝ }
 {
-    let mid = n / 2;
-    let left = half(nodes, slots, counts, terms, from, mid);
-    if REFUSALS <= left {
-        return left;
+    let mut rights = [0usize; MOST_PENDING];
+    let mut lefts = [0u64; MOST_PENDING];
+    // No sum came before the first, so that any id may be looked at first.
+    let mut next: u64 = 0;
+    let mut depth: usize = 0;
+    let mut rest = n;
+    let mut at = from;
+    loop {
+        depth = split(&mut rights, depth, rest);
+        depth = join(
+            nodes,
+            slots,
+            count,
+            size,
+            &mut next,
+            &rights,
+            &mut lefts,
+            depth,
+            terms[at],
+        );
+        if depth == 0 {
+            return lefts[0];
+        }
+        at += 1;
+        rest = rights[depth - 1];
+        rights[depth - 1] = 0;
     }
-    let right = half(nodes, slots, counts, terms, from + mid, n - mid);
-    if REFUSALS <= right {
-        return right;
-    }
-    add(nodes, slots, counts, left, right)
 }
 
-// The sum of the first `n` terms. What was interned before a refusal stays.
+// The sum of `n` terms from a place on. What was interned before a refusal stays.
 pub(crate) fn balanced_add(
     nodes: &mut [u64],
     slots: &mut [u32],
     arena: DagArena,
     terms: &[u64; MOST_TERMS],
+    from: usize,
     n: usize,
 ) -> Built
-    requires { ⌜ Inside (now terms) 0 n × Summable (now nodes) (now slots) arena (part (now terms) 0 n) ⌝ }
-    ensures { λ r. ⌜ Sums (now (nodes .entry)) (now (slots .entry)) arena (part (now (terms .entry)) 0 n) (now (nodes .exit)) (now (slots .exit)) r ⌝ }
+    requires { ⌜ Inside (now terms) from n × Summable (now nodes) (now slots) arena (part (now terms) from n) ⌝ }
+    ensures { λ r. ⌜ Sums (now (nodes .entry)) (now (slots .entry)) arena (part (now (terms .entry)) from n) (now (nodes .exit)) (now (slots .exit)) r ⌝ }
 {
     if n == 0 {
         return zero(nodes, slots, arena);
     }
-    if n == 1 {
-        let only = terms[0];
-        return Built {
-            answer: Answer::Id(only),
-            arena,
-        };
-    }
-    // No sum came before the first, so that any id may be looked at first.
-    let mut counts = [arena.count, arena.size as u64, 0];
-    let number = sum(nodes, slots, &mut counts, terms, 0, n);
+    let mut count = arena.count;
+    let mut size = arena.size;
+    let number = sum(nodes, slots, &mut count, &mut size, terms, from, n);
     Built {
         answer: answer_in(number),
-        arena: DagArena {
-            count: counts[COUNT],
-            size: counts[SIZE] as usize,
-        },
+        arena: DagArena { count, size },
     }
 }

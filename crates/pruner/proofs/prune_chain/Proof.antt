@@ -17,6 +17,12 @@ enum-told c = search needs
 enum-known-found : tie.Need-enum-known-found
 enum-known-found c = search needs
 
+sub-balanced-add : tie.Need-sub-balanced-add
+sub-balanced-add c =
+    let p = c .before .before .before .before .before .before .before .before .before .before .before .pre in
+    let holds = Q.holds-of _ _ _ _ _ _ (c .before .before .before .before .before .before .flatten .ensures) (c .before .before .before .before .found .given .1) in
+    Q.within _ _ _ (p .1) _ (p .0) _ _ _ _ holds
+
 balanced-add-requires : tie.Need-balanced-add-requires
 balanced-add-requires c κs =
     let p = c .before .before .before .before .before .before .before .before .before .before .before .pre in
@@ -31,8 +37,8 @@ enum-known-answer c = search needs
 enum-known-answer-2 : tie.Need-enum-known-answer-2
 enum-known-answer-2 c = search needs
 
-sub-t29 : tie.Need-sub-t29
-sub-t29 c =
+sub-t30 : tie.Need-sub-t30
+sub-t30 c =
     let holds = Q.holds-of _ _ _ _ _ _ (c .before .before .before .before .before .before .before .before .before .before .before .before .before .before .before .flatten .ensures) (c .before .before .before .before .before .before .before .before .before .before .before .before .before .found .given .1) in
     let few = Q.few _ _ _ (c .before .before .before .before .before .before .before .before .before .before .before .before .before .before .before .before .before .before .before .before .pre .1) _ (c .before .before .before .before .before .before .before .before .before .before .before .before .before .before .before .before .before .before .before .before .pre .0) _ _ _ _ holds in
     omega arith
@@ -72,10 +78,11 @@ prune-chain-spec =
     flatten-requires
     enum-told
     enum-known-found
+    sub-balanced-add
     balanced-add-requires
     enum-known-answer
     enum-known-answer-2
-    sub-t29
+    sub-t30
     same-length
     returns
     same-length-2

@@ -11,26 +11,20 @@ modulo-size-requires c κs = search needs
 sub-if1 : tie.Need-sub-if1
 sub-if1 c = let l = home-in _ _ _ _ (c .modulo-size .ensures) (c .before .before .pre) in omega arith
 
-free-from-requires : tie.Need-free-from-requires
-free-from-requires c κs = (home-in _ _ _ _ (c .before .modulo-size .ensures) (c .before .before .before .pre), c .before .before .before .pre)
-
-returns : tie.Need-returns
-returns c = free-onward _ _ _ _ (c .before .before .modulo-size .ensures) _ (c .free-from .ensures)
-
 first-empty-requires : tie.Need-first-empty-requires
 first-empty-requires c κs = search needs
 
 add-result : tie.Need-add-result
 add-result c = search needs
 
+returns : tie.Need-returns
+returns c = free-in-window _ _ _ _ (c .before .before .before .modulo-size .ensures) _ (let l = c .before .before .if1 .taken in omega arith) (c .if2 .taken) (c .before .first-empty .ensures)
+
+free-from-requires : tie.Need-free-from-requires
+free-from-requires c κs = (home-in _ _ _ _ (c .before .modulo-size .ensures) (c .before .before .before .pre), c .before .before .before .pre)
+
 returns-2 : tie.Need-returns-2
-returns-2 c = free-in-window _ _ _ _ (c .before .before .before .modulo-size .ensures) _ (let l = c .before .before .if1 .left in omega arith) (c .if2 .taken) (c .before .first-empty .ensures)
-
-free-from-requires-2 : tie.Need-free-from-requires-2
-free-from-requires-2 c κs = search needs
-
-returns-3 : tie.Need-returns-3
-returns-3 c = free-onward _ _ _ _ (c .before .before .before .before .modulo-size .ensures) _ (c .free-from2 .ensures)
+returns-2 c = free-onward _ _ _ _ (c .before .before .modulo-size .ensures) _ (c .free-from .ensures)
 
 pub free-place-spec : {M : Type 1} → statement M
 free-place-spec =
@@ -38,10 +32,8 @@ free-place-spec =
     (tie.spec
     modulo-size-requires
     sub-if1
-    free-from-requires
-    returns
     first-empty-requires
     add-result
-    returns-2
-    free-from-requires-2
-    returns-3)
+    returns
+    free-from-requires
+    returns-2)

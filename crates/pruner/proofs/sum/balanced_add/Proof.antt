@@ -2,8 +2,8 @@
 use native.Mathlib.Omega.{arith}
 use borrow.Author.Needs.{needs}
 use Rattle.store.proofs.Decoding.{builds-in}
-use Rattle.pruner.proofs.Parts.{part-length, part-first}
-use Rattle.pruner.proofs.Summing as Q
+use Rattle.pruner.proofs.Parts.{part-length}
+use Rattle.pruner.proofs.Summing.{sums-none}
 use Rattle.pruner.proofs.sum.balanced_add.Statement.{statement}
 use Rattle.pruner.proofs.sum.balanced_add.Tie as tie
 
@@ -17,17 +17,9 @@ same-length-2 : tie.Need-same-length-2
 same-length-2 c = search needs
 
 returns : tie.Need-returns
-returns c = let p = c .before .before .before .before .before .before .before .before .before .before .pre in let e = part-length _ _ _ (p .0) in Q.sums-none _ _ _ _ (p .1) (omega (arith, e, c .before .before .before .before .before .before .before .if1 .taken)) _ _ _ (c .before .before .before .before .zero .ensures)
-
-element-copy-out-only : tie.Need-element-copy-out-only
-element-copy-out-only c = search needs
-
-returns-2 : tie.Need-returns-2
-returns-2 c =
-    let p = c .before .before .before .before .before .pre in
-    let e = part-length _ _ _ (p .0) in
-    let one = c .before .if2 .taken in
-    rw (← part-first _ _ _ (p .0) (omega (arith, one))) (Q.sums-one _ _ _ _ (p .1) (omega (arith, e, one)))
+returns c =
+    let e = part-length _ _ _ (c .before .before .before .before .before .before .before .before .before .before .pre .0) in
+    sums-none _ _ _ _ (omega (arith, e, c .before .before .before .before .before .before .before .if1 .taken)) _ _ _ (c .before .before .before .before .zero .ensures)
 
 sum-requires : tie.Need-sum-requires
 sum-requires c κs = search needs
@@ -35,20 +27,14 @@ sum-requires c κs = search needs
 answer-in-requires : tie.Need-answer-in-requires
 answer-in-requires c κs = search needs
 
-array-read-t18 : tie.Need-array-read-t18
-array-read-t18 c = search needs
-
-array-read-t29 : tie.Need-array-read-t29
-array-read-t29 c = search needs
-
 same-length-3 : tie.Need-same-length-3
 same-length-3 c = search needs
 
 same-length-4 : tie.Need-same-length-4
 same-length-4 c = search needs
 
-returns-3 : tie.Need-returns-3
-returns-3 c = rw (c .answer-in .ensures) (builds-in _ _ _ _ _ _ _ _ (c .before .before .before .before .before .sum .ensures .0))
+returns-2 : tie.Need-returns-2
+returns-2 c = rw (c .answer-in .ensures) (builds-in _ _ _ _ _ _ _ _ (c .before .before .before .before .before .sum .ensures))
 
 pub balanced-add-spec : {M : Type 1} → statement M
 balanced-add-spec =
@@ -58,12 +44,8 @@ balanced-add-spec =
     same-length
     same-length-2
     returns
-    element-copy-out-only
-    returns-2
     sum-requires
     answer-in-requires
-    array-read-t18
-    array-read-t29
     same-length-3
     same-length-4
-    returns-3)
+    returns-2)

@@ -1,0 +1,27 @@
+-- `pruner::chain::push_first` meets its contract. Assumes nothing.
+use borrow.Author.Needs.{needs}
+use Rattle.pruner.proofs.Pushing as Q
+use Rattle.pruner.proofs.chain.push_first.Statement.{statement}
+use Rattle.pruner.proofs.chain.push_first.Tie as tie
+
+returns : tie.Need-returns
+returns c = search needs
+
+child-requires : tie.Need-child-requires
+child-requires c κs = search needs
+
+mul-terms : tie.Need-mul-terms
+mul-terms c = search needs
+
+element-write-terms : tie.Need-element-write-terms
+element-write-terms c = search needs
+
+add-t9 : tie.Need-add-t9
+add-t9 c = search needs
+
+returns-2 : tie.Need-returns-2
+returns-2 c = search (needs, Q.first)
+
+pub push-first-spec : {M : Type 1} → statement M
+push-first-spec =
+    tie.close (tie.spec returns child-requires mul-terms element-write-terms add-t9 returns-2)
