@@ -144,10 +144,29 @@ fn product(store: &mut impl Store, variables: &[u32], number: u32) -> u32 {
 /// The threshold of the prunes, which half of a chain's terms fall below.
 pub const THRESHOLD: f64 = 0.5;
 
-/// A left-deep chain of terms, by turns a constant below the threshold and a product, in a store with other nodes.
+/// The side on which a chain's sums stand.
+#[derive(Clone, Copy, PartialEq)]
+pub enum Side {
+    Left,
+    Right,
+}
+
+/// A chain of terms, by turns a constant below the threshold and a product, in a store with other nodes.
 pub struct Chain {
     pub terms: u32,
     pub others: u32,
+    pub side: Side,
+}
+
+impl Chain {
+    /// A term that is a constant below the threshold, or one that is kept.
+    fn term(store: &mut impl Store, variables: &[u32], number: u32) -> u32 {
+        if number % 2 == 0 {
+            store.constant(f64::from(number + 1) / 65_536.0 * THRESHOLD)
+        } else {
+            product(store, variables, number)
+        }
+    }
 }
 
 impl Formula for Chain {
@@ -157,13 +176,13 @@ impl Formula for Chain {
         }
         let variables = variables(store);
         let mut sum = None;
-        for term in 0..self.terms {
-            let id = if term % 2 == 0 {
-                store.constant(f64::from(term + 1) / 65_536.0 * THRESHOLD)
-            } else {
-                product(store, &variables, term)
-            };
-            sum = Some(sum.map_or(id, |sum| store.add(sum, id)));
+        for number in 0..self.terms {
+            let term = Self::term(store, &variables, number);
+            sum = Some(match (sum, self.side) {
+                (None, _) => term,
+                (Some(sum), Side::Left) => store.add(sum, term),
+                (Some(sum), Side::Right) => store.add(term, sum),
+            });
         }
         sum.expect("a chain has a term")
     }

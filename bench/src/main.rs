@@ -9,7 +9,7 @@ mod store;
 mod theirs;
 mod timing;
 
-use inputs::{Chain, Changing, Formula, Settled, THRESHOLD, requests, variables};
+use inputs::{Chain, Changing, Formula, Settled, Side, THRESHOLD, requests, variables};
 use ours::Ours;
 use sheets::Writer;
 use store::Store;
@@ -120,7 +120,8 @@ fn pruning(store: &mut Ours, chain: &Chain, threshold: f64, earlier: usize) {
         &mut || with_hash::time_prune(chain, threshold, earlier, root, answer) / many,
     ]);
     let again = if earlier == 0 { "" } else { " again" };
-    let what = format!("pruning{again}: {} terms, {kept} kept, {dropped} dropped, among {before} nodes", chain.terms);
+    let side = if chain.side == Side::Left { "" } else { ", sums on the right" };
+    let what = format!("pruning{again}: {} terms{side}, {kept} kept, {dropped} dropped, among {before} nodes", chain.terms);
     row(&what, "ns a term", times[0], &times[1..]);
 }
 
@@ -213,13 +214,13 @@ fn main() {
         }
     }
     if chosen("pruning") {
-        for others in [0, 16_000, 50_000] {
-            for earlier in [0, 1] {
-                pruning(&mut store, &Chain { terms: TERMS, others }, THRESHOLD, earlier);
-            }
-        }
+        let chain = |others, side| Chain { terms: TERMS, others, side };
         for earlier in [0, 1] {
-            pruning(&mut store, &Chain { terms: TERMS, others: 0 }, 0.0, earlier);
+            for others in [0, 16_000, 50_000] {
+                pruning(&mut store, &chain(others, Side::Left), THRESHOLD, earlier);
+            }
+            pruning(&mut store, &chain(0, Side::Left), 0.0, earlier);
+            pruning(&mut store, &chain(16_000, Side::Right), THRESHOLD, earlier);
         }
     }
     if chosen("sheets") {
@@ -230,7 +231,7 @@ fn main() {
     if chosen("hand") {
         println!("\n| other nodes | ours, ns a term | by hand | the Rust (ratio to by hand) |\n|---|---|---|---|");
         for others in [0, 16_000, 50_000] {
-            pruning_by_hand(&mut store, &Chain { terms: TERMS, others });
+            pruning_by_hand(&mut store, &Chain { terms: TERMS, others, side: Side::Left });
         }
     }
     if chosen("hashing") {

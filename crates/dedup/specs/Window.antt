@@ -7,6 +7,10 @@ use lib.ListN.{getD}
 abbrev pub quarter : ℕ
 quarter = 4
 
+-- how many values its binary digits have
+abbrev pub quarterValues : ℕ
+quarterValues = 16
+
 -- 1 for an empty slot, else 0
 unfoldable pub emptyDigit : ℕ → ℕ
 emptyDigit zero = 1

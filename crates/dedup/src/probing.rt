@@ -122,8 +122,8 @@ fn any_near(nodes: &[u64], slots: &[u32], from: usize, hash: u64, greatest: u64)
     met
 }
 
-// Whether one of so many slots from a place on may hold the key's node. They are looked at SEARCH_WINDOW at a time, so that a few past them
-// may be looked at too. Most often there are few.
+// Whether one of so many slots from a place on, or a few past them, may hold the key's node. Most often SEARCH_WINDOW slots
+// are enough, and go without the loop.
 fn any_before(
     nodes: &[u64],
     slots: &[u32],

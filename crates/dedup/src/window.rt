@@ -3,7 +3,7 @@ ghost use mathlib.Core.Path.{_≡_};
 ghost use Prim.Native.Nat.{_+_, _*_, _≤_, _<_};
 ghost use lib.ListN.{length};
 ghost use Rattle.dedup.specs.Insert.{freeWindow, FirstEmpty};
-ghost use Rattle.dedup.specs.Window.{quarter, emptyDigit, emptyDigits};
+ghost use Rattle.dedup.specs.Window.{quarter, quarterValues, emptyDigit, emptyDigits};
 
 // How many slots are looked at together.
 pub(crate) const FREE_WINDOW: usize = 16;
@@ -11,7 +11,7 @@ pub(crate) const FREE_WINDOW: usize = 16;
 // A quarter of them.
 const QUARTER: usize = 4;
 
-// What a quarter's binary digits count up to.
+// How many values a quarter's binary digits have.
 const QUARTER_VALUES: u32 = 16;
 
 // A weight if a slot is empty, else 0.
@@ -24,7 +24,7 @@ fn weight_if_empty(slot: u32, weight: u32) -> u32
 // Four slots from a place on as binary digits, the lowest first: 1 if a slot is empty.
 fn empties_of_quarter(slots: &[u32], from: usize) -> u32
     requires { ⌜ from + quarter ≤ length (now slots) ⌝ }
-    ensures { λ r. ⌜ (r ≡ emptyDigits quarter (now (slots .entry)) from) × (r < 16) ⌝ }
+    ensures { λ r. ⌜ (r ≡ emptyDigits quarter (now (slots .entry)) from) × (r < quarterValues) ⌝ }
 {
     weight_if_empty(slots[from], 1)
         + weight_if_empty(slots[from + 1], 2)
@@ -32,7 +32,7 @@ fn empties_of_quarter(slots: &[u32], from: usize) -> u32
         + weight_if_empty(slots[from + 3], 8)
 }
 
-// FREE_WINDOW slots from a place on as binary digits, the lowest first. Sums of this form are compiled to few instructions.
+// FREE_WINDOW slots from a place on as binary digits, the lowest first. A sum of this form is compiled to few instructions.
 fn empties(slots: &[u32], home: usize) -> u32
     requires { ⌜ home + freeWindow ≤ length (now slots) ⌝ }
     ensures { λ r. ⌜ r ≡ emptyDigits freeWindow (now (slots .entry)) home ⌝ }

@@ -142,6 +142,9 @@ examples =
     -- five kept, (a+b)+(c+(d+e)): the nodes of that sum are there
     ∷ example (variables 5 1 ++ plus 0 1 ∷ plus 5 2 ∷ plus 6 3 ∷ plus 7 4 ∷ prune 8 tenth ∷ plus 3 4 ∷ plus 2 9 ∷ plus 5 10 ∷ [])
     (stored 0 ∷ stored 1 ∷ stored 2 ∷ stored 3 ∷ stored 4 ∷ stored 5 ∷ stored 6 ∷ stored 7 ∷ stored 8 ∷ pruned 11 5 0 ∷ stored 9 ∷ stored 10 ∷ stored 11 ∷ [])
+    -- four kept of one Add: the left half has the lower ids
+    ∷ example (variables 4 1 ++ store (operator 0 3 (0 ∷ 1 ∷ 2 ∷ 3 ∷ [])) ∷ prune 4 tenth ∷ plus 0 1 ∷ plus 2 3 ∷ plus 5 6 ∷ [])
+    (stored 0 ∷ stored 1 ∷ stored 2 ∷ stored 3 ∷ stored 4 ∷ pruned 7 4 0 ∷ stored 5 ∷ stored 6 ∷ stored 7 ∷ [])
     ∷ []
 
 pub examples-hold : map (λ (e : Example). answers (e .given) empty (e .calls)) examples ≡ map (λ (e : Example). e .expected) examples

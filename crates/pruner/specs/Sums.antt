@@ -46,7 +46,7 @@ abbrev pub SumsNumber : List ℕ → List ℕ → DagArena → List ℕ → List
 SumsNumber words slots arena terms = BuildsNumber words slots arena (sumOfKept (lent words slots) (nodesIn words (arena .count)) terms)
 
 -- ---- halvings that are not done, by their depth: the size of the second half, or 0 if it is being summed, and then the sum of the first half
--- how many halvings of at most 4,096 terms are not done at a time
+-- how many halvings of at most 4,096 terms are not done at a time, one fewer than what `sumOfKept` allows
 abbrev pub mostPending : ℕ
 mostPending = 12
 

@@ -102,12 +102,8 @@ pub(crate) fn flatten(
                 Waiting::Nowhere => return Flattened::TooMany,
                 Waiting::Before(to) => {
                     top = to;
-                    id = store::child(
-                        nodes,
-                        count,
-                        id,
-                        store::arity(nodes, count, id) as usize - 1,
-                    );
+                    let last = store::arity(nodes, count, id) as usize - 1;
+                    id = store::child(nodes, count, id, last);
                 }
             }
         } else {

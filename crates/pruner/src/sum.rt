@@ -11,7 +11,6 @@ use arena::REORDERABLE;
 use arena::kind::ADD;
 use arena::kind::CONSTANT;
 use fold::BITS_OF_ZERO;
-use store::Answer;
 use store::Built;
 use store::REFUSALS;
 use store::answer_in;
@@ -70,8 +69,8 @@ fn add(
     number
 }
 
-// The halves of `n` terms, and of their first half, and so on to one term. The sizes of the second halves are put from a depth on. The
-// depth after them.
+// `n` terms halved, and their first half, and so on to one term: the sizes of the second halves are put from a depth on. The
+// answer is the depth after them.
 fn split(rights: &mut [usize; MOST_PENDING], depth: usize, n: usize) -> usize
     requires { ⌜ Few depth n × (length (now rights) ≡ mostPending) ⌝ }
     ensures { λ r. ⌜ Splits (now (rights .entry)) depth n (now (rights .exit)) r ⌝ }
@@ -86,8 +85,8 @@ fn split(rights: &mut [usize; MOST_PENDING], depth: usize, n: usize) -> usize
     to
 }
 
-// A term added to the sums of first halves whose second half it ends. The depth after them: where a second half comes next, its first half's sum
-// is put; after the last one, and after a refusal, the depth is 0 and the number is put first.
+// A term added to the sums of the first halves whose second half it ends. The answer is the depth after them, where the
+// number is put: as the sum of a first half, or at depth 0 as that of all or as a refusal.
 fn join(
     nodes: &mut [u64],
     slots: &mut [u32],
@@ -120,8 +119,8 @@ fn join(
     0
 }
 
-// The sum of one or more terms, `n` from a place on, as a number. What was interned before a refusal stays. The halvings that are not done stand in
-// two arrays: the size of a second half, or 0 if it is being summed; and then the sum of its first half.
+// The sum of one or more terms, `n` from a place on, as a number. Of the halvings that are not done one array has the size
+// of the second half, or 0 if it is being summed, and the other then the sum of the first half.
 fn sum(
     nodes: &mut [u64],
     slots: &mut [u32],

@@ -77,3 +77,17 @@ pub(crate) fn shared_terms() {
     node(&nodes, &slots, pruned, 6);
     text(b"\n");
 }
+
+// One sum of x, 0.05 and 0.2: all kept, then the middle one dropped.
+pub(crate) fn three_terms() {
+    let mut nodes = [0u64; 640];
+    let mut slots = [0u32; 128];
+    let stored = store_of(&mut nodes, &mut slots, &[TWENTIETH, FIFTH], &[]);
+    let root = sum(&mut nodes, &mut slots, stored, &[0, 1, 2]);
+    text(b"three terms:");
+    let pruned = prunes(&mut nodes, &mut slots, root, 3, &[TWENTIETH, TENTH]);
+    node(&nodes, &slots, pruned, 4);
+    node(&nodes, &slots, pruned, 5);
+    node(&nodes, &slots, pruned, 6);
+    text(b"\n");
+}

@@ -5,6 +5,7 @@ use crate::numbers::TENTH;
 use crate::printing::text;
 use crate::rows::Row;
 use crate::rows::put_row;
+use crate::shown::node;
 use crate::shown::prune;
 use crate::shown::prunes;
 use crate::stores::open;
@@ -53,6 +54,25 @@ pub(crate) fn nested_sums() {
     let pruned = prunes(&mut nodes, &mut slots, nested, 1429, &[TENTH, TENTH + 16]);
     let more = sum(&mut nodes, &mut slots, pruned, &[1429, 0]);
     prune(&mut nodes, &mut slots, more, 1544, TENTH);
+    text(b"\n");
+}
+
+// The same with each sum behind its three constants, so that 4,095 ids wait at once; the one more stands on either side.
+pub(crate) fn nested_last() {
+    let mut nodes = [0u64; 16000];
+    let mut slots = [0u32; 4096];
+    let opened = open(&nodes, &mut slots);
+    let constants = put_row(&mut nodes, &mut slots, opened, Row::Constants, 64);
+    let first = sum(&mut nodes, &mut slots, constants, &[0]);
+    let nested = put_row(&mut nodes, &mut slots, first, Row::NestedLast, 1365);
+    text(b"nested last:");
+    let pruned = prunes(&mut nodes, &mut slots, nested, 1429, &[TENTH, TENTH + 16]);
+    let before = sum(&mut nodes, &mut slots, pruned, &[0, 1429]);
+    let behind = sum(&mut nodes, &mut slots, before, &[1429, 0]);
+    let refused = prune(&mut nodes, &mut slots, behind, 1544, TENTH);
+    let again = prune(&mut nodes, &mut slots, refused, 1545, TENTH);
+    node(&nodes, &slots, again, 1430);
+    node(&nodes, &slots, again, 1499);
     text(b"\n");
 }
 

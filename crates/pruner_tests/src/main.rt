@@ -3,8 +3,10 @@
 //
 // keeps two, keeps none, keeps five: 01's examples, and what is kept at a threshold beside a magnitude.
 // shared terms: a shared term counts each time it is met, and a product is one term.
+// three terms: a sum of three different terms keeps their order, also without the middle one.
 // doublings, one more: 4,096 terms and more under shared sums; 2^40 terms are refused at once.
 // nested sums: 4,096 terms under 1,366 sums, of which 1,024 are below the threshold; 4,097 are refused.
+// nested last: the same with each sum as the last child of the next.
 // unary sums: a chain of one term under 60 sums.
 // at the ends, not numbers, settings: thresholds 0, 1, infinity, -0.0 and NaN; settings 10, 100, 9 and 101.
 // simplified: prunes of one formula before a walk, after walks that ran out, and after a whole one.
@@ -25,9 +27,11 @@ fn main() {
     examples::keeps_none();
     examples::keeps_five();
     examples::shared_terms();
+    examples::three_terms();
     limits::doublings();
     limits::one_more();
     limits::nested_sums();
+    limits::nested_last();
     limits::unary_sums();
     thresholds::at_the_ends();
     thresholds::not_numbers();

@@ -20,6 +20,8 @@ pub(crate) enum Row {
     Wrapped,
     // Over 64 constants and the sum of the first one alone: the last sum and the next three constants, in turn.
     Nested,
+    // Over the same: the next three constants, the last of them first, and the last sum.
+    NestedLast,
 }
 
 // Number `i` of a row.
@@ -40,6 +42,17 @@ fn in_row(nodes: &mut [u64], slots: &mut [u32], arena: DagArena, row: Row, i: u3
                 (3 * i + 1) % CONSTANTS,
                 (3 * i + 2) % CONSTANTS,
                 (3 * i + 3) % CONSTANTS,
+            ],
+        ),
+        Row::NestedLast => sum(
+            nodes,
+            slots,
+            arena,
+            &[
+                (3 * i + 3) % CONSTANTS,
+                (3 * i + 2) % CONSTANTS,
+                (3 * i + 1) % CONSTANTS,
+                CONSTANTS + i,
             ],
         ),
     }

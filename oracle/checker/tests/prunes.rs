@@ -134,6 +134,17 @@ fn shared_terms() -> Test {
     test
 }
 
+fn three_terms() -> Test {
+    let mut test = Test::with("three terms", &[bits(0.05), bits(0.2)], &[]);
+    test.sum(&[0, 1, 2]);
+    test.prune(3, bits(0.05));
+    test.prune(3, bits(0.1));
+    for id in 4..7 {
+        test.node(id);
+    }
+    test
+}
+
 fn doublings() -> Test {
     let mut test = Test::with("doublings", &[], &[]);
     test.doubled(40);
@@ -169,6 +180,26 @@ fn nested_sums() -> Test {
     test.prune(1_429, bits(0.1) + 16);
     test.sum(&[1_429, 0]);
     test.prune(1_544, bits(0.1));
+    test
+}
+
+fn nested_last() -> Test {
+    let mut test = Test::new("nested last", 1_600, 4_096);
+    for number in 0..64 {
+        test.built(&Call::Constant { bits: bits(0.1) + number });
+    }
+    test.sum(&[0]);
+    for number in 0..1_365 {
+        test.sum(&[(3 * number + 3) % 64, (3 * number + 2) % 64, (3 * number + 1) % 64, 64 + number]);
+    }
+    test.prune(1_429, bits(0.1));
+    test.prune(1_429, bits(0.1) + 16);
+    test.sum(&[0, 1_429]);
+    test.sum(&[1_429, 0]);
+    test.prune(1_544, bits(0.1));
+    test.prune(1_545, bits(0.1));
+    test.node(1_430);
+    test.node(1_499);
     test
 }
 
@@ -277,9 +308,11 @@ fn the_port_prints_what_the_checker_answers() {
         keeps_none(),
         keeps_five(),
         shared_terms(),
+        three_terms(),
         doublings(),
         one_more(),
         nested_sums(),
+        nested_last(),
         unary_sums(),
         at_the_ends(),
         not_numbers(),

@@ -44,8 +44,8 @@ enum-known-to c = search needs
 arity-requires : tie.Need-arity-requires Inv-loop μ-loop
 arity-requires c κs = c .before .before .before .before .before .before .before .before .before .pre .1 .lookup _ (Q.id-below _ _ _ _ (c .before .before .before .before .before .before .before .before .before .pre .1) _ _ _ _ _ (c .before .before .before .before .before .before .before .loop .inv))
 
-sub-child : tie.Need-sub-child Inv-loop μ-loop
-sub-child c = omega (arith, c .arity .ensures, Q.has-child _ _ _ _ (c .before .before .before .before .before .before .before .before .before .before .pre .1) _ _ _ _ _ (c .before .before .before .before .before .before .before .before .loop .inv) (sym (c .before .before .before .before .before .before .before .kind .ensures) ∙ c .before .before .before .before .before .before .if1 .taken))
+sub-last : tie.Need-sub-last Inv-loop μ-loop
+sub-last c = omega (arith, c .arity .ensures, Q.has-child _ _ _ _ (c .before .before .before .before .before .before .before .before .before .before .pre .1) _ _ _ _ _ (c .before .before .before .before .before .before .before .before .loop .inv) (sym (c .before .before .before .before .before .before .before .kind .ensures) ∙ c .before .before .before .before .before .before .if1 .taken))
 
 child-requires : tie.Need-child-requires Inv-loop μ-loop
 child-requires c κs = (omega (arith, c .arity .ensures, Q.has-child _ _ _ _ (c .before .before .before .before .before .before .before .before .before .before .pre .1) _ _ _ _ _ (c .before .before .before .before .before .before .before .before .loop .inv) (sym (c .before .before .before .before .before .before .before .kind .ensures) ∙ c .before .before .before .before .before .before .if1 .taken)), c .before .before .before .before .before .before .before .before .before .before .pre .1 .lookup _ (Q.id-below _ _ _ _ (c .before .before .before .before .before .before .before .before .before .before .pre .1) _ _ _ _ _ (c .before .before .before .before .before .before .before .before .loop .inv)))
@@ -114,7 +114,7 @@ flatten-spec =
     returns
     enum-known-to
     arity-requires
-    sub-child
+    sub-last
     child-requires
     loop-less
     loop-again

@@ -57,7 +57,8 @@ add-requires : tie.Need-add-requires Inv-loop μ-loop
 add-requires c κs =
     let other = c .before .before .before .before .before .before in
     let test = other .before .before in
-    Q.addable _ _ _ _ _ _ _ _ _ _ _ _ _ (test .before .loop .inv) (test .loop-test .taken) (other .if1 .left) (c .before .before .before .before .before .before .before .before .before .before .before .before .pre .3)
+    let a = Q.addable _ _ _ _ _ _ _ _ _ _ _ _ _ (test .before .loop .inv) (test .loop-test .taken) (other .if1 .left) (c .before .before .before .before .before .before .before .before .before .before .before .before .pre .3) in
+    search needs
 
 element-write-lefts-2 : tie.Need-element-write-lefts-2 Inv-loop μ-loop
 element-write-lefts-2 c = omega arith

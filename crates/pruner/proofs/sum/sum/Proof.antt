@@ -4,6 +4,7 @@ use lib.ListN.{length-replicate}
 use native.Mathlib.Omega.{arith}
 use borrow.Author.Needs.{needs}
 use Rattle.arena.specs.Layout.{arenaOf}
+use Rattle.pruner.specs.Sums.{mostPending}
 use Rattle.pruner.proofs.Summing as Q
 use Rattle.pruner.proofs.Summing.{Summing}
 use Rattle.pruner.proofs.sum.sum.Statement.{statement}
@@ -17,7 +18,7 @@ abbrev μ-loop : tie.MeasureT-loop
 μ-loop nodes₀ slots₀ count₀ size₀ terms from n rights₀ lefts₀ next₀ depth₀ rest₀ at₀ nodes slots count size rights lefts next depth rest at = from + n - at
 
 loop-holds : tie.Need-loop-holds Inv-loop μ-loop
-loop-holds c = let p = c .before .before .pre in Q.begins _ _ _ _ _ _ (p .0) (p .1) (p .2) _ _ (length-replicate {A = ℕ} 12 0) (length-replicate {A = ℕ} 12 0)
+loop-holds c = let p = c .before .before .pre in Q.begins _ _ _ _ _ _ (p .0) (p .1) (p .2) _ _ (length-replicate {A = ℕ} mostPending 0) (length-replicate {A = ℕ} mostPending 0)
 
 split-requires : tie.Need-split-requires Inv-loop μ-loop
 split-requires c κs = (c .before .loop .inv .unfinished .few, c .before .loop .inv .unfinished .sizes .long)
