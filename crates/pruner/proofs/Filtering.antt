@@ -1,13 +1,14 @@
--- Terms by their magnitude, and a term that `flatten` puts before those kept.
-use Prim.Native.Nat.{ℕ, suc, _+_, _-_, _<_}
+-- Terms by their magnitude, and a term that `flatten` puts after the first ones kept or before the last ones kept.
+use Prim.Native.Nat.{ℕ, suc, _+_, _-_, _<_, _≤_}
 use mathlib.Core.Path.{_≡_, refl, sym, ap, _∙_}
 use mathlib.Core.Bool.{Bool, true, false, cond}
 use mathlib.Core.Logic.{_⊎_, ⊎-elim}
-use mathlib.Core.List.{List, [], _∷_, _++_, append-assoc}
-use lib.ListN.{length, drop, set, length-set}
-use lib.Seq.{drop-cons, drop-set-lt, getD-set-same}
+use mathlib.Core.List.{List, [], _∷_, _++_, append-nil, append-assoc}
+use lib.ListN.{length, take, drop, set, length-set}
+use lib.Seq.{drop-cons, drop-set-lt, take-suc-set, take-set-le, getD-set-same}
 use lib.Ieee.{binary64, ofBits}
 use native.Mathlib.Omega.{arith}
+use native.Mathlib.Numerals.{add-one}
 use mathlib.Core.Option.{none, some}
 use borrow.Author.Tests.{eq-eqb, ne-eqb}
 use Rattle.definitions.specs.Limits.{mostTerms}
@@ -26,10 +27,13 @@ pub other-magnitude : (n : Node) → (n .kind ≡ constantKind → ⊥) → abso
 unfolding constantValue ofBits
 other-magnitude n e = ap (λ (b : Bool). magnitude (cond b (some (ofBits binary64 (n .payload))) none)) (sym (ne-eqb (n .kind) constantKind e))
 
--- ---- a term put before those kept
+-- ---- a term put beside those kept
 -- it is counted if it is kept
-abbrev pub Counts : (ℕ → Bool) → ℕ → ℕ → ℕ → Type 0
-Counts keep id kept kept′ = ((keep id ≡ true) × (kept′ ≡ kept + 1)) ⊎ ((keep id ≡ false) × (kept′ ≡ kept))
+abbrev pub Counts : Bool → ℕ → ℕ → Type 0
+Counts keeps kept kept′ = ((keeps ≡ true) × (kept′ ≡ kept + 1)) ⊎ ((keeps ≡ false) × (kept′ ≡ kept))
+
+pub at-most-one : (keeps : Bool) (kept kept′ : ℕ) → Counts keeps kept kept′ → kept′ ≤ kept + 1
+at-most-one keeps kept kept′ = ⊎-elim (λ y. omega (arith, y .1)) (λ n. omega (arith, n .1))
 
 filter-append : (keep : ℕ → Bool) (a b : List ℕ) → filter keep (a ++ b) ≡ filter keep a ++ filter keep b
 filter-append keep [] b = refl
@@ -40,6 +44,27 @@ filter-append keep (i ∷ a) b = go (keep i) (filter-append keep a b)
     go true e = ap (λ (l : List ℕ). i ∷ l) e
     go false e = e
 
+-- ---- after the first ones
+module _ (keep : ℕ → Bool) (array : List ℕ) (front front′ id : ℕ) (rest : List ℕ) (inside : front < length array) where
+  abbrev before : ℕ → List ℕ
+  before k = take k (set array front id)
+
+  abbrev joined : Bool → List ℕ
+  joined b = take front array ++ cond b (id ∷ []) []
+
+  joins : Counts (keep id) front front′ → before front′ ≡ take front array ++ filter keep (id ∷ [])
+  joins =
+      ⊎-elim
+      (λ y. ap before (y .1 ∙ add-one front) ∙ take-suc-set array front id inside ∙ ap joined (sym (y .0)))
+      (λ n. ap before (n .1) ∙ take-set-le front array front id (omega arith) ∙ sym (append-nil (take front array)) ∙ ap joined (sym (n .0)))
+
+  pub put-first : Counts (keep id) front front′ → take front′ (set array front id) ++ filter keep rest ≡ take front array ++ filter keep (id ∷ rest)
+  put-first counts =
+      ap (λ (l : List ℕ). l ++ filter keep rest) (joins counts)
+      ∙ append-assoc (take front array) (filter keep (id ∷ [])) (filter keep rest)
+      ∙ ap (λ (l : List ℕ). take front array ++ l) (sym (filter-append keep (id ∷ []) rest))
+
+-- ---- before the last ones
 module _ (keep : ℕ → Bool) (array : List ℕ) (kept kept′ id : ℕ) (rest : List ℕ) (long : length array ≡ mostTerms) (inside : kept < mostTerms) where
   abbrev place : ℕ
   place = mostTerms - 1 - kept
@@ -67,12 +92,12 @@ module _ (keep : ℕ → Bool) (array : List ℕ) (kept kept′ id : ℕ) (rest 
   passed-over : after kept ≡ chosen false
   passed-over = drop-set-lt (mostTerms - kept) array place id (omega arith)
 
-  placed : Counts keep id kept kept′ → after kept′ ≡ filter keep (id ∷ []) ++ those
+  placed : Counts (keep id) kept kept′ → after kept′ ≡ filter keep (id ∷ []) ++ those
   placed = ⊎-elim (λ y. ap after (y .1) ∙ counted ∙ ap chosen (sym (y .0))) (λ n. ap after (n .1) ∙ passed-over ∙ ap chosen (sym (n .0)))
 
-  pub put : Counts keep id kept kept′
+  pub put-last : Counts (keep id) kept kept′
       → filter keep rest ++ drop (mostTerms - kept′) (set array (mostTerms - 1 - kept) id) ≡ filter keep (rest ++ id ∷ []) ++ drop (mostTerms - kept) array
-  put counts =
+  put-last counts =
       ap (λ (l : List ℕ). filter keep rest ++ l) (placed counts)
       ∙ sym (append-assoc (filter keep rest) (filter keep (id ∷ [])) those)
       ∙ ap (λ (l : List ℕ). l ++ those) (sym (filter-append keep rest (id ∷ [])))

@@ -3,8 +3,9 @@ pub mod Chains
 pub mod Weights
 pub mod Reading
 pub mod Pushing
-pub mod Flattening
 pub mod Filtering
+pub mod Closing
+pub mod Flattening
 pub mod Halving
 pub mod Parts
 pub mod Resuming

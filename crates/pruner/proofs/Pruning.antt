@@ -4,8 +4,7 @@ use mathlib.Core.Path.{_≡_, refl, sym, ap, ap₂, _∙_, subst}
 use mathlib.Core.Bool.{Bool, true, cond, not, false≢true}
 use mathlib.Core.Logic.{inl, inr}
 use mathlib.Core.List.{List}
-use lib.ListN.{length, drop}
-use lib.Seq.{take-all}
+use lib.ListN.{length}
 use lib.Dec.{ltb}
 use lib.Ieee.{Float, binary64, ofBits}
 use native.Mathlib.Omega.{arith}
@@ -50,9 +49,9 @@ for-place number (inl e) = ap (λ (x : ℕ). keepsInterned x) e
 for-place number (inr e) = ap (λ (x : ℕ). keepsInterned x) e
 
 -- ---- a flattening's answer by its case
-pub holds-of : (terms : List ℕ) (keep : ℕ → Bool) (answer : Flattened) (array : List ℕ) (found kept : ℕ) → Flattens terms keep answer array → answer ≡ Terms found kept
-    → Holds terms keep (Terms found kept) array
-holds-of terms keep answer array found kept f e = subst (λ (x : Flattened). Holds terms keep x array) e (f .holds)
+pub holds-of : (terms : List ℕ) (keep : ℕ → Bool) (answer : Flattened) (array : List ℕ) (from found kept : ℕ) → Flattens terms keep answer array → answer ≡ Terms from found kept
+    → Holds terms keep (Terms from found kept) array
+holds-of terms keep answer array from found kept f e = subst (λ (x : Flattened). Holds terms keep x array) e (f .holds)
 
 pub too-many-of : (terms : List ℕ) (keep : ℕ → Bool) (answer : Flattened) (array : List ℕ) → Flattens terms keep answer array → answer ≡ TooMany → mostTerms < length terms
 too-many-of terms keep answer array f e = subst (λ (x : Flattened). Holds terms keep x array) e (f .holds)
@@ -134,43 +133,36 @@ module _ (words slots : List ℕ) (s : DagArena) (sound : Sound words slots s) w
       unfolding pruneChain
       too-many h = same _ (Refused tooManyTerms) (sym (ap (λ (b : Bool). cond b (outcome (M.refused tooManyTerms) ns) (prunedAs (length ks) (length ts - length ks) (sumOfKept l ns ks))) (lt-ltb mostTerms (length ts) h)))
 
-      module _ (found kept : ℕ) (array : List ℕ) (holds : Holds (chain (nodesIn words (s .count)) root) (keeps (nodesIn words (s .count)) (ofBits binary64 threshold)) (Terms found kept) array) where
+      module _ (from found kept : ℕ) (array : List ℕ) (holds : Holds (chain (nodesIn words (s .count)) root) (keeps (nodesIn words (s .count)) (ofBits binary64 threshold)) (Terms from found kept) array) where
         pub few : kept ≤ found
         few = omega (arith, holds .0, holds .2, filter-length (keeps ns t) ts)
 
-        pub within : kept ≤ mostTerms
-        within = omega (arith, few, holds .1)
-
-        -- the last places hold the kept terms, and no more
-        kept-are : part array (mostTerms - kept) kept ≡ ks
-        kept-are = take-all kept (drop (mostTerms - kept) array) (omega (arith, ap length (holds .3), holds .2)) ∙ holds .3
-
-        kept-many : length (part array (mostTerms - kept) kept) ≡ kept
-        kept-many = ap length kept-are ∙ sym (holds .2)
+        kept-many : length (part array from kept) ≡ kept
+        kept-many = ap length (holds .4) ∙ sym (holds .2)
 
         kept-low : Lower (s .count) ks
         kept-low = lower-filter (s .count) (keeps ns t) ts terms-low
 
-        pub summable : Summable words slots s (part array (mostTerms - kept) kept)
+        pub summable : Summable words slots s (part array from kept)
         summable = record {
           sound = sound;
-          few = omega (arith, within, kept-many);
-          below = below-of (s .count) (part array (mostTerms - kept) kept) (subst (Lower (s .count)) (sym kept-are) kept-low);
+          few = omega (arith, few, holds .1, kept-many);
+          below = below-of (s .count) (part array from kept) (subst (Lower (s .count)) (sym (holds .4)) kept-low);
         }
 
-        plain : (sum : I.Built) → sum ≡ sumOfKept l ns (part array (mostTerms - kept) kept) → prunedAs kept (found - kept) sum ≡ pruneChain l ns t ts
+        plain : (sum : I.Built) → sum ≡ sumOfKept l ns (part array from kept) → prunedAs kept (found - kept) sum ≡ pruneChain l ns t ts
         unfolding pruneChain
         plain sum e =
             let b : found - kept ≡ length ts - length ks = ap₂ (λ (x y : ℕ). x - y) (holds .0) (holds .2) in
-            ap (prunedAs kept (found - kept)) (e ∙ ap (sumOfKept l ns) kept-are)
+            ap (prunedAs kept (found - kept)) (e ∙ ap (sumOfKept l ns) (holds .4))
             ∙ ap₂ (λ (x y : ℕ). prunedAs x y (sumOfKept l ns ks)) (holds .2) b
             ∙ sym (ap (λ (b : Bool). cond b (outcome (M.refused tooManyTerms) ns) (prunedAs (length ks) (length ts - length ks) (sumOfKept l ns ks))) (le-ltb mostTerms (length ts) (let x = holds .0 in let y = holds .1 in omega arith)))
 
-        module _ (words′ slots′ : List ℕ) (r : Built) (b : Sums words slots s (part array (mostTerms - kept) kept) words′ slots′ r) where
+        module _ (words′ slots′ : List ℕ) (r : Built) (b : Sums words slots s (part array from kept) words′ slots′ r) where
           abbrev ns′ : List Node
           ns′ = nodesIn words′ (r .arena .count)
 
-          said : (answer : Store.Answer) → r .answer ≡ answer → plainBuilt answer ns′ ≡ sumOfKept l ns (part array (mostTerms - kept) kept)
+          said : (answer : Store.Answer) → r .answer ≡ answer → plainBuilt answer ns′ ≡ sumOfKept l ns (part array from kept)
           said answer e = ap (λ (x : Store.Answer). plainBuilt x ns′) (sym e) ∙ b .answer
 
           pub answered : (id : ℕ) → r .answer ≡ Stores.Id id
@@ -194,4 +186,4 @@ module _ (words slots : List ℕ) (s : DagArena) (sound : Sound words slots s) w
               is other q = cc
 
               by-place : NoPlace number
-              by-place = subst StopsForPlace (sym (said (Stores.Refused number) e)) (sum-stops l ns (part array (mostTerms - kept) kept))
+              by-place = subst StopsForPlace (sym (said (Stores.Refused number) e)) (sum-stops l ns (part array from kept))

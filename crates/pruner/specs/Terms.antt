@@ -3,7 +3,7 @@ use Prim.Native.Nat.{ℕ, _+_, _-_, _<_, _≤_}
 use mathlib.Core.Path.{_≡_}
 use mathlib.Core.Bool.{Bool}
 use mathlib.Core.List.{List, _++_}
-use lib.ListN.{length, getD, take, drop}
+use lib.ListN.{length, getD, set, take, drop}
 use Rattle.definitions.specs.Limits.{mostTerms}
 use Rattle.definitions.specs.Node.{at, addKind}
 use Rattle.definitions.specs.Prune.{filter}
@@ -34,11 +34,26 @@ Pushes children top free array (Before to) array′ =
     (to ≤ free) × (to + 1 ≡ top + length children) × (take to array′ ≡ take top array ++ take (length children - 1) children) × (drop free array′ ≡ drop free array) × (length array′ ≡ mostTerms)
 Pushes children top free array Nowhere array′ = (free + 1 < top + length children) × (length array′ ≡ mostTerms)
 
--- The number of the chain's terms, and those kept, "a term is kept if its magnitude is at least the threshold", in order in the last places of the
--- array; or, "over 4,096 terms", kept or not, the answer that there are too many.
+-- An Add's two children of which the first is a term.
+pub record BeginsWithTerm (words : List ℕ) (count id : ℕ) : Type 0 where
+  pub two : length (childrenIn words count id) ≡ 2
+  pub term : at (nodesIn words count) (getD (childrenIn words count id) 0 0) .kind ≡ addKind → ⊥
+
+-- How a term put at a place changes the array, and whether it is kept.
+abbrev pub Puts : Bool → ℕ → ℕ → List ℕ → Bool → List ℕ → Type 0
+Puts kept place id array answer array′ = (answer ≡ kept) × (array′ ≡ set array place id)
+
+-- How the first `front` places and the last `back` places of the array come to stand side by side, from a place on.
+abbrev pub Closes : ℕ → ℕ → ℕ → List ℕ → Flattened → List ℕ → Type 0
+Closes found front back array (Terms from found′ kept) array′ =
+    (found′ ≡ found) × (kept ≡ front + back) × (from + kept ≤ mostTerms) × (take kept (drop from array′) ≡ take front array ++ drop (mostTerms - back) array) × (length array′ ≡ mostTerms)
+Closes found front back array TooMany array′ = ⊥
+
+-- The number of the chain's terms, and those kept, "a term is kept if its magnitude is at least the threshold", in order from a place of the
+-- array on; or, "over 4,096 terms", kept or not, the answer that there are too many.
 abbrev pub Holds : List ℕ → (ℕ → Bool) → Flattened → List ℕ → Type 0
-Holds terms keep (Terms found kept) array =
-    (found ≡ length terms) × (found ≤ mostTerms) × (kept ≡ length (filter keep terms)) × (drop (mostTerms - kept) array ≡ filter keep terms)
+Holds terms keep (Terms from found kept) array =
+    (found ≡ length terms) × (found ≤ mostTerms) × (kept ≡ length (filter keep terms)) × (from + kept ≤ mostTerms) × (take kept (drop from array) ≡ filter keep terms)
 Holds terms keep TooMany array = mostTerms < length terms
 
 -- How a flattening ends. The array keeps its length.

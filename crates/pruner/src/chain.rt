@@ -1,6 +1,7 @@
 // The terms of an additive chain that a threshold keeps. 01: "the chain is flattened left to right through Adds".
 ghost use mathlib.Core.Path.{_≡_};
-ghost use Prim.Native.Nat.{_<_, _≤_};
+ghost use mathlib.Core.Bool.{true};
+ghost use Prim.Native.Nat.{_+_, _<_, _≤_};
 ghost use lib.ListN.{length};
 ghost use lib.Ieee.{binary64, ofBits};
 ghost use Rattle.definitions.specs.Limits.{mostTerms};
@@ -8,7 +9,7 @@ ghost use Rattle.definitions.specs.Prune as Prune;
 ghost use Rattle.definitions.specs.Prune.{chain};
 ghost use Rattle.store.specs.View.{nodesIn};
 ghost use Rattle.store.specs.Lookup.{Lookup};
-ghost use Rattle.pruner.specs.Terms.{childrenIn, Readable, Pushes, Flattens};
+ghost use Rattle.pruner.specs.Terms.{childrenIn, Readable, Pushes, BeginsWithTerm, Puts, Closes, Flattens};
 use crate::keeping::keeps;
 use arena::kind::ADD;
 
@@ -24,8 +25,12 @@ pub enum Waiting {
 }
 
 pub enum Flattened {
-    // So many terms were found, of which so many are kept: these stand in the last places of the array.
-    Terms { found: usize, kept: usize },
+    // So many terms were found, of which so many are kept: these stand from a place on.
+    Terms {
+        from: usize,
+        found: usize,
+        kept: usize,
+    },
     // Over 4,096 terms.
     TooMany,
 }
@@ -79,9 +84,61 @@ fn push_siblings(
     Waiting::Before(to)
 }
 
-// The terms under an id that a threshold keeps, from the last to the first. They stand in the last places, and the ids
-// that wait in the first ones, before `top`. Each of these and `id` give a term at least, so that there are too many terms
-// exactly if those found, kept or not, leave no place.
+// Whether an Add has two children of which the first is a term.
+fn begins_with_term(nodes: &[u64], count: u64, id: u64) -> bool
+    requires { ⌜ (id < count) × Readable (now nodes) count ⌝ }
+    ensures { λ r. ⌜ (r ≡ true → BeginsWithTerm (now (nodes .entry)) count id) ⌝ }
+{
+    if store::arity(nodes, count, id) != 2 {
+        return false;
+    }
+    store::kind(nodes, count, store::child(nodes, count, id, 0)) != ADD
+}
+
+// A term put at a place, and whether it is kept: it is put in any case, so that no branch waits for what is kept.
+fn put_term(
+    nodes: &[u64],
+    count: u64,
+    threshold: u64,
+    terms: &mut [u64; MOST_TERMS],
+    place: usize,
+    id: u64,
+) -> bool
+    requires { ⌜ Lookup (now nodes) count id × (place < mostTerms) × (length (now terms) ≡ mostTerms) ⌝ }
+    ensures { λ r. ⌜ Puts (Prune.keeps (nodesIn (now (nodes .entry)) count) (ofBits binary64 threshold) id) place id (now (terms .entry)) r (now (terms .exit)) ⌝ }
+{
+    terms[place] = id;
+    keeps(nodes, count, threshold, id)
+}
+
+// The terms kept in the first places and in the last ones, side by side. Where there are none in the first places nothing is moved.
+fn close_up(terms: &mut [u64; MOST_TERMS], found: usize, front: usize, back: usize) -> Flattened
+    requires { ⌜ (front + back ≤ mostTerms) × (length (now terms) ≡ mostTerms) ⌝ }
+    ensures { λ r. ⌜ Closes found front back (now (terms .entry)) r (now (terms .exit)) ⌝ }
+{
+    let from = MOST_TERMS - back;
+    if front == 0 {
+        return Flattened::Terms {
+            from,
+            found,
+            kept: back,
+        };
+    }
+    let mut i: usize = 0;
+    while i < back {
+        terms[front + i] = terms[from + i];
+        i += 1;
+    }
+    Flattened::Terms {
+        from: 0,
+        found,
+        kept: front + back,
+    }
+}
+
+// The terms under an id that a threshold keeps, taken from both ends: in the first places those before the ids that wait, then
+// these, before `top`, and in the last places those after them. Each that waits and `id` give a term at least, so that there
+// are too many terms exactly if those found, kept or not, leave no place.
 pub(crate) fn flatten(
     nodes: &[u64],
     count: u64,
@@ -93,12 +150,40 @@ pub(crate) fn flatten(
     ensures { λ r. ⌜ Flattens (chain (nodesIn (now (nodes .entry)) count) root) (Prune.keeps (nodesIn (now (nodes .entry)) count) (ofBits binary64 threshold)) r (now (terms .exit)) ⌝ }
 {
     let mut found: usize = 0;
-    let mut kept: usize = 0;
+    let mut front: usize = 0;
+    let mut back: usize = 0;
     let mut top: usize = 0;
     let mut id = root;
     loop {
-        if store::kind(nodes, count, id) == ADD {
-            match push_siblings(nodes, count, id, terms, top, MOST_TERMS - found - 1) {
+        if store::kind(nodes, count, id) != ADD {
+            if put_term(nodes, count, threshold, terms, MOST_TERMS - 1 - back, id) {
+                back += 1;
+            }
+            found += 1;
+            if top == front {
+                return close_up(terms, found, front, back);
+            }
+            top -= 1;
+            id = terms[top];
+        } else if top == front && begins_with_term(nodes, count, id) {
+            if MOST_TERMS <= found + 1 {
+                return Flattened::TooMany;
+            }
+            if put_term(
+                nodes,
+                count,
+                threshold,
+                terms,
+                front,
+                store::child(nodes, count, id, 0),
+            ) {
+                front += 1;
+            }
+            found += 1;
+            top = front;
+            id = store::child(nodes, count, id, 1);
+        } else {
+            match push_siblings(nodes, count, id, terms, top, MOST_TERMS - 1 - found + front) {
                 Waiting::Nowhere => return Flattened::TooMany,
                 Waiting::Before(to) => {
                     top = to;
@@ -106,18 +191,6 @@ pub(crate) fn flatten(
                     id = store::child(nodes, count, id, last);
                 }
             }
-        } else {
-            // Each term is put, and only counted if it is kept, so that no branch waits for what is kept.
-            terms[MOST_TERMS - 1 - kept] = id;
-            found += 1;
-            if keeps(nodes, count, threshold, id) {
-                kept += 1;
-            }
-            if top == 0 {
-                return Flattened::Terms { found, kept };
-            }
-            top -= 1;
-            id = terms[top];
         }
     }
 }

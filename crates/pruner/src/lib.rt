@@ -49,8 +49,8 @@ fn prune_chain(
             answer: Answer::Refused(TOO_MANY_TERMS),
             arena,
         },
-        Flattened::Terms { found, kept } => {
-            let built = sum::balanced_add(nodes, slots, arena, &terms, MOST_TERMS - kept, kept);
+        Flattened::Terms { from, found, kept } => {
+            let built = sum::balanced_add(nodes, slots, arena, &terms, from, kept);
             let after = built.arena;
             let answer = built.answer;
             match answer {

@@ -14,22 +14,15 @@ flatten-requires c κs = (c .before .before .before .before .pre .0, readable _ 
 enum-told : tie.Need-enum-told
 enum-told c = search needs
 
-enum-known-found : tie.Need-enum-known-found
-enum-known-found c = search needs
-
-sub-balanced-add : tie.Need-sub-balanced-add
-sub-balanced-add c =
-    let p = c .before .before .before .before .before .before .before .before .before .before .before .pre in
-    let holds = Q.holds-of _ _ _ _ _ _ (c .before .before .before .before .before .before .flatten .ensures) (c .before .before .before .before .found .given .1) in
-    Q.within _ _ _ (p .1) _ (p .0) _ _ _ _ holds
+enum-known-from : tie.Need-enum-known-from
+enum-known-from c = search needs
 
 balanced-add-requires : tie.Need-balanced-add-requires
 balanced-add-requires c κs =
     let p = c .before .before .before .before .before .before .before .before .before .before .before .pre in
     let f = c .before .before .before .before .before .before .flatten .ensures in
-    let holds = Q.holds-of _ _ _ _ _ _ f (c .before .before .before .before .found .given .1) in
-    let within = Q.within _ _ _ (p .1) _ (p .0) _ _ _ _ holds in
-    (record { long = f .long; fits = omega (arith, within) }, Q.summable _ _ _ (p .1) _ (p .0) _ _ _ _ holds)
+    let holds = Q.holds-of _ _ _ _ _ _ _ f (c .before .before .before .before .from .given .1) in
+    (record { long = f .long; fits = holds .3 }, Q.summable _ _ _ (p .1) _ (p .0) _ _ _ _ _ holds)
 
 enum-known-answer : tie.Need-enum-known-answer
 enum-known-answer c = search needs
@@ -39,8 +32,8 @@ enum-known-answer-2 c = search needs
 
 sub-t30 : tie.Need-sub-t30
 sub-t30 c =
-    let holds = Q.holds-of _ _ _ _ _ _ (c .before .before .before .before .before .before .before .before .before .before .before .before .before .before .before .flatten .ensures) (c .before .before .before .before .before .before .before .before .before .before .before .before .before .found .given .1) in
-    let few = Q.few _ _ _ (c .before .before .before .before .before .before .before .before .before .before .before .before .before .before .before .before .before .before .before .before .pre .1) _ (c .before .before .before .before .before .before .before .before .before .before .before .before .before .before .before .before .before .before .before .before .pre .0) _ _ _ _ holds in
+    let holds = Q.holds-of _ _ _ _ _ _ _ (c .before .before .before .before .before .before .before .before .before .before .before .before .before .before .before .flatten .ensures) (c .before .before .before .before .before .before .before .before .before .before .before .before .before .from .given .1) in
+    let few = Q.few _ _ _ (c .before .before .before .before .before .before .before .before .before .before .before .before .before .before .before .before .before .before .before .before .pre .1) _ (c .before .before .before .before .before .before .before .before .before .before .before .before .before .before .before .before .before .before .before .before .pre .0) _ _ _ _ _ holds in
     omega arith
 
 same-length : tie.Need-same-length
@@ -57,8 +50,8 @@ same-length-3 c = search needs
 
 returns-2 : tie.Need-returns-2
 returns-2 c =
-    let holds = Q.holds-of _ _ _ _ _ _ (c .before .before .before .before .before .before .before .before .before .before .before .before .before .before .before .flatten .ensures) (c .before .before .before .before .before .before .before .before .before .before .before .before .before .found .given .1) in
-    Q.stops _ _ _ (c .before .before .before .before .before .before .before .before .before .before .before .before .before .before .before .before .before .before .before .before .pre .1) _ (c .before .before .before .before .before .before .before .before .before .before .before .before .before .before .before .before .before .before .before .before .pre .0) _ _ _ _ holds _ _ _ (c .before .before .before .before .before .before .before .before .balanced-add .ensures) _ (c .before .answer .given .1)
+    let holds = Q.holds-of _ _ _ _ _ _ _ (c .before .before .before .before .before .before .before .before .before .before .before .before .before .before .before .flatten .ensures) (c .before .before .before .before .before .before .before .before .before .before .before .before .before .from .given .1) in
+    Q.stops _ _ _ (c .before .before .before .before .before .before .before .before .before .before .before .before .before .before .before .before .before .before .before .before .pre .1) _ (c .before .before .before .before .before .before .before .before .before .before .before .before .before .before .before .before .before .before .before .before .pre .0) _ _ _ _ _ holds _ _ _ (c .before .before .before .before .before .before .before .before .balanced-add .ensures) _ (c .before .answer .given .1)
 
 same-length-4 : tie.Need-same-length-4
 same-length-4 c = search needs
@@ -68,8 +61,8 @@ same-length-5 c = search needs
 
 returns-3 : tie.Need-returns-3
 returns-3 c =
-    let holds = Q.holds-of _ _ _ _ _ _ (c .before .before .before .before .before .before .before .before .before .before .before .before .before .before .before .flatten .ensures) (c .before .before .before .before .before .before .before .before .before .before .before .before .before .found .given .1) in
-    Q.answered _ _ _ (c .before .before .before .before .before .before .before .before .before .before .before .before .before .before .before .before .before .before .before .before .pre .1) _ (c .before .before .before .before .before .before .before .before .before .before .before .before .before .before .before .before .before .before .before .before .pre .0) _ _ _ _ holds _ _ _ (c .before .before .before .before .before .before .before .before .balanced-add .ensures) _ (c .before .answer2 .given .1)
+    let holds = Q.holds-of _ _ _ _ _ _ _ (c .before .before .before .before .before .before .before .before .before .before .before .before .before .before .before .flatten .ensures) (c .before .before .before .before .before .before .before .before .before .before .before .before .before .from .given .1) in
+    Q.answered _ _ _ (c .before .before .before .before .before .before .before .before .before .before .before .before .before .before .before .before .before .before .before .before .pre .1) _ (c .before .before .before .before .before .before .before .before .before .before .before .before .before .before .before .before .before .before .before .before .pre .0) _ _ _ _ _ holds _ _ _ (c .before .before .before .before .before .before .before .before .balanced-add .ensures) _ (c .before .answer2 .given .1)
 
 pub prune-chain-spec : {M : Type 1} → statement M
 prune-chain-spec =
@@ -77,8 +70,7 @@ prune-chain-spec =
     (tie.spec
     flatten-requires
     enum-told
-    enum-known-found
-    sub-balanced-add
+    enum-known-from
     balanced-add-requires
     enum-known-answer
     enum-known-answer-2
