@@ -167,12 +167,18 @@ fn one_more() -> Test {
     test
 }
 
-fn nested_sums() -> Test {
-    let mut test = Test::new("nested sums", 1_600, 4_096);
+/// 64 constants, and the sum of the first one alone.
+fn over_constants(name: &'static str) -> Test {
+    let mut test = Test::new(name, 1_600, 4_096);
     for number in 0..64 {
         test.built(&Call::Constant { bits: bits(0.1) + number });
     }
     test.sum(&[0]);
+    test
+}
+
+fn nested_sums() -> Test {
+    let mut test = over_constants("nested sums");
     for number in 0..1_365 {
         test.sum(&[64 + number, (3 * number + 1) % 64, (3 * number + 2) % 64, (3 * number + 3) % 64]);
     }
@@ -184,11 +190,7 @@ fn nested_sums() -> Test {
 }
 
 fn nested_last() -> Test {
-    let mut test = Test::new("nested last", 1_600, 4_096);
-    for number in 0..64 {
-        test.built(&Call::Constant { bits: bits(0.1) + number });
-    }
-    test.sum(&[0]);
+    let mut test = over_constants("nested last");
     for number in 0..1_365 {
         test.sum(&[(3 * number + 3) % 64, (3 * number + 2) % 64, (3 * number + 1) % 64, 64 + number]);
     }
