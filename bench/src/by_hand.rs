@@ -67,7 +67,7 @@ impl Lists {
     /// A new sum, in a slot that is empty.
     ///
     /// # Safety
-    /// As for `add`.
+    /// As for `add_terms`.
     #[inline(always)]
     unsafe fn put(&mut self, at: usize, hash: u64, left: u64, right: u64) -> u64 {
         let id = self.count;
@@ -83,7 +83,7 @@ impl Lists {
     /// The search slot by slot.
     ///
     /// # Safety
-    /// As for `add`.
+    /// As for `add_terms`.
     #[inline(never)]
     unsafe fn add_by_slots(&mut self, hash: u64, left: u64, right: u64) -> u64 {
         let mut at = hash as usize & (self.size - 1);
@@ -131,7 +131,7 @@ impl Lists {
     /// The search where more slots are in use than are compared together.
     ///
     /// # Safety
-    /// As for `add`.
+    /// As for `add_terms`.
     #[inline(never)]
     unsafe fn add_far(&mut self, hash: u64, left: u64, right: u64, first: usize) -> u64 {
         let home = hash as usize & (self.size - 1);
@@ -145,13 +145,13 @@ impl Lists {
         }
     }
 
-    /// The id of a sum, old or new. The lists have place for it, and the table need not grow. The first slots are looked at
-    /// together; a sum over the newest node is new.
+    /// The id of a sum of two terms, old or new. The lists have place for it, and the table need not grow. The first slots are
+    /// looked at together.
     ///
     /// # Safety
     /// The store is sound and both ids are below the count.
     #[inline(always)]
-    unsafe fn add(&mut self, left: u64, right: u64) -> u64 {
+    unsafe fn add_terms(&mut self, left: u64, right: u64) -> u64 {
         let hash = with_child(with_child(ADD_HASH, left), right);
         let home = hash as usize & (self.size - 1);
         unsafe {
@@ -159,9 +159,6 @@ impl Lists {
                 return self.add_by_slots(hash, left, right);
             }
             let first = self.first_empty(home);
-            if right + 1 == self.count && first < FREE_WINDOW {
-                return self.put(home + first, hash, left, right);
-            }
             if first <= SEARCH_WINDOW && !self.any_near(home, hash, left.max(right)) {
                 return self.put(home + first, hash, left, right);
             }
@@ -169,20 +166,52 @@ impl Lists {
         }
     }
 
+    /// The same for sums of halves: a sum over the newest node is new.
+    ///
     /// # Safety
-    /// As for `add`, of all terms.
+    /// As for `add_terms`.
+    #[inline(always)]
+    unsafe fn add_sums(&mut self, left: u64, right: u64) -> u64 {
+        let hash = with_child(with_child(ADD_HASH, left), right);
+        let home = hash as usize & (self.size - 1);
+        unsafe {
+            if home + FREE_WINDOW <= self.size {
+                let first = self.first_empty(home);
+                if right + 1 == self.count && first < FREE_WINDOW {
+                    return self.put(home + first, hash, left, right);
+                }
+            }
+            self.add_by_slots(hash, left, right)
+        }
+    }
+
+    /// # Safety
+    /// As for `add_terms`, of all terms.
     unsafe fn balanced_add(&mut self, terms: &[u64]) -> u64 {
         unsafe {
             match *terms {
                 [only] => only,
-                [left, right] => self.add(left, right),
+                [left, right] => self.add_terms(left, right),
                 _ => {
                     let (left, right) = terms.split_at(terms.len() / 2);
                     let left = self.balanced_add(left);
                     let right = self.balanced_add(right);
-                    self.add(left, right)
+                    self.add_sums(left, right)
                 }
             }
+        }
+    }
+
+    /// Whether a threshold keeps a term.
+    ///
+    /// # Safety
+    /// The id is below the count.
+    #[inline(always)]
+    unsafe fn keeps(&self, id: u64, threshold: f64) -> bool {
+        unsafe {
+            let node = self.node(id);
+            let magnitude = if *node == CONSTANT { f64::from_bits(*node.add(1)).abs() } else { 1.0 };
+            magnitude >= threshold
         }
     }
 
@@ -195,17 +224,21 @@ impl Lists {
         unsafe {
             loop {
                 let node = self.node(id);
-                if *node == ADD {
+                let is_add = *node == ADD;
+                let term = if is_add { *node.add(7) } else { id };
+                if is_add && *self.node(term) == ADD {
                     *terms.get_unchecked_mut(top) = *node.add(6);
                     top += 1;
-                    id = *node.add(7);
+                    id = term;
+                    continue;
+                }
+                *terms.get_unchecked_mut(first - 1) = term;
+                first -= usize::from(self.keeps(term, threshold));
+                if is_add {
+                    id = *node.add(6);
+                } else if top == 0 {
+                    return first;
                 } else {
-                    let magnitude = if *node == CONSTANT { f64::from_bits(*node.add(1)).abs() } else { 1.0 };
-                    *terms.get_unchecked_mut(first - 1) = id;
-                    first -= usize::from(magnitude >= threshold);
-                    if top == 0 {
-                        return first;
-                    }
                     top -= 1;
                     id = *terms.get_unchecked(top);
                 }

@@ -141,11 +141,18 @@ fn product(store: &mut impl Store, variables: &[u32], number: u32) -> u32 {
     store.mul(variables[x as usize], variables[y as usize])
 }
 
+/// Constants that no chain has.
+fn other_constants(store: &mut impl Store, many: u32) {
+    for number in 0..many {
+        store.constant(1e6 + f64::from(number));
+    }
+}
+
 /// The threshold of the prunes, which half of a chain's terms fall below.
 pub const THRESHOLD: f64 = 0.5;
 
 /// The side on which a chain's sums stand.
-#[derive(Clone, Copy, PartialEq)]
+#[derive(Clone, Copy)]
 pub enum Side {
     Left,
     Right,
@@ -171,9 +178,7 @@ impl Chain {
 
 impl Formula for Chain {
     fn build(&self, store: &mut impl Store) -> u32 {
-        for number in 0..self.others {
-            store.constant(1e6 + f64::from(number));
-        }
+        other_constants(store, self.others);
         let variables = variables(store);
         let mut sum = None;
         for number in 0..self.terms {
@@ -183,6 +188,30 @@ impl Formula for Chain {
                 (Some(sum), Side::Left) => store.add(sum, term),
                 (Some(sum), Side::Right) => store.add(term, sum),
             });
+        }
+        sum.expect("a chain has a term")
+    }
+}
+
+/// A chain of terms at random, in a store with other nodes: constants on both sides of the threshold and products, some of them more than once.
+pub struct Mixed {
+    pub terms: u32,
+    pub others: u32,
+}
+
+impl Formula for Mixed {
+    fn build(&self, store: &mut impl Store) -> u32 {
+        other_constants(store, self.others);
+        let variables = variables(store);
+        let mut numbers = Numbers::new(u64::from(self.terms + self.others));
+        let mut sum = None;
+        for _ in 0..self.terms {
+            let number = numbers.below(4_096) as u32;
+            let term = match numbers.below(2) {
+                0 => store.constant(f64::from(number) / 4_096.0),
+                _ => product(store, &variables, number),
+            };
+            sum = Some(sum.map_or(term, |sum| store.add(sum, term)));
         }
         sum.expect("a chain has a term")
     }

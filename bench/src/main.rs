@@ -9,7 +9,7 @@ mod store;
 mod theirs;
 mod timing;
 
-use inputs::{Chain, Changing, Formula, Settled, Side, THRESHOLD, requests, variables};
+use inputs::{Chain, Changing, Formula, Mixed, Settled, Side, THRESHOLD, requests, variables};
 use ours::Ours;
 use sheets::Writer;
 use store::Store;
@@ -96,8 +96,8 @@ fn fresh(store: &mut Ours, formula: &impl Formula) -> u32 {
     formula.build(store)
 }
 
-/// A prune of a chain; or, after as many untimed ones as `earlier` says, a prune whose nodes are there.
-fn pruning(store: &mut Ours, chain: &Chain, threshold: f64, earlier: usize) {
+/// A prune of a chain of `TERMS` terms; or, after as many untimed ones as `earlier` says, a prune whose nodes are there.
+fn pruning(store: &mut Ours, kind: &str, chain: &impl Formula, threshold: f64, earlier: usize) {
     let root = fresh(store, chain);
     let before = store.nodes().len();
     let (answer, kept, dropped) = store.prune(root, threshold);
@@ -107,7 +107,7 @@ fn pruning(store: &mut Ours, chain: &Chain, threshold: f64, earlier: usize) {
     assert_eq!(answer, theirs.prune(root, threshold));
     assert_eq!(nodes, theirs.nodes());
 
-    let many = f64::from(chain.terms);
+    let many = f64::from(TERMS);
     let times = interleaved(&mut [
         &mut || {
             assert_eq!(root, fresh(store, chain));
@@ -120,8 +120,7 @@ fn pruning(store: &mut Ours, chain: &Chain, threshold: f64, earlier: usize) {
         &mut || with_hash::time_prune(chain, threshold, earlier, root, answer) / many,
     ]);
     let again = if earlier == 0 { "" } else { " again" };
-    let side = if chain.side == Side::Left { "" } else { ", sums on the right" };
-    let what = format!("pruning{again}: {} terms{side}, {kept} kept, {dropped} dropped, among {before} nodes", chain.terms);
+    let what = format!("pruning{again}: {TERMS} terms{kind}, {kept} kept, {dropped} dropped, among {before} nodes");
     row(&what, "ns a term", times[0], &times[1..]);
 }
 
@@ -217,10 +216,13 @@ fn main() {
         let chain = |others, side| Chain { terms: TERMS, others, side };
         for earlier in [0, 1] {
             for others in [0, 16_000, 50_000] {
-                pruning(&mut store, &chain(others, Side::Left), THRESHOLD, earlier);
+                pruning(&mut store, "", &chain(others, Side::Left), THRESHOLD, earlier);
             }
-            pruning(&mut store, &chain(0, Side::Left), 0.0, earlier);
-            pruning(&mut store, &chain(16_000, Side::Right), THRESHOLD, earlier);
+            pruning(&mut store, "", &chain(0, Side::Left), 0.0, earlier);
+            pruning(&mut store, ", sums on the right", &chain(16_000, Side::Right), THRESHOLD, earlier);
+            for others in [0, 16_000, 50_000] {
+                pruning(&mut store, " at random", &Mixed { terms: TERMS, others }, THRESHOLD, earlier);
+            }
         }
     }
     if chosen("sheets") {

@@ -17,7 +17,7 @@ macro_rules! original {
             use $library::heuristic::simplifier;
             use $library::heuristic::strategy::SearchStrategy;
 
-            use crate::inputs::{Chain, Formula, Request, variables};
+            use crate::inputs::{Formula, Request, variables};
             use crate::sheets::Rewriter;
             use crate::store::{Node, Store};
             use crate::timing::timed;
@@ -71,7 +71,7 @@ macro_rules! original {
             }
 
             /// The time of a prune after so many earlier ones, whose root and answer are known.
-            pub fn time_prune(chain: &Chain, threshold: f64, earlier: usize, root: u32, answer: u32) -> f64 {
+            pub fn time_prune(chain: &impl Formula, threshold: f64, earlier: usize, root: u32, answer: u32) -> f64 {
                 let mut theirs = Theirs::new();
                 assert_eq!(root, chain.build(&mut theirs));
                 (0..earlier).for_each(|_| assert_eq!(theirs.prune(root, threshold), answer));

@@ -1,10 +1,10 @@
 -- The answers to a node, and what each leaves.
 use Prim.Native.Nat.{ℕ, _+_, _*_, _/_, _≤_, _<_}
-use mathlib.Core.Path.{_≡_, refl, ap, _∙_}
+use mathlib.Core.Path.{_≡_, refl, ap}
 use mathlib.Core.Bool.{false, _||_}
 use mathlib.Core.List.{List}
 use mathlib.Core.Option.{some}
-use lib.ListN.{length, drop, set}
+use lib.ListN.{length, set}
 use lib.Dec.{leb, ltb}
 use native.Mathlib.Omega.{arith}
 use borrow.Author.Tests.{le-leb, lt-leb, lt-ltb, le-ltb}
@@ -12,15 +12,15 @@ use Rattle.arena.specs.declared.DagArena.{DagArena}
 use Rattle.arena.specs.declared.node.DagNode.{DagNode}
 use Rattle.arena.specs.Layout.{nodeWords, mostNodes, mostChildren}
 use Rattle.arena.specs.Node.{put, find}
-use Rattle.arena.specs.Nodes.{Nodes}
+use Rattle.arena.specs.Nodes.{AllWellFormed, Nodes}
 use Rattle.arena.proofs.Putting.{put-old, put-new}
 use Rattle.arena.proofs.Adding.{nodes-add}
 use Rattle.dedup.specs.declared.Answer.the-variants.{Old, New, Refused}
 use Rattle.dedup.specs.declared.Interned.{Interned}
 use Rattle.definitions.specs.Refusals.{noNodePlace, noSlotPlace}
 use Rattle.definitions.specs.Intern.{capacity}
-use Rattle.dedup.specs.Table.{UsedStay, Table, hashAt}
-use Rattle.dedup.specs.Insert.{FirstFree, Taken, Fits, Rehashed}
+use Rattle.dedup.specs.Table.{Table, hashAt}
+use Rattle.dedup.specs.Insert.{FirstFree, Fits, Rehashed}
 use Rattle.dedup.specs.Intern.{answered, newAnswer, internAnswer, wordsAfter, SlotsKept, Interns, Absent}
 use Rattle.dedup.proofs.Doubling.{at-least, doubled-twice}
 use Rattle.dedup.proofs.Placing.{still, table-add, past-add}
@@ -74,41 +74,40 @@ module _ (w slots : List ℕ) (a : DagArena) (key : DagNode) (place : ℕ) (x : 
       nodes′ : Nodes w′ (count + 1)
       nodes′ = nodes-add w count key many fits len (x .nodes) (x .formed) (x .absent)
 
-      -- in a table of the same nodes, at a size that is enough
-      module _ (big : ℕ) (slots₁ : List ℕ) (t : Table (hashAt w) count slots₁ big) (at : ℕ) (free : FirstFree slots₁ big (key .hash) at) (load : count + 1 ≤ capacity big) where
-        table′ : Table (hashAt w′) (count + 1) (set slots₁ at (count + 1)) big
-        table′ = table-add (hashAt w) count slots₁ big t (hashAt w′) old-hash at (rw new-hash free) load
+      module _ (load : count < capacity size) where
+        free′ : FirstFree slots size (hashAt w′ count) place
+        free′ = rw new-hash (x .free)
 
-        stay′ : UsedStay slots₁ (set slots₁ at (count + 1))
-        stay′ = still (hashAt w) count slots₁ big t (hashAt w′) old-hash at (rw new-hash free) load
-
-        past′ : drop big (set slots₁ at (count + 1)) ≡ drop big slots₁
-        past′ = past-add (hashAt w) count slots₁ big t (hashAt w′) old-hash at (rw new-hash free) load
-
-      pub added : count < capacity size → Interns w slots a key (answered (New count) (count + 1) size) w′ (set slots place (count + 1))
-      unfolding newAnswer wordsAfter SlotsKept
-      added l = record {
-        answer = new _ (rw (no-21, le-leb (count + 1) (capacity size) (omega arith)) refl);
-        words-after = refl;
-        slots-kept = λ _. stay′ size slots (x .table) place (x .free) (omega arith);
-        slots-past = past′ size slots (x .table) place (x .free) (omega arith);
-        nodes = nodes′;
-        table = table′ size slots (x .table) place (x .free) (omega arith);
-      }
-
-      module _ (l : capacity size ≤ count) (m : size ≤ length slots / 2) where
-        pub doubles : Fits count slots (size * 2)
-        doubles = record { doubled = doubled-twice size (x .table .doubled); sized = omega arith; load = let p = x .table .load in omega arith }
-
-        pub added-doubled : (slots₁ slots₂ : List ℕ) → Rehashed (hashAt w) count slots (size * 2) slots₁ → Taken slots₁ (size * 2) (key .hash) count slots₂ → Interns w slots a key (answered (New count) (count + 1) (size * 2)) w′ slots₂
+        pub added : Interns w slots a key (answered (New count) (count + 1) size) w′ (set slots place (count + 1))
         unfolding newAnswer wordsAfter SlotsKept
-        added-doubled slots₁ slots₂ r k =
-            let load : count + 1 ≤ capacity (size * 2) = let p = x .table .load in let q = at-least size (x .table .doubled) in omega arith in
-            rw (k .after) (record {
-              answer = new _ (rw (no-21, lt-leb (count + 1) (capacity size) (omega arith), le-ltb (length slots) (size * 2) (omega arith)) refl);
-              words-after = refl;
-              slots-kept = λ same. absurd (let p = at-least size (x .table .doubled) in omega arith);
-              slots-past = past′ (size * 2) slots₁ (r .table) (k .place) (k .free) load ∙ r .past;
-              nodes = nodes′;
-              table = table′ (size * 2) slots₁ (r .table) (k .place) (k .free) load;
-            })
+        added = record {
+          answer = new _ (rw (no-21, le-leb (count + 1) (capacity size) (omega arith)) refl);
+          words-after = refl;
+          slots-kept = λ _. still (hashAt w) count slots size (x .table) (hashAt w′) old-hash place free′ (omega arith);
+          slots-past = past-add (hashAt w) count slots size (x .table) (hashAt w′) old-hash place free′ (omega arith);
+          nodes = nodes′;
+          table = table-add (hashAt w) count slots size (x .table) (hashAt w′) old-hash place free′ (omega arith);
+        }
+
+      module _ (full : capacity size ≤ count) (enough : size ≤ length slots / 2) where
+        -- all nodes, the new one too, go into the doubled table
+        pub doubles : AllWellFormed w′ (count + 1) × Fits (count + 1) slots (size * 2)
+        doubles = (
+          nodes′ .formed,
+          record {
+            doubled = doubled-twice size (x .table .doubled);
+            sized = omega arith;
+            load = let p = x .table .load in let q = at-least size (x .table .doubled) in omega arith;
+          },
+        )
+
+        pub added-doubled : (slots′ : List ℕ) → Rehashed (hashAt w′) (count + 1) slots (size * 2) slots′ → Interns w slots a key (answered (New count) (count + 1) (size * 2)) w′ slots′
+        unfolding newAnswer wordsAfter SlotsKept
+        added-doubled slots′ r = record {
+          answer = new _ (rw (no-21, lt-leb (count + 1) (capacity size) (omega arith), le-ltb (length slots) (size * 2) (omega arith)) refl);
+          words-after = refl;
+          slots-kept = λ same. absurd (let p = at-least size (x .table .doubled) in omega arith);
+          slots-past = r .past;
+          nodes = nodes′;
+          table = r .table;
+        }

@@ -1,14 +1,14 @@
 -- The first empty slot of some, by the binary digits that they make.
-use Prim.Native.Nat.{ℕ, zero, suc, _+_, _*_, _≤_, _<_}
+use Prim.Native.Nat.{ℕ, zero, suc, _+_, _*_, _^_, _≤_, _<_}
 use mathlib.Core.Path.{_≡_, refl, sym, ap, _∙_}
 use mathlib.Core.List.{List}
 use lib.ListN.{getD}
 use lib.Count.{trailingZeros}
 use native.Mathlib.Omega.{arith}
-use native.Mathlib.Nat.{one-mul, zero-mul, add-zero, add-assoc}
+use native.Mathlib.Nat.{one-mul, zero-mul, add-zero, add-assoc, pow-suc}
 use native.Mathlib.Decide.{ℕ-discrete}
 use Rattle.dedup.specs.Insert.{freeWindow, FirstEmpty}
-use Rattle.dedup.specs.Window.{quarter, emptyDigit, emptyDigits}
+use Rattle.dedup.specs.Window.{quarter, windowValues, emptyDigit, emptyDigits}
 use Rattle.dedup.proofs.TrailingZeros.{zeros-over-one, zeros-over-zero}
 
 -- ---- a slot's digit
@@ -21,6 +21,11 @@ digit-of-used : (slot : ℕ) → (slot ≡ 0 → ⊥) → emptyDigit slot ≡ 0
 unfolding emptyDigit
 digit-of-used zero n = absurd (n refl)
 digit-of-used (suc slot) n = refl
+
+digit-most : (slot : ℕ) → emptyDigit slot ≤ 1
+unfolding emptyDigit
+digit-most zero = omega arith
+digit-most (suc slot) = omega arith
 
 pub weight-of-empty : (slot weight : ℕ) → slot ≡ 0 → weight ≡ emptyDigit slot * weight
 weight-of-empty slot weight e = sym (ap (λ (d : ℕ). d * weight) (digit-of-empty slot e) ∙ one-mul weight)
@@ -42,6 +47,15 @@ module _ (slots : List ℕ) where
   unfolding emptyDigits
   window-is home = simp add-assoc (omega arith)
 
+  -- so many digits are below the digit past them
+  digits-below : (n home : ℕ) → emptyDigits n slots home < 2 ^ n
+  unfolding emptyDigits
+  digits-below zero home = omega arith
+  digits-below (suc n) home = let h = digits-below n (home + 1) in let d = digit-most (getD slots home 0) in let p = pow-suc 2 n in omega arith
+
+  pub window-below : (home : ℕ) → emptyDigits freeWindow slots home < windowValues
+  window-below home = digits-below freeWindow home
+
 -- ---- the first empty slot
 module _ (slots : List ℕ) (home : ℕ) where
   none-left : FirstEmpty 0 slots home 0
@@ -61,28 +75,19 @@ module _ (slots : List ℕ) (home : ℕ) where
       go (suc i) l e = f .used i (omega arith) (rw (next i) e)
 
 module _ (slots : List ℕ) where
-  -- digits that are all 0
-  none-of : (n home : ℕ) → emptyDigits n slots home ≡ 0 → FirstEmpty n slots home n
+  -- the trailing zeros of the digits, where the digit past them is 1
+  first-of : (n k home : ℕ) → n < k → FirstEmpty n slots home (trailingZeros k (emptyDigits n slots home + 2 ^ n))
   unfolding emptyDigits
-  none-of zero home e = none-left slots home
-  none-of (suc n) home e = used-met slots home n n (λ z. omega (arith, digit-of-empty (getD slots home 0) z)) (none-of n (home + 1) (omega arith))
-
-  -- the trailing zeros of other digits
-  first-of : (n k home : ℕ) → n ≤ k → (emptyDigits n slots home ≡ 0 → ⊥) → FirstEmpty n slots home (trailingZeros k (emptyDigits n slots home))
-  unfolding emptyDigits
-  first-of zero k home l u = absurd (u refl)
-  first-of (suc n) zero home l u = absurd (omega arith)
-  first-of (suc n) (suc k) home l u = go (ℕ-discrete (getD slots home 0) 0) (first-of n k (home + 1) (omega arith))
+  first-of n zero home l = absurd (omega arith)
+  first-of zero (suc k) home l = rw (zeros-over-one k 1 0 refl) (none-left slots home)
+  first-of (suc n) (suc k) home l = go (ℕ-discrete (getD slots home 0) 0) (first-of n k (home + 1) (omega arith))
     where
-      go : Dec (getD slots home 0 ≡ 0) → ((emptyDigits n slots (home + 1) ≡ 0 → ⊥) → FirstEmpty n slots (home + 1) (trailingZeros k (emptyDigits n slots (home + 1)))) → FirstEmpty (suc n) slots home (trailingZeros (suc k) (emptyDigit (getD slots home 0) + 2 * emptyDigits n slots (home + 1)))
-      go (yes e) h = rw (zeros-over-one k _ _ (digit-of-empty _ e)) (empty-met slots home n e)
-      go (no o) h =
-          let d = digit-of-used (getD slots home 0) o in
-          rw (zeros-over-zero k _ _ d) (used-met slots home n _ o (h (λ z. u (omega arith))))
+      over : emptyDigit (getD slots home 0) + 2 * emptyDigits n slots (home + 1) + 2 ^ suc n ≡ emptyDigit (getD slots home 0) + 2 * (emptyDigits n slots (home + 1) + 2 ^ n)
+      over = let p = pow-suc 2 n in omega arith
 
-  module _ (home found : ℕ) (is : found ≡ emptyDigits freeWindow slots home) where
-    pub none-empty : found ≡ 0 → FirstEmpty freeWindow slots home freeWindow
-    none-empty e = none-of freeWindow home (sym is ∙ e)
+      go : Dec (getD slots home 0 ≡ 0) → FirstEmpty n slots (home + 1) (trailingZeros k (emptyDigits n slots (home + 1) + 2 ^ n)) → FirstEmpty (suc n) slots home (trailingZeros (suc k) (emptyDigit (getD slots home 0) + 2 * emptyDigits n slots (home + 1) + 2 ^ suc n))
+      go (yes e) h = rw (over, zeros-over-one k _ _ (digit-of-empty _ e)) (empty-met slots home n e)
+      go (no o) h = rw (over, zeros-over-zero k _ _ (digit-of-used _ o)) (used-met slots home n _ o h)
 
-    pub first-empty-is : (found ≡ 0 → ⊥) → (first : ℕ) → first ≡ trailingZeros 32 found → FirstEmpty freeWindow slots home first
-    first-empty-is n first e = rw (e ∙ ap (trailingZeros 32) is) (first-of freeWindow 32 home (omega arith) (λ z. n (is ∙ z)))
+  pub first-empty-is : (home found : ℕ) → found ≡ emptyDigits freeWindow slots home → FirstEmpty freeWindow slots home (trailingZeros 32 (found + windowValues))
+  first-empty-is home found is = rw is (first-of freeWindow 32 home (omega arith))

@@ -1,5 +1,5 @@
 -- The search for a free place.
-use Prim.Native.Nat.{ℕ, _+_, _%_, _≤_, _<_}
+use Prim.Native.Nat.{ℕ, _+_, _-_, _%_, _≤_, _<_}
 use mathlib.Core.Path.{_≡_, ap, _∙_}
 use mathlib.Core.List.{List}
 use lib.ListN.{getD}
@@ -9,12 +9,12 @@ use native.Mathlib.Decide.{decLt}
 use borrow.Author.Count.{below-more}
 use Rattle.dedup.specs.Table.{InUse}
 use Rattle.dedup.specs.Insert.{freeWindow, FirstEmpty, Room, FirstFree}
-use Rattle.dedup.proofs.Rounds.{round-hits, round-from, round-inside}
+use Rattle.dedup.proofs.Rounds.{round-hits, round-from, round-to, round-window}
 
 -- ---- round the table
 module _ (slots : List ℕ) (size hash : ℕ) where
-  pub none-passed : InUse slots size hash 0
-  none-passed d l = absurd (omega arith)
+  pub none-passed : (far : ℕ) → far ≡ 0 → InUse slots size hash far
+  none-passed far e d l = absurd (omega arith)
 
   -- fewer places than the table has are passed
   pub not-round : (far : ℕ) → Room slots size → InUse slots size hash far → far < size
@@ -52,11 +52,17 @@ module _ (slots : List ℕ) (size hash : ℕ) where
       used = λ d l z. f .used d l (ap (λ (x : ℕ). getD slots x 0) (round-from hash home d size is) ∙ z);
     }
 
-    pub free-in-window : (first : ℕ) → home + freeWindow ≤ size → first < freeWindow → FirstEmpty freeWindow slots home first → FirstFree slots size hash (home + first)
-    free-in-window first m l e = record {
-      far = first;
+  -- ---- a window that ends within the table, the slots before it in use
+  module _ (at : ℕ) (from : hash % size ≤ at) (u : InUse slots size hash (at - hash % size)) (inside : at + freeWindow ≤ size) (first : ℕ) (e : FirstEmpty freeWindow slots at first) where
+    -- its slots before the first empty one are passed too
+    pub window-passed : (count : ℕ) → count ≤ first → InUse slots size hash (at + count - hash % size)
+    window-passed count l = round-window hash size (λ (slot : ℕ). slot ≡ 0 → ⊥) slots at count from (let w = e .within in omega arith) u (λ i b. e .used i (omega arith))
+
+    pub free-in-window : first < freeWindow → FirstFree slots size hash (at + first)
+    free-in-window l = record {
+      far = at + first - hash % size;
       near = omega arith;
-      is = round-inside hash home first size is (omega arith);
+      is = round-to hash size (at + first) (omega arith) (omega arith);
       empty = e .empty l;
-      used = λ d k z. e .used d k (ap (λ (x : ℕ). getD slots x 0) (round-inside hash home d size is (omega arith)) ∙ z);
+      used = window-passed first (omega arith);
     }

@@ -12,8 +12,10 @@ use Rattle.arena.specs.declared.node.DagNode.{DagNode}
 use Rattle.arena.specs.Node.{nodeAt, one}
 use Rattle.arena.specs.Nodes.{LowerChildren, AllWellFormed}
 use Rattle.arena.proofs.OneNode.{not-one}
-use Rattle.dedup.specs.Probe.{greatestChild, holds, Frees}
-use Rattle.dedup.specs.Insert.{FirstFree}
+use Rattle.dedup.specs.declared.probing.Place.{Place}
+use Rattle.dedup.specs.declared.probing.Place.the-variants.{Here, Free, Nowhere}
+use Rattle.dedup.specs.Probe.{greatestChild, holds, Frees, ProbedNear}
+use Rattle.dedup.specs.Insert.{FirstFree, FreeNear}
 use Rattle.dedup.specs.Intern.{OverNewest}
 use Rattle.dedup.proofs.Searching.{holds-known}
 
@@ -68,8 +70,14 @@ module _ (w : List ℕ) (count : ℕ) (key : DagNode) (f : AllWellFormed w count
       by (no l) = rw (le-ltb id count (omega arith)) refl
 
   -- the first free place ends the search for it
-  pub over-newest-free : (slots : List ℕ) (size place : ℕ) → FirstFree slots size (key .hash) place → Frees w count slots size key place
+  over-newest-free : (slots : List ℕ) (size place : ℕ) → FirstFree slots size (key .hash) place → Frees w count slots size key place
   over-newest-free slots size place free = record {
     reached = record { far = free .far; near = free .near; is = free .is; passed = record { used = free .used; other = λ d l. in-no-slot _ } };
     empty = free .empty;
   }
+
+  pub over-newest-near : (slots : List ℕ) (size : ℕ) (r : Place) → FreeNear slots size (key .hash) r → ProbedNear w count slots size key r
+  unfolding FreeNear ProbedNear
+  over-newest-near slots size (Here place) n = absurd n
+  over-newest-near slots size (Free place) free = over-newest-free slots size place free
+  over-newest-near slots size Nowhere u = tt

@@ -1,4 +1,4 @@
--- The first slots of a search, looked at together.
+-- Slots of a search, looked at together.
 use Prim.Native.Nat.{ℕ, _+_, _*_, _-_, _%_, _≤_, _<_}
 use mathlib.Core.Path.{_≡_, refl, sym, ap, _∙_, subst}
 use mathlib.Core.Bool.{false}
@@ -10,11 +10,12 @@ use borrow.Author.Count.{below-more}
 use Rattle.arena.specs.declared.node.DagNode.{DagNode}
 use Rattle.arena.specs.Layout.{nodeWords}
 use Rattle.dedup.specs.declared.probing.Place.the-variants.{Free}
-use Rattle.dedup.specs.Table.{slotFrom, AllKnown, hashAt}
-use Rattle.dedup.specs.Probe.{greatestChild, holds, Ready, Passed, Probed, ComparedId, OtherHash, NearReady, NoneNear}
+use Rattle.dedup.specs.Table.{AllKnown, hashAt}
+use Rattle.dedup.specs.Probe.{greatestChild, holds, Ready, Passed, ProbedNear, ComparedId, OtherHash, NearReady, NoneNear}
 use Rattle.dedup.specs.Insert.{freeWindow, FirstEmpty}
-use Rattle.dedup.proofs.Rounds.{round-inside}
-use Rattle.dedup.proofs.Searching.{holds-beyond, holds-hash, ends-free}
+use Rattle.dedup.proofs.Rounds.{round-to, round-window}
+use Rattle.dedup.proofs.FreePlaces.{window-passed}
+use Rattle.dedup.proofs.Searching.{holds-beyond, holds-hash, ends-free, probed-near}
 use Rattle.dedup.proofs.GreatestChild.{holds-below}
 
 -- a slot whose compared hash is another
@@ -69,24 +70,24 @@ module _ (words : List ℕ) (known : ℕ) (slots : List ℕ) (size : ℕ) (key :
       by (yes l) (yes b) = holds-below words known key slot (slot - 1) used refl l (r .formed) (rw g at b)
       by (yes l) (no m) = let u = used in holds-hash words known key slot (slot - 1) used refl l (r .formed) (r .hashed) (o .differs (omega arith))
 
-  module _ (home : ℕ) (is : home ≡ key .hash % size) (inside : home + freeWindow ≤ size) where
-    -- what looking at them together needs is there
-    pub near-ready : AllKnown known slots size → greatest < known → NearReady words slots home freeWindow greatest
+  -- ---- a window that ends within the table
+  module _ (at : ℕ) (inside : at + freeWindow ≤ size) where
+    -- what looking at its slots together needs is there
+    pub near-ready : AllKnown known slots size → greatest < known → NearReady words slots at freeWindow greatest
     near-ready a l = record {
       inside = let s = r .sized in omega arith;
       fits = let f = r .formed .fits in omega arith;
-      there = λ d m. let b = a (home + d) (omega arith) in let f = r .formed .fits in omega arith;
+      there = λ d m. let b = a (at + d) (omega arith) in let f = r .formed .fits in omega arith;
     }
 
-    -- a search ends at the first empty slot
-    pub near-free : (first : ℕ) → first < freeWindow → FirstEmpty freeWindow slots home first → NoneNear words slots home (key .hash) greatest first → Probed words known slots size key (Free (home + first))
-    near-free first l e n = ends-free words known slots size key first passed (home + first) (round-inside (key .hash) home first size is (let m = inside in omega arith)) (let m = inside in omega arith) (e .empty l)
-      where
-        near-slot : (d : ℕ) → d < first → getD slots (home + d) 0 ≡ slotFrom slots size (key .hash) d
-        near-slot d b = ap (λ (x : ℕ). getD slots x 0) (round-inside (key .hash) home d size is (let m = inside in let k = l in omega arith))
+    module _ (from : key .hash % size ≤ at) (ps : Passed words known slots size key (at - key .hash % size)) (first : ℕ) (e : FirstEmpty freeWindow slots at first) (n : NoneNear words slots at (key .hash) greatest first) where
+      -- its slots before the first empty one are passed too
+      pub near-passed : (count : ℕ) → count ≤ first → Passed words known slots size key (at + count - key .hash % size)
+      near-passed count l = record {
+        used = window-passed slots size (key .hash) at from (ps .used) inside first e count l;
+        other = round-window (key .hash) size (λ (slot : ℕ). holds words known key slot ≡ false) slots at count from (let w = e .within in let m = inside in omega arith) (ps .other) (λ i b. other-holds _ (e .used i (omega arith)) (n .each i (omega arith)));
+      }
 
-        passed : Passed words known slots size key first
-        passed = record {
-          used = λ d b z. e .used d b (near-slot d b ∙ z);
-          other = λ d b. ap (holds words known key) (sym (near-slot d b)) ∙ other-holds _ (e .used d b) (n .each d b);
-        }
+      -- a search ends at the first empty one
+      pub near-free : first < freeWindow → ProbedNear words known slots size key (Free (at + first))
+      near-free l = probed-near words known slots size key _ (ends-free words known slots size key _ (near-passed first (omega arith)) (at + first) (round-to (key .hash) size (at + first) (let f = from in omega arith) (let m = inside in omega arith)) (let m = inside in omega arith) (e .empty l))

@@ -17,7 +17,7 @@ use Rattle.arena.proofs.OneNode.{not-one, one-is, one-hash}
 use Rattle.dedup.specs.declared.probing.Place.{Place}
 use Rattle.dedup.specs.declared.probing.Place.the-variants.{Here, Free, Nowhere}
 use Rattle.dedup.specs.Table.{slotFrom}
-use Rattle.dedup.specs.Probe.{holds, Passed, Reaches, Frees, Finds, Probed}
+use Rattle.dedup.specs.Probe.{holds, Passed, Reaches, Frees, Finds, Probed, ProbedNear}
 
 -- ---- a slot in use
 module _ (w : List ℕ) (known : ℕ) (key : DagNode) where
@@ -49,8 +49,8 @@ module _ (w : List ℕ) (known : ℕ) (key : DagNode) where
 
 -- ---- a search
 module _ (w : List ℕ) (known : ℕ) (slots : List ℕ) (size : ℕ) (key : DagNode) where
-  pub passed-none : Passed w known slots size key 0
-  passed-none = record { used = λ d l. absurd (omega arith); other = λ d l. absurd (omega arith) }
+  pub passed-none : (far : ℕ) → far ≡ 0 → Passed w known slots size key far
+  passed-none far e = record { used = λ d l. absurd (omega arith); other = λ d l. absurd (omega arith) }
 
   module _ (far : ℕ) (ps : Passed w known slots size key far) (at : ℕ) (is : at ≡ (key .hash + far) % size) where
     there : getD slots at 0 ≡ slotFrom slots size (key .hash) far
@@ -77,14 +77,27 @@ module _ (w : List ℕ) (known : ℕ) (slots : List ℕ) (size : ℕ) (key : Dag
   unfolding Probed
   ends-nowhere far e ps = subst (Passed w known slots size key) e ps
 
+  -- a search that ends nowhere may say nothing
+  pub probed-near : (r : Place) → Probed w known slots size key r → ProbedNear w known slots size key r
+  unfolding Probed ProbedNear
+  probed-near (Here at) p = p
+  probed-near (Free at) p = p
+  probed-near Nowhere p = tt
+
   -- ---- what a search's end says
+  pub was-here-near : (r : Place) (at : ℕ) → r ≡ Here at → ProbedNear w known slots size key r → Finds w known slots size key at
+  unfolding ProbedNear
+  was-here-near r at e p = subst (ProbedNear w known slots size key) e p
+
+  pub was-free-near : (r : Place) (at : ℕ) → r ≡ Free at → ProbedNear w known slots size key r → Frees w known slots size key at
+  unfolding ProbedNear
+  was-free-near r at e p = subst (ProbedNear w known slots size key) e p
+
   pub was-here : (r : Place) (at : ℕ) → r ≡ Here at → Probed w known slots size key r → Finds w known slots size key at
-  unfolding Probed
-  was-here r at e p = subst (Probed w known slots size key) e p
+  was-here r at e p = was-here-near r at e (probed-near r p)
 
   pub was-free : (r : Place) (at : ℕ) → r ≡ Free at → Probed w known slots size key r → Frees w known slots size key at
-  unfolding Probed
-  was-free r at e p = subst (Probed w known slots size key) e p
+  was-free r at e p = was-free-near r at e (probed-near r p)
 
   pub was-nowhere : (r : Place) → r ≡ Nowhere → Probed w known slots size key r → Passed w known slots size key size
   unfolding Probed

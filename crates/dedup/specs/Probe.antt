@@ -58,6 +58,12 @@ Probed words known slots size key (Here place) = Finds words known slots size ke
 Probed words known slots size key (Free place) = Frees words known slots size key place
 Probed words known slots size key Nowhere = Passed words known slots size key size
 
+-- where a search by windows ends: as above, or nowhere, which says nothing
+unfoldable pub ProbedNear : List ℕ → ℕ → List ℕ → ℕ → DagNode → Place → Type 0
+ProbedNear words known slots size key (Here place) = Finds words known slots size key place
+ProbedNear words known slots size key (Free place) = Frees words known slots size key place
+ProbedNear words known slots size key Nowhere = Unit {0}
+
 -- ---- the first slots, looked at together
 -- how many slots are compared together
 abbrev pub searchWindow : ℕ

@@ -11,6 +11,10 @@ quarter = 4
 abbrev pub quarterValues : ℕ
 quarterValues = 16
 
+-- how many values all of their binary digits have
+abbrev pub windowValues : ℕ
+windowValues = 65536
+
 -- 1 for an empty slot, else 0
 unfoldable pub emptyDigit : ℕ → ℕ
 emptyDigit zero = 1

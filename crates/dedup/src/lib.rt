@@ -5,7 +5,7 @@ ghost use Rattle.arena.specs.Layout.{mostNodes, arenaOf};
 ghost use Rattle.definitions.specs.Says.{Says};
 ghost use Rattle.arena.specs.Nodes.{WellFormed, Nodes};
 ghost use Rattle.dedup.specs.Table.{TableSize, Table, hashAt};
-ghost use Rattle.dedup.specs.Probe.{Probed};
+ghost use Rattle.dedup.specs.Probe.{ProbedNear};
 ghost use Rattle.dedup.specs.Intern.{answered, Interns, Absent, HasRoom, OverNewest, InternsInRoom};
 ghost use Rattle.dedup.specs.declared.Answer.the-variants.{Refused};
 
@@ -23,8 +23,7 @@ use arena::store_node;
 pub use auditing::audit;
 use definitions::refusals::NO_NODE_PLACE;
 use definitions::refusals::NO_SLOT_PLACE;
-use filling::free_place;
-use filling::place;
+use filling::free_near;
 use filling::rehash;
 use probing::Place;
 use probing::greatest_child;
@@ -33,7 +32,7 @@ use probing::probe_near;
 use probing::slot_id;
 use sizes::load_limit;
 
-// What `get_or_insert_in_room` and `get_or_insert_together` answer in place of an id: every id is below it.
+// What the calls that need room answer in place of an id: every id is below it.
 pub const NO_ROOM: u64 = MOST_NODES;
 
 // The id of an old node or of a new one, or the number of a refusal.
@@ -93,9 +92,8 @@ fn insert(
         return refused(NO_SLOT_PLACE, arena);
     }
     let doubled = size * 2;
-    rehash(nodes, slots, doubled, count);
-    place(slots, doubled, key.hash, count);
     store_node(nodes, count, key);
+    rehash(nodes, slots, doubled, count + 1);
     Interned {
         answer: Answer::New(count),
         arena: DagArena {
@@ -153,7 +151,7 @@ fn answer_in_room(
     key: DagNode,
     found: Place,
 ) -> u64
-    requires { ⌜ Nodes (now nodes) (now count) × Table (hashAt (now nodes)) (now count) (now slots) size × WellFormed (now count) key × Probed (now nodes) (now count) (now slots) size key found ⌝ }
+    requires { ⌜ Nodes (now nodes) (now count) × Table (hashAt (now nodes)) (now count) (now slots) size × WellFormed (now count) key × ProbedNear (now nodes) (now count) (now slots) size key found ⌝ }
     ensures { λ r. ⌜ InternsInRoom (now (nodes .entry)) (now (slots .entry)) (arenaOf (now (count .entry)) size) key r (now (nodes .exit)) (now (slots .exit)) (now (count .exit)) ⌝ }
 {
     match found {
@@ -199,19 +197,9 @@ fn is_over_newest(key: DagNode, count: u64) -> bool
     greatest_child(children) + 1 == count
 }
 
-// The same search as `probe`, by slots looked at together. For a node over the newest one no node is compared.
-fn probe_together(nodes: &[u64], slots: &[u32], size: usize, key: DagNode, count: u64) -> Place
-    requires { ⌜ Nodes (now nodes) count × Table (hashAt (now nodes)) count (now slots) size × WellFormed count key ⌝ }
-    ensures { λ r. ⌜ Probed (now (nodes .entry)) count (now (slots .entry)) size key r ⌝ }
-{
-    if is_over_newest(key, count) {
-        return Place::Free(free_place(slots, size, key.hash));
-    }
-    probe_near(nodes, slots, size, key, count)
-}
-
-// The same as `get_or_insert_in_room`, by slots looked at together: for nodes that are made one over the other.
-pub fn get_or_insert_together(
+// The id of a node over the newest one, where it has room near its hash; else NO_ROOM, and nothing changes. No node is
+// compared.
+pub fn insert_over_newest(
     nodes: &mut [u64],
     slots: &mut [u32],
     count: &mut u64,
@@ -221,6 +209,24 @@ pub fn get_or_insert_together(
     requires { ⌜ Nodes (now nodes) (now count) × Table (hashAt (now nodes)) (now count) (now slots) size × WellFormed (now count) key ⌝ }
     ensures { λ r. ⌜ InternsInRoom (now (nodes .entry)) (now (slots .entry)) (arenaOf (now (count .entry)) size) key r (now (nodes .exit)) (now (slots .exit)) (now (count .exit)) ⌝ }
 {
-    let found = probe_together(nodes, slots, size, key, *count);
+    if !is_over_newest(key, *count) {
+        return NO_ROOM;
+    }
+    let found = free_near(slots, size, key.hash);
+    answer_in_room(nodes, slots, count, size, key, found)
+}
+
+// The id of a node whose hash is none of those near it, where it has room there; else NO_ROOM, and nothing changes.
+pub fn insert_absent(
+    nodes: &mut [u64],
+    slots: &mut [u32],
+    count: &mut u64,
+    size: usize,
+    key: DagNode,
+) -> u64
+    requires { ⌜ Nodes (now nodes) (now count) × Table (hashAt (now nodes)) (now count) (now slots) size × WellFormed (now count) key ⌝ }
+    ensures { λ r. ⌜ InternsInRoom (now (nodes .entry)) (now (slots .entry)) (arenaOf (now (count .entry)) size) key r (now (nodes .exit)) (now (slots .exit)) (now (count .exit)) ⌝ }
+{
+    let found = probe_near(nodes, slots, size, key, *count);
     answer_in_room(nodes, slots, count, size, key, found)
 }

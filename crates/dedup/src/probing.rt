@@ -1,11 +1,11 @@
 // The search round the table, which finding, inserting and the audit share.
 ghost use mathlib.Core.Path.{_≡_};
 ghost use mathlib.Core.Bool.{false};
-ghost use Prim.Native.Nat.{_-_, _<_};
+ghost use Prim.Native.Nat.{_-_, _≤_, _<_};
 ghost use Rattle.arena.specs.Node.{nodeHash};
 ghost use Rattle.arena.specs.Nodes.{AllWellFormed};
 ghost use Rattle.dedup.specs.Table.{AllKnown};
-ghost use Rattle.dedup.specs.Probe.{greatestChild, holds, Ready, Probed, searchWindow, ComparedId, NearReady, NoneNear};
+ghost use Rattle.dedup.specs.Probe.{greatestChild, holds, Ready, Probed, ProbedNear, searchWindow, ComparedId, NearReady, NoneNear};
 ghost use Rattle.dedup.specs.Insert.{freeWindow};
 use crate::sizes::modulo_size;
 use crate::window::FREE_WINDOW;
@@ -132,7 +132,7 @@ fn any_before(
     hash: u64,
     greatest: u64,
 ) -> bool
-    requires { ⌜ NearReady (now nodes) (now slots) home freeWindow greatest × (end < freeWindow) ⌝ }
+    requires { ⌜ NearReady (now nodes) (now slots) home freeWindow greatest × (end ≤ freeWindow) ⌝ }
     ensures { λ r. ⌜ (r ≡ false → NoneNear (now (nodes .entry)) (now (slots .entry)) home hash greatest end) ⌝ }
 {
     if end <= SEARCH_WINDOW {
@@ -149,7 +149,8 @@ fn any_before(
     met
 }
 
-// The same search as `probe`, whose first slots are looked at together, in a table whose ids are all known.
+// The same search as `probe` for a key that is most often none of the nodes, by windows one after another, in a table whose ids
+// are all known. It ends at an empty slot, or nowhere if a hash is the key's or the table's end is near.
 pub(crate) fn probe_near(
     nodes: &[u64],
     slots: &[u32],
@@ -158,20 +159,23 @@ pub(crate) fn probe_near(
     known: u64,
 ) -> Place
     requires { ⌜ Ready (now nodes) known (now slots) size key × AllKnown known (now slots) size ⌝ }
-    ensures { λ r. ⌜ Probed (now (nodes .entry)) known (now (slots .entry)) size key r ⌝ }
+    ensures { λ r. ⌜ ProbedNear (now (nodes .entry)) known (now (slots .entry)) size key r ⌝ }
 {
     let children = key.children;
     let greatest = greatest_child(children);
-    let home = modulo_size(key.hash as usize, size);
-    if FREE_WINDOW <= size - home {
-        if greatest < known {
-            let first = first_empty(slots, home);
-            if first < FREE_WINDOW {
-                if !any_before(nodes, slots, home, first, key.hash, greatest) {
-                    return Place::Free(home + first);
-                }
-            }
-        }
+    if known <= greatest {
+        return Place::Nowhere;
     }
-    probe(nodes, slots, size, key, known)
+    let mut at = modulo_size(key.hash as usize, size);
+    while FREE_WINDOW <= size - at {
+        let first = first_empty(slots, at);
+        if any_before(nodes, slots, at, first, key.hash, greatest) {
+            return Place::Nowhere;
+        }
+        if first < FREE_WINDOW {
+            return Place::Free(at + first);
+        }
+        at += FREE_WINDOW;
+    }
+    Place::Nowhere
 }

@@ -14,6 +14,9 @@ const QUARTER: usize = 4;
 // How many values a quarter's binary digits have.
 const QUARTER_VALUES: u32 = 16;
 
+// How many values the window's binary digits have: added to them it is one digit more, so that some digit is 1.
+const WINDOW_VALUES: u32 = 65_536;
+
 // A weight if a slot is empty, else 0.
 fn weight_if_empty(slot: u32, weight: u32) -> u32
     ensures { λ r. ⌜ (r ≡ emptyDigit slot * weight) × (r ≤ weight) ⌝ }
@@ -49,9 +52,5 @@ pub(crate) fn first_empty(slots: &[u32], home: usize) -> usize
     requires { ⌜ home + freeWindow ≤ length (now slots) ⌝ }
     ensures { λ r. ⌜ FirstEmpty freeWindow (now (slots .entry)) home r ⌝ }
 {
-    let found = empties(slots, home);
-    if found == 0 {
-        return FREE_WINDOW;
-    }
-    u32::trailing_zeros(found) as usize
+    u32::trailing_zeros(empties(slots, home) + WINDOW_VALUES) as usize
 }

@@ -7,14 +7,14 @@ use mathlib.Core.List.{List, [], _∷_, _++_, append-nil, append-assoc}
 use lib.ListN.{length, getD, take, drop, set, length-append, length-set, length-drop, drop-of-length-le}
 use lib.Seq.{take-suc, take-length, length-take-le, take-append-le, drop-append-le, take-set-le, drop-set-lt, take-take, drop-drop}
 use native.Mathlib.Omega.{arith}
-use Rattle.definitions.specs.Limits.{mostTerms}
+use Rattle.definitions.specs.Limits.{mostTerms, mostNodes}
 use Rattle.definitions.specs.Node.{Node, at, addKind}
 use Rattle.definitions.specs.Prune.{chain, filter}
 use Rattle.definitions.proofs.Stable.{Lower}
 use Rattle.definitions.proofs.Intern.{lower-up}
 use Rattle.store.specs.View.{nodesIn}
 use Rattle.store.proofs.Viewing.{plain-length}
-use Rattle.pruner.specs.Terms.{childrenIn, Readable, BeginsWithTerm, Pushes, Puts, Closes, Flattens}
+use Rattle.pruner.specs.Terms.{childrenIn, Readable, BeginsWithTerm, EndsWithTerm, Pushes, Puts, Closes, Flattens}
 use Rattle.pruner.specs.declared.chain.Waiting.{Waiting}
 use Rattle.pruner.specs.declared.chain.Waiting.the-variants.{Before, Nowhere}
 use Rattle.pruner.specs.declared.chain.Flattened.{Flattened}
@@ -22,7 +22,7 @@ use Rattle.pruner.specs.declared.chain.Flattened.the-variants.{TooMany}
 use Rattle.pruner.proofs.Below.{lower-append, lower-parts}
 use Rattle.pruner.proofs.Chains.{chains, chains-append, chain-add, chain-term, chains-filled}
 use Rattle.pruner.proofs.Weights.{weights, weights-append, weight-some, children-lighter}
-use Rattle.pruner.proofs.Reading.{layered, few-children}
+use Rattle.pruner.proofs.Reading.{layered, few-children, id-limited}
 use Rattle.pruner.proofs.Filtering.{Counts, at-most-one, put-first, put-last}
 use Rattle.pruner.proofs.Closing.{flattens}
 
@@ -96,27 +96,13 @@ module _ (words : List ℕ) (count root : ℕ) (keep : ℕ → Bool) (r : Readab
   known : id < length ns
   known = omega (arith, plain-length words count, id-below)
 
-  -- ---- an id that is no Add is a term, put before the last ones
-  module _ (answer : Bool) (after : List ℕ) (puts : Puts (keep id) (mostTerms - 1 - back) id array answer after) where
+  -- ---- a term that ends the chains ahead is put before the last ones
+  module _ (term : ℕ) (answer : Bool) (after : List ℕ) (puts : Puts (keep term) (mostTerms - 1 - back) term array answer after) where
     pub long-too : length after ≡ mostTerms
-    long-too = ap length (puts .1) ∙ length-set array (mostTerms - 1 - back) id ∙ f .long
+    long-too = ap length (puts .1) ∙ length-set array (mostTerms - 1 - back) term ∙ f .long
 
     before-same : (k : ℕ) → k ≤ mostTerms - 1 - back → take k after ≡ take k array
-    before-same k h = ap (take k) (puts .1) ∙ take-set-le k array (mostTerms - 1 - back) id h
-
-    -- the last of the ids that wait
-    module _ (t : top ≡ front → ⊥) where
-      next : ahead after front (top - 1) (getD after (top - 1) 0) ≡ rest
-      next =
-          let e : suc (top - 1) ≡ top = omega (arith, t, f .ordered) in
-          sym (drop-append-le front (take (top - 1) after) (getD after (top - 1) 0 ∷ []) (omega (arith, t, f .ordered, length-take-le (top - 1) after (omega (arith, long-too, f .long, top-inside)))))
-          ∙ ap (drop front)
-          (sym (take-suc after (top - 1) 0 (omega (arith, t, f .ordered, long-too, f .long, top-inside)))
-          ∙ ap (λ (k : ℕ). take k after) e
-          ∙ before-same top (omega (arith, f .few, f .room)))
-
-      pub finds-less : work after front (top - 1) (getD after (top - 1) 0) < work array front top id
-      finds-less = omega (arith, ap weights next, weights-append rest (id ∷ []), weight-some id)
+    before-same k h = ap (take k) (puts .1) ∙ take-set-le k array (mostTerms - 1 - back) term h
 
     few-too : (back′ : ℕ) → Counts answer back back′ → front + back′ ≤ found + 1
     few-too back′ counts = omega (arith, at-most-one answer back back′ counts, f .few)
@@ -124,44 +110,74 @@ module _ (words : List ℕ) (count root : ℕ) (keep : ℕ → Bool) (r : Readab
     pub kept-inside : (back′ : ℕ) → Counts answer back back′ → front + back′ ≤ mostTerms
     kept-inside back′ counts = omega (arith, few-too back′ counts, f .room, f .ordered)
 
-    module _ (other : at (nodesIn words count) id .kind ≡ addKind → ⊥) (back′ : ℕ) (counts : Counts answer back back′) where
-      is-term : chains ns (ahead array front top id) ≡ chains ns rest ++ id ∷ []
-      is-term = chains-append ns rest (id ∷ []) ∙ ap (λ (l : List ℕ). chains ns rest ++ (l ++ [])) (chain-term ns (layered words count r) id other)
+    -- ids are left whose chains come before it
+    module _ (other : at (nodesIn words count) term .kind ≡ addKind → ⊥) (left : List ℕ) (ends : chains ns (ahead array front top id) ≡ chains ns (left ++ term ∷ [])) (back′ : ℕ) (counts : Counts answer back back′) where
+      is-term : chains ns (ahead array front top id) ≡ chains ns left ++ term ∷ []
+      is-term = ends ∙ chains-append ns left (term ∷ []) ∙ ap (λ (l : List ℕ). chains ns left ++ (l ++ [])) (chain-term ns (layered words count r) term other)
 
-      number-too : length (chains ns rest) + (found + 1) ≡ length (chain ns root)
-      number-too = omega (arith, f .number, ap length is-term, length-append (chains ns rest) (id ∷ []))
+      number-too : length (chains ns left) + (found + 1) ≡ length (chain ns root)
+      number-too = omega (arith, f .number, ap length is-term, length-append (chains ns left) (term ∷ []))
 
       abbrev those : List ℕ
       those = drop (mostTerms - back′) after
 
-      parts-too : take front after ++ (filter keep (chains ns rest) ++ those) ≡ filter keep (chain ns root)
+      parts-too : take front after ++ (filter keep (chains ns left) ++ those) ≡ filter keep (chain ns root)
       parts-too =
-          ap (λ (l : List ℕ). l ++ (filter keep (chains ns rest) ++ those)) (before-same front (omega (arith, f .few, f .room, f .ordered)))
-          ∙ ap (λ (l : List ℕ). take front array ++ (filter keep (chains ns rest) ++ drop (mostTerms - back′) l)) (puts .1)
-          ∙ ap (λ (l : List ℕ). take front array ++ l) (put-last keep array back back′ id (chains ns rest) (f .long) (omega (arith, f .few, f .room, f .ordered)) (subst (λ (b : Bool). Counts b back back′) (puts .0) counts))
+          ap (λ (l : List ℕ). l ++ (filter keep (chains ns left) ++ those)) (before-same front (omega (arith, f .few, f .room, f .ordered)))
+          ∙ ap (λ (l : List ℕ). take front array ++ (filter keep (chains ns left) ++ drop (mostTerms - back′) l)) (puts .1)
+          ∙ ap (λ (l : List ℕ). take front array ++ l) (put-last keep array back back′ term (chains ns left) (f .long) (omega (arith, f .few, f .room, f .ordered)) (subst (λ (b : Bool). Counts b back back′) (puts .0) counts))
           ∙ ap (λ (l : List ℕ). take front array ++ (filter keep l ++ drop (mostTerms - back) array)) (sym is-term)
           ∙ f .parts
 
+      -- the last of them is gone on with
+      goes-on : (top′ id′ : ℕ) → ahead after front top′ id′ ≡ left → Lower count left → front ≤ top′ → found + 1 + top′ < mostTerms + front
+          → Flattening words count root keep after (found + 1) front back′ top′ id′
+      goes-on top′ id′ are low ordered room = record {
+        long = long-too;
+        few = few-too back′ counts;
+        ordered = ordered;
+        room = room;
+        below = subst (Lower count) (sym are) low;
+        number = omega (arith, number-too, ap (λ (l : List ℕ). length (chains ns l)) are);
+        parts = ap (λ (l : List ℕ). take front after ++ (filter keep (chains ns l) ++ those)) are ∙ parts-too;
+      }
+
+  -- ---- an id that is no Add is a term
+  module _ (answer : Bool) (after : List ℕ) (puts : Puts (keep id) (mostTerms - 1 - back) id array answer after) where
+    -- the last of the ids that wait
+    module _ (t : top ≡ front → ⊥) where
+      next : ahead after front (top - 1) (getD after (top - 1) 0) ≡ rest
+      next =
+          let long : length after ≡ mostTerms = long-too id answer after puts in
+          let e : suc (top - 1) ≡ top = omega (arith, t, f .ordered) in
+          sym (drop-append-le front (take (top - 1) after) (getD after (top - 1) 0 ∷ []) (omega (arith, t, f .ordered, length-take-le (top - 1) after (omega (arith, f .long, top-inside)))))
+          ∙ ap (drop front)
+          (sym (take-suc after (top - 1) 0 (omega (arith, t, f .ordered, f .long, top-inside)))
+          ∙ ap (λ (k : ℕ). take k after) e
+          ∙ before-same id answer after puts top (omega (arith, f .few, f .room)))
+
+      pub finds-less : work after front (top - 1) (getD after (top - 1) 0) < work array front top id
+      finds-less = omega (arith, ap weights next, weights-append rest (id ∷ []), weight-some id)
+
+      pub next-limited : getD after (top - 1) 0 < mostNodes
+      next-limited =
+          let low = lower-parts count (drop front (take (top - 1) after)) (getD after (top - 1) 0 ∷ []) (subst (Lower count) (sym next) (both-below .0)) in
+          id-limited words count (getD after (top - 1) 0) (r .lookup (getD after (top - 1) 0) (low .1 .0))
+
+    module _ (other : at (nodesIn words count) id .kind ≡ addKind → ⊥) (back′ : ℕ) (counts : Counts answer back back′) where
       -- the only one left
       pub ends-flat : top ≡ front → (answer : Flattened) (array′ : List ℕ) → Closes (found + 1) front back′ after answer array′
           → Flattens (chain (nodesIn words count) root) keep answer array′
-      ends-flat e answer array′ c =
+      ends-flat e answer′ array′ c =
           let none : chains ns rest ≡ [] = ap (chains ns) (none-left e) in
-          let all : take front after ++ those ≡ filter keep (chain ns root) = ap (λ (l : List ℕ). take front after ++ (filter keep l ++ those)) (sym none) ∙ parts-too in
-          let number : found + 1 ≡ length (chain ns root) = omega (arith, number-too, ap length none) in
-          flattens (found + 1) front back′ after answer array′ c (chain ns root) keep (few-too back′ counts) (omega (arith, f .room)) long-too number all
+          let all : take front after ++ drop (mostTerms - back′) after ≡ filter keep (chain ns root) =
+          ap (λ (l : List ℕ). take front after ++ (filter keep l ++ drop (mostTerms - back′) after)) (sym none) ∙ parts-too id answer after puts other rest refl back′ counts in
+          let number : found + 1 ≡ length (chain ns root) = omega (arith, number-too id answer after puts other rest refl back′ counts, ap length none) in
+          flattens (found + 1) front back′ after answer′ array′ c (chain ns root) keep (few-too id answer after puts back′ counts) (omega (arith, f .room)) (long-too id answer after puts) number all
 
       pub finds : (top ≡ front → ⊥)
           → Flattening words count root keep after (found + 1) front back′ (top - 1) (getD after (top - 1) 0)
-      finds t = record {
-        long = long-too;
-        few = few-too back′ counts;
-        ordered = omega (arith, f .ordered, t);
-        room = omega (arith, f .room, f .ordered, t);
-        below = subst (Lower count) (sym (next t)) (both-below .0);
-        number = omega (arith, number-too, ap (λ (l : List ℕ). length (chains ns l)) (next t));
-        parts = ap (λ (l : List ℕ). take front after ++ (filter keep (chains ns l) ++ those)) (next t) ∙ parts-too;
-      }
+      finds t = goes-on id answer after puts other rest refl back′ counts (top - 1) (getD after (top - 1) 0) (next t) (both-below .0) (omega (arith, f .ordered, t)) (omega (arith, f .room, f .ordered, t))
 
   -- ---- an Add gives way to its children
   module _ (add : at (nodesIn words count) id .kind ≡ addKind) where
@@ -193,57 +209,90 @@ module _ (words : List ℕ) (count root : ℕ) (keep : ℕ → Bool) (r : Readab
     lighter : weights children < weights (id ∷ [])
     lighter = omega (arith, children-lighter id children (layered words count r .low id known) (few-children words count r id id-below))
 
+    -- ---- two children
+    pub exceeds-two : length (childrenIn words count id) ≡ 2 → mostTerms - 1 - found + front ≤ top → Flattens (chain (nodesIn words count) root) keep TooMany array
+    exceeds-two two h = record { holds = omega (arith, at-least, f .room, f .ordered); long = f .long }
+
+    both-are : length children ≡ 2 → (first : ℕ) → first ≡ getD children 0 0 → (last : ℕ) → last ≡ getD children 1 0 → children ≡ first ∷ last ∷ []
+    both-are two first opens-with last closes-with = two-are children two ∙ ap₂ (λ (x y : ℕ). x ∷ y ∷ []) (sym opens-with) (sym closes-with)
+
+    -- ---- the last of two children is put before the last ones if it is a term
+    module _ (e : EndsWithTerm words count id) (h : top < mostTerms - 1 - found + front) (last : ℕ) (closes-with : last ≡ getD (childrenIn words count id) 1 0) (first : ℕ) (opens-with : first ≡ getD (childrenIn words count id) 0 0) (answer : Bool) (after : List ℕ) (puts : Puts (keep last) (mostTerms - 1 - back) last array answer after) where
+      first-left : ahead after front top first ≡ rest ++ first ∷ []
+      first-left = ap (λ (l : List ℕ). drop front l ++ first ∷ []) (before-same last answer after puts top (omega (arith, f .few, f .room, f .ordered)))
+
+      family-is : rest ++ children ≡ (rest ++ first ∷ []) ++ last ∷ []
+      family-is = ap (λ (l : List ℕ). rest ++ l) (both-are (e .two) first opens-with last closes-with) ∙ sym (append-assoc rest (first ∷ []) (last ∷ []))
+
+      pub takes-last : (back′ : ℕ) → Counts answer back back′ → Flattening words count root keep after (found + 1) front back′ top first
+      takes-last back′ counts =
+          goes-on
+          last
+          answer
+          after
+          puts
+          (λ add. e .term (ap (λ (i : ℕ). at ns i .kind) (sym closes-with) ∙ add))
+          (rest ++ first ∷ [])
+          (expands ∙ ap (chains ns) family-is)
+          back′
+          counts
+          top
+          first
+          first-left
+          (lower-parts count (rest ++ first ∷ []) (last ∷ []) (subst (Lower count) family-is family-below) .0)
+          (f .ordered)
+          (omega (arith, f .room, f .ordered))
+
+      pub takes-last-less : work after front top first < work array front top id
+      takes-last-less = omega (arith, ap weights first-left, ap weights family-is, weights-append rest children, weights-append (rest ++ first ∷ []) (last ∷ []), weights-append rest (id ∷ []), lighter)
+
     -- ---- where no id waits, the first of two children is put after the first ones if it is a term
-    module _ (alone : top ≡ front) (b : BeginsWithTerm words count id) where
-      pub exceeds-alone : mostTerms ≤ found + 1 → Flattens (chain (nodesIn words count) root) keep TooMany array
-      exceeds-alone h = record { holds = omega (arith, at-least, b .two); long = f .long }
+    module _ (alone : top ≡ front) (b : BeginsWithTerm words count id) (h : found + 1 < mostTerms) (first : ℕ) (opens-with : first ≡ getD (childrenIn words count id) 0 0) (second : ℕ) (closes-with : second ≡ getD (childrenIn words count id) 1 0) (answer : Bool) (longer : List ℕ) (puts : Puts (keep first) front first array answer longer) (front′ : ℕ) (counts : Counts answer front front′) where
+      are-two : children ≡ first ∷ second ∷ []
+      are-two = both-are (b .two) first opens-with second closes-with
 
-      module _ (h : found + 1 < mostTerms) (first : ℕ) (opens-with : first ≡ getD (childrenIn words count id) 0 0) (second : ℕ) (closes-with : second ≡ getD (childrenIn words count id) 1 0) (answer : Bool) (longer : List ℕ) (puts : Puts (keep first) front first array answer longer) (front′ : ℕ) (counts : Counts answer front front′) where
-        both-are : children ≡ first ∷ second ∷ []
-        both-are = two-are children (b .two) ∙ ap₂ (λ (x y : ℕ). x ∷ y ∷ []) (sym opens-with) (sym closes-with)
+      long-still : length longer ≡ mostTerms
+      long-still = ap length (puts .1) ∙ length-set array front first ∙ f .long
 
-        long-still : length longer ≡ mostTerms
-        long-still = ap length (puts .1) ∙ length-set array front first ∙ f .long
+      few-still : front′ + back ≤ found + 1
+      few-still = omega (arith, at-most-one answer front front′ counts, f .few)
 
-        few-still : front′ + back ≤ found + 1
-        few-still = omega (arith, at-most-one answer front front′ counts, f .few)
+      one-left : ahead longer front′ front′ second ≡ second ∷ []
+      one-left = ap (λ (l : List ℕ). l ++ second ∷ []) (none-waits longer front′ (omega (arith, few-still, long-still)))
 
-        one-left : ahead longer front′ front′ second ≡ second ∷ []
-        one-left = ap (λ (l : List ℕ). l ++ second ∷ []) (none-waits longer front′ (omega (arith, few-still, long-still)))
+      is-first : chain ns first ≡ first ∷ []
+      is-first = chain-term ns (layered words count r) first (λ e. b .term (ap (λ (i : ℕ). at ns i .kind) (sym opens-with) ∙ e))
 
-        is-first : chain ns first ≡ first ∷ []
-        is-first = chain-term ns (layered words count r) first (λ e. b .term (ap (λ (i : ℕ). at ns i .kind) (sym opens-with) ∙ e))
+      begins-so : chains ns (ahead array front top id) ≡ first ∷ chains ns (ahead longer front′ front′ second)
+      begins-so =
+          expands
+          ∙ ap₂ (λ (l k : List ℕ). chains ns (l ++ k)) (none-left alone) are-two
+          ∙ ap (λ (l : List ℕ). l ++ chains ns (second ∷ [])) is-first
+          ∙ ap (λ (l : List ℕ). first ∷ chains ns l) (sym one-left)
 
-        begins-so : chains ns (ahead array front top id) ≡ first ∷ chains ns (ahead longer front′ front′ second)
-        begins-so =
-            expands
-            ∙ ap₂ (λ (l k : List ℕ). chains ns (l ++ k)) (none-left alone) both-are
-            ∙ ap (λ (l : List ℕ). l ++ chains ns (second ∷ [])) is-first
-            ∙ ap (λ (l : List ℕ). first ∷ chains ns l) (sym one-left)
+      abbrev left : List ℕ
+      left = chains ns (ahead longer front′ front′ second)
 
-        abbrev left : List ℕ
-        left = chains ns (ahead longer front′ front′ second)
+      pub takes-first : Flattening words count root keep longer (found + 1) front′ back front′ second
+      takes-first = record {
+        long = long-still;
+        few = few-still;
+        ordered = omega arith;
+        room = omega arith;
+        below = subst (Lower count) (sym one-left) (subst (Lower count) are-two children-below .1);
+        number = omega (arith, f .number, ap length begins-so);
+        parts =
+            ap (λ (l : List ℕ). take front′ l ++ (filter keep left ++ drop (mostTerms - back) l)) (puts .1)
+            ∙ ap (λ (l : List ℕ). take front′ (set array front first) ++ (filter keep left ++ l)) (drop-set-lt (mostTerms - back) array front first (omega (arith, f .few)))
+            ∙ sym (append-assoc (take front′ (set array front first)) (filter keep left) (drop (mostTerms - back) array))
+            ∙ ap (λ (l : List ℕ). l ++ drop (mostTerms - back) array) (put-first keep array front front′ first left (omega (arith, f .long, f .few)) (subst (λ (b : Bool). Counts b front front′) (puts .0) counts))
+            ∙ append-assoc (take front array) (filter keep (first ∷ left)) (drop (mostTerms - back) array)
+            ∙ ap (λ (l : List ℕ). take front array ++ (filter keep l ++ drop (mostTerms - back) array)) (sym begins-so)
+            ∙ f .parts;
+      }
 
-        pub takes : Flattening words count root keep longer (found + 1) front′ back front′ second
-        takes = record {
-          long = long-still;
-          few = few-still;
-          ordered = omega arith;
-          room = omega arith;
-          below = subst (Lower count) (sym one-left) (subst (Lower count) both-are children-below .1);
-          number = omega (arith, f .number, ap length begins-so);
-          parts =
-              ap (λ (l : List ℕ). take front′ l ++ (filter keep left ++ drop (mostTerms - back) l)) (puts .1)
-              ∙ ap (λ (l : List ℕ). take front′ (set array front first) ++ (filter keep left ++ l)) (drop-set-lt (mostTerms - back) array front first (omega (arith, f .few)))
-              ∙ sym (append-assoc (take front′ (set array front first)) (filter keep left) (drop (mostTerms - back) array))
-              ∙ ap (λ (l : List ℕ). l ++ drop (mostTerms - back) array) (put-first keep array front front′ first left (omega (arith, f .long, f .few)) (subst (λ (b : Bool). Counts b front front′) (puts .0) counts))
-              ∙ append-assoc (take front array) (filter keep (first ∷ left)) (drop (mostTerms - back) array)
-              ∙ ap (λ (l : List ℕ). take front array ++ (filter keep l ++ drop (mostTerms - back) array)) (sym begins-so)
-              ∙ f .parts;
-        }
-
-        pub takes-less : work longer front′ front′ second < work array front top id
-        takes-less = omega (arith, ap weights one-left, ap weights both-are, lighter, weights-append rest (id ∷ []))
+      pub takes-first-less : work longer front′ front′ second < work array front top id
+      takes-first-less = omega (arith, ap weights one-left, ap weights are-two, lighter, weights-append rest (id ∷ []))
 
     -- ---- or all but the last wait
     abbrev free : ℕ

@@ -7,15 +7,16 @@ use lib.ListN.{length, getD}
 use lib.Dec.{leb, eqb}
 use native.Mathlib.Omega.{arith}
 use borrow.Author.Tests.{leb-true, eq-eqb}
-use Rattle.definitions.specs.Limits.{mostChildren}
+use Rattle.definitions.specs.Limits.{mostChildren, mostNodes}
 use Rattle.definitions.specs.Node.{at, addKind}
 use Rattle.definitions.proofs.Deciding.{both}
 use Rattle.arena.specs.declared.DagArena.{DagArena}
 use Rattle.arena.specs.Kind.{operatorArity}
 use Rattle.store.specs.View.{nodesIn, Sound, listed}
+use Rattle.store.specs.Lookup.{Lookup}
 use Rattle.store.proofs.Viewing.{plain-length}
 use Rattle.store.proofs.Reading as R
-use Rattle.pruner.specs.Terms.{childrenIn, Readable, BeginsWithTerm}
+use Rattle.pruner.specs.Terms.{childrenIn, Readable}
 use Rattle.pruner.proofs.Below.{lower-of}
 use Rattle.pruner.proofs.Chains.{Layered}
 
@@ -45,10 +46,16 @@ module _ (words : List ℕ) (count : ℕ) (r : Readable words count) where
   pub child-below : (i place : ℕ) → i < count → place < length (childrenIn words count i) → getD (childrenIn words count i) place 0 < count
   child-below i place h l = omega (arith, R.child-low words count i (r .lookup i h) place l)
 
--- the test of an Add's first child
-pub begins-so : (words : List ℕ) (count id many first kind : ℕ) → many ≡ length (childrenIn words count id) → many ≡ 2 → first ≡ getD (childrenIn words count id) 0 0
-    → kind ≡ at (nodesIn words count) first .kind → not (eqb kind addKind) ≡ true → BeginsWithTerm words count id
-begins-so words count id many first kind counted two is-first is-kind other = record {
-  two = sym counted ∙ two;
-  term = λ add. false≢true (sym (ap not (eq-eqb kind addKind (is-kind ∙ ap (λ (i : ℕ). at (nodesIn words count) i .kind) is-first ∙ add))) ∙ other);
-}
+-- the store has at most 65,536 nodes, so that 32 bits hold an id and each child of it
+module _ (words : List ℕ) (count id : ℕ) (k : Lookup words count id) where
+  pub id-limited : id < mostNodes
+  id-limited = omega (arith, k .below, k .nodes .formed .many)
+
+  pub child-limited : (place child : ℕ) → place < length (childrenIn words count id) → child ≡ getD (childrenIn words count id) place 0 → child < mostNodes
+  child-limited place child h e = omega (arith, id-limited, R.child-low words count id k place h)
+
+-- the test of one of a node's children
+pub term-so : (words : List ℕ) (count id place child kind : ℕ) → child ≡ getD (childrenIn words count id) place 0 → kind ≡ at (nodesIn words count) child .kind → not (eqb kind addKind) ≡ true
+    → at (nodesIn words count) (getD (childrenIn words count id) place 0) .kind ≡ addKind → ⊥
+term-so words count id place child kind is-child is-kind other add =
+    false≢true (sym (ap not (eq-eqb kind addKind (is-kind ∙ ap (λ (i : ℕ). at (nodesIn words count) i .kind) is-child ∙ add))) ∙ other)

@@ -65,7 +65,7 @@ module _ (l : Lent) (terms : List ℕ) where
   finish-stopped zero left at ns number = refl
   finish-stopped (suc right) left at ns number = refl
 
-  resume-stopped : (depth : ℕ) (rights lefts : List ℕ) (at : ℕ) (ns : List Node) (number : ℕ) → resume depth l terms rights lefts at (stopped ns number) ≡ stopped ns number
+  pub resume-stopped : (depth : ℕ) (rights lefts : List ℕ) (at : ℕ) (ns : List Node) (number : ℕ) → resume depth l terms rights lefts at (stopped ns number) ≡ stopped ns number
   resume-stopped zero rights lefts at ns number = refl
   resume-stopped (suc depth) rights lefts at ns number =
       ap (resume depth l terms rights lefts (at + getD rights depth 0)) (finish-stopped (getD rights depth 0) (getD lefts depth 0) at ns number)

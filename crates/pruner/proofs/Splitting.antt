@@ -20,7 +20,7 @@ use Rattle.pruner.proofs.Resuming.{finish, resume, reached, Agree, reac
 
 -- ---- sums of parts
 module _ (l : Lent) (ns : List Node) (terms : List ℕ) (at n : ℕ) (i : Inside terms at n) where
-  sum-of-one-part : n ≡ 1 → sumOfKept l ns (part terms at n) ≡ built ns (getD terms at 0)
+  pub sum-of-one-part : n ≡ 1 → sumOfKept l ns (part terms at n) ≡ built ns (getD terms at 0)
   sum-of-one-part one =
       ap (λ (m : ℕ). sumOfKept l ns (part terms at m)) one
       ∙ ap (λ (ts : List ℕ). sumOfKept l ns (take 1 ts)) (drop-cons terms at 0 (omega (arith, i .long, i .fits)))
@@ -32,6 +32,17 @@ module _ (l : Lent) (ns : List Node) (terms : List ℕ) (at n : ℕ) (i : Inside
       let long = part-length terms at n i in
       ap₂ (λ (us vs : List ℕ). then (sumOfKept l ns us) (λ ms x. then (sumOfKept l ms vs) (λ os y. internAdd l os x y))) (left-part terms at n i) (right-part terms at n i)
       ∙ sym (sum-of-halves l ns (part terms at n) (omega arith) (omega (arith, i .fits)))
+
+pub sum-of-two-parts : (l : Lent) (ns : List Node) (terms : List ℕ) (at n : ℕ) → Inside terms at n → n ≡ 2
+    → sumOfKept l ns (part terms at n) ≡ internAdd l ns (getD terms at 0) (getD terms (at + 1) 0)
+sum-of-two-parts l ns terms at n i two =
+    ap (λ (m : ℕ). sumOfKept l ns (part terms at m)) two
+    ∙ sym (sum-of-half-parts l ns terms at 2 (within at 2 (omega arith)) (omega arith))
+    ∙ ap (λ (m : Built). then m (λ ms x. then (sumOfKept l ms (part terms (at + 1) 1)) (λ os y. internAdd l os x y))) (sum-of-one-part l ns terms at 1 (within at 1 (omega arith)) refl)
+    ∙ ap (λ (m : Built). then m (λ os y. internAdd l os (getD terms at 0) y)) (sum-of-one-part l ns terms (at + 1) 1 (within (at + 1) 1 (omega arith)) refl)
+  where
+    within : (from m : ℕ) → from + m ≤ at + n → Inside terms from m
+    within from m less = record { long = i .long; fits = omega (arith, i .fits) }
 
 -- ---- places below a depth
 -- what is put at a depth changes nothing below
@@ -91,13 +102,6 @@ module _ (l : Lent) (plain : Built) (terms : List ℕ) (end : ℕ) (long : lengt
     inside : Inside terms at rest
     inside = record { long = long; fits = omega (arith, before-end) }
 
-    -- one term is its own sum
-    pub resumes-term : rest ≡ 1 → resume depth l terms rights lefts (at + 1) (built ns (getD terms at 0)) ≡ plain
-    resumes-term one =
-        ap (resume depth l terms rights lefts (at + 1)) (sym (sum-of-one-part l ns terms at rest inside one))
-        ∙ ap (λ (n : ℕ). resume depth l terms rights lefts (at + n) (sumOfKept l ns (part terms at rest))) (sym one)
-        ∙ u .resumes
-
     module _ (more : 1 < rest) where
       abbrev right : ℕ
       right = rest - rest / 2
@@ -140,24 +144,31 @@ module _ (l : Lent) (plain : Built) (terms : List ℕ) (end : ℕ) (long : lengt
             ∙ u .resumes;
       }
 
-  -- to one term
-  pub splits : {rights : List ℕ} {depth rest : ℕ} {rights′ : List ℕ} {to : ℕ} → Splits rights depth rest rights′ to → Sum rights depth rest → Sum rights′ to 1
-  splits {rights} {depth} {rest} (whole one) u = let same : rest ≡ 1 = omega (arith, u .some) in subst (Sum rights depth) same u
-  splits {rights} {depth} {rest} (halved more room s) u = splits s (halve rights depth rest u more)
+  -- to one or two terms
+  pub splits : {rights : List ℕ} {depth rest : ℕ} {rights′ : List ℕ} {to rest′ : ℕ} → Splits rights depth rest rights′ to rest′ → Sum rights depth rest → Sum rights′ to rest′
+  splits (whole few) u = u
+  splits {rights} {depth} {rest} (halved more room s) u = splits s (halve rights depth rest u (omega arith))
+
+pub split-few : {rights : List ℕ} {depth rest : ℕ} {rights′ : List ℕ} {to rest′ : ℕ} → Splits rights depth rest rights′ to rest′ → rest′ ≤ 2
+split-few (whole few) = few
+split-few (halved more room s) = split-few s
 
 -- ---- the loop of `split`: how the rest is split from its depth on is how all is
 pub record Splitting (rights : List ℕ) (depth n : ℕ) (rights′ : List ℕ) (rest to : ℕ) : Type 0 where
   pub few : Few to rest
   pub long : length rights′ ≡ mostPending
-  pub goes : (rights″ : List ℕ) (end : ℕ) → Splits rights′ to rest rights″ end → Splits rights depth n rights″ end
+  pub goes : (rights″ : List ℕ) (end left : ℕ) → Splits rights′ to rest rights″ end left → Splits rights depth n rights″ end left
 
-module _ (rights : List ℕ) (depth n : ℕ) (rights′ : List ℕ) (rest to : ℕ) (s : Splitting rights depth n rights′ rest to) (more : 1 < rest) where
+module _ (rights : List ℕ) (depth n : ℕ) (rights′ : List ℕ) (rest to : ℕ) (s : Splitting rights depth n rights′ rest to) (more : 2 < rest) where
+  halves-fit : (to < mostPending) × Few (suc to) (rest / 2) × Few (suc to) (rest - rest / 2)
+  halves-fit = halves-few to rest (s .few) (omega arith)
+
   pub place-free : to < mostPending
-  place-free = halves-few to rest (s .few) more .0
+  place-free = halves-fit .0
 
   pub halves : Splitting rights depth n (set rights′ to (rest - rest / 2)) (rest / 2) (to + 1)
   halves = rw (add-one to) record {
-    few = halves-few to rest (s .few) more .1;
+    few = halves-fit .1;
     long = length-set rights′ to (rest - rest / 2) ∙ s .long;
-    goes = λ rights″ end h. s .goes rights″ end (halved more (omega (arith, s .long, place-free)) h);
+    goes = λ rights″ end left h. s .goes rights″ end left (halved more (omega (arith, s .long, place-free)) h);
   }

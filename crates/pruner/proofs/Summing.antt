@@ -1,9 +1,9 @@
--- The sum of no terms, and the loop of `sum`.
+-- The sums of no, one and two terms, and the loop of `sum`.
 use Prim.Native.Nat.{ℕ, suc, _+_, _-_, _<_, _≤_}
 use mathlib.Core.Path.{_≡_, refl, sym, ap, _∙_, subst}
 use mathlib.Core.List.{List, [], _∷_}
-use lib.ListN.{length, getD, set, drop, length-set}
-use lib.Seq.{getD-set-same, getD-take, getD-drop}
+use lib.ListN.{length, getD, set, length-set}
+use lib.Seq.{getD-set-same}
 use native.Mathlib.Omega.{arith}
 use borrow.Author.Count.{below-more}
 use Rattle.definitions.specs.Limits.{mostTerms}
@@ -13,18 +13,19 @@ use Rattle.definitions.specs.Intern.{Lent, built, then}
 use Rattle.definitions.specs.Patterns.{internAdd}
 use Rattle.definitions.specs.Prune.{sumOfKept}
 use Rattle.arena.specs.declared.DagArena.{DagArena}
+use Rattle.arena.specs.Layout.{mostNodes}
 use Rattle.store.specs.declared.Built.{Built}
 use Rattle.store.specs.declared.Answer.{Answer}
 use Rattle.store.specs.declared.Answer.the-variants.{Id, Refused}
 use Rattle.store.specs.View.{nodesIn, lent, Sound, Kept, Builds}
 use Rattle.store.specs.Number.{numberOf, BuildsNumber}
 use Rattle.store.proofs.Keeping.{kept-refl, kept-trans}
-use Rattle.store.proofs.Decoding.{number-stays}
-use Rattle.pruner.specs.Sums.{mostPending, part, Inside, Summable, Zero, Sums, SumsNumber, Splits, Summed, Joined, Joins}
-use Rattle.pruner.proofs.Parts.{part-length}
+use Rattle.store.proofs.Decoding.{is-id, number-stays, refusal-stays}
+use Rattle.pruner.specs.Sums.{mostPending, part, Inside, Summable, Zero, Sums, AddsNumber, SumsNumber, Splits, Summed, Joined, Joins}
+use Rattle.pruner.proofs.Parts.{part-length, term-below, part-below}
 use Rattle.pruner.proofs.Halving.{sum-of-none}
-use Rattle.pruner.proofs.Resuming.{finish, resume, reached, reached-same, resume-same, finish-waiting, Goes, Waiting, joined-shallow, joined-resumes, joined-waits}
-use Rattle.pruner.proofs.Splitting.{agree-set, Sizes, sizes-put, Unfinished, before-end, resumes-term, splits}
+use Rattle.pruner.proofs.Resuming.{finish, resume, reached, reached-same, resume-same, finish-waiting, resume-stopped, Goes, Waiting, joined-shallow, joined-resumes, joined-waits}
+use Rattle.pruner.proofs.Splitting.{sum-of-one-part, sum-of-two-parts, agree-set, Sizes, sizes-put, Unfinished, before-end, splits, split-few}
 use Rattle.pruner.proofs.Joining.{lent-same}
 
 -- ---- no terms
@@ -38,6 +39,40 @@ sums-none words slots s ts e words′ slots′ r =
     let l = lent words slots in
     let ns = nodesIn words (s .count) in
     subst (λ (p : I.Built). Builds words slots s p words′ slots′ r) (sym (ap (sumOfKept l ns) (empty ts e) ∙ sum-of-none l ns))
+
+-- ---- one or two terms
+module _ (words slots : List ℕ) (s : DagArena) (terms : List ℕ) (from n : ℕ) (some : 1 ≤ n) (inside : Inside terms from n) (sm : Summable words slots s (part terms from n)) where
+  abbrev first : ℕ
+  first = getD terms from 0
+
+  abbrev second : ℕ
+  second = getD terms (from + 1) 0
+
+  pub first-low : first < s .count
+  first-low = term-below terms from n inside (s .count) (sm .below) from (omega arith) (omega arith)
+
+  pub sums-one : n ≡ 1 → SumsNumber words slots s (part terms from n) words slots first s
+  sums-one one = record {
+    answer = Id first;
+    is = refl;
+    builds = record {
+      answer = sym (sum-of-one-part (lent words slots) (nodesIn words (s .count)) terms from n inside one);
+      kept = kept-refl words slots s (sm .sound);
+      low = first-low;
+    };
+  }
+
+  module _ (few : n ≤ 2) (more : n ≡ 1 → ⊥) where
+    two : n ≡ 2
+    two = omega arith
+
+    pub addable : (first < s .count) × (second < s .count) × Sound words slots s
+    addable = (first-low, term-below terms from n inside (s .count) (sm .below) (from + 1) (omega arith) (omega (arith, two)), sm .sound)
+
+    pub sums-two : (words′ slots′ : List ℕ) (number : ℕ) (t : DagArena) → AddsNumber words slots s first second words′ slots′ number t
+        → SumsNumber words slots s (part terms from n) words′ slots′ number t
+    sums-two words′ slots′ number t =
+        subst (λ (p : I.Built). BuildsNumber words slots s p words′ slots′ number t) (sym (sum-of-two-parts (lent words slots) (nodesIn words (s .count)) terms from n inside two))
 
 -- ---- a second half comes next: its first half's sum takes its size's place
 module _ (l : Lent) (plain : I.Built) (terms : List ℕ) (end : ℕ) (rights lefts : List ℕ) (depth : ℕ) (sizes : Sizes rights depth) (long : length lefts ≡ mostPending) (place : ℕ) (inside : place < depth) (at : ℕ) (ends : reached depth rights at ≡ end) (ns : List Node) (number : ℕ) (w : Waiting rights depth place (built ns number)) (resumes : resume (suc place) l terms rights lefts at (built ns number) ≡ plain) where
@@ -128,81 +163,112 @@ module _ (words slots : List ℕ) (s : DagArena) (terms : List ℕ) (from n : �
     };
   }
 
-  module _ (words′ slots′ : List ℕ) (t : DagArena) (rights₀ lefts : List ℕ) (depth₀ at rest : ℕ) (i : Summing words slots s terms from n words′ slots′ t rights₀ lefts depth₀ at rest) (rights : List ℕ) (depth : ℕ) (sp : Splits rights₀ depth₀ rest rights depth) where
-    abbrev ns : List Node
-    ns = nodesIn words′ (t .count)
+  -- a turn: the terms that are left are split
+  module _ (words′ slots′ : List ℕ) (t : DagArena) (rights₀ lefts : List ℕ) (depth₀ at rest₀ : ℕ) (i : Summing words slots s terms from n words′ slots′ t rights₀ lefts depth₀ at rest₀) (rights : List ℕ) (depth rest : ℕ) (sp : Splits rights₀ depth₀ rest₀ rights depth rest) where
+    abbrev first-sum : Lent → I.Built
+    first-sum k = sumOfKept k (nodesIn words′ (t .count)) (part terms at rest)
 
-    split : Unfinished l plain terms (from + n) ns (t .count) rights lefts depth at 1
-    split = splits l plain terms (from + n) (inside .long) (inside .fits) ns (t .count) lefts at sp (i .unfinished)
+    split : Unfinished l plain terms (from + n) (nodesIn words′ (t .count)) (t .count) rights lefts depth at rest
+    split = splits l plain terms (from + n) (inside .long) (inside .fits) (nodesIn words′ (t .count)) (t .count) lefts at sp (i .unfinished)
 
-    pub term-before : at + 1 ≤ from + n
-    term-before = before-end l plain terms (from + n) (inside .long) (inside .fits) ns (t .count) lefts at rights depth 1 split
+    pub before : (1 ≤ rest) × (at + rest ≤ from + n)
+    before = (split .some, before-end l plain terms (from + n) (inside .long) (inside .fits) (nodesIn words′ (t .count)) (t .count) lefts at rights depth rest split)
 
-    pub term-inside : at < mostTerms
-    term-inside = omega (arith, term-before, inside .fits)
+    pub place-inside : at + rest ≤ mostTerms
+    place-inside = omega (arith, before .1, inside .fits)
 
-    term-is : getD (part terms from n) (at - from) 0 ≡ getD terms at 0
-    term-is =
-        let place : from + (at - from) ≡ at = omega (arith, i .after) in
-        getD-take n (drop from terms) (at - from) 0 (omega (arith, term-before, i .after))
-        ∙ getD-drop from terms (at - from) 0
-        ∙ ap (λ (m : ℕ). getD terms m 0) place
+    pub summable : (1 ≤ rest) × (rest ≤ 2) × Inside terms at rest × Summable words′ slots′ t (part terms at rest)
+    summable =
+        let within : Inside terms at rest = record { long = inside .long; fits = place-inside } in (
+          before .0,
+          split-few sp,
+          within,
+          record {
+            sound = i .kept .whole;
+            few = omega (arith, part-length terms at rest within, place-inside);
+            below = part-below terms from n inside (s .count) (sm .below) at rest (i .after) (before .1) (t .count) (i .kept .count);
+          },
+        )
 
-    term-low : getD terms at 0 < t .count
-    term-low =
-        let long = part-length terms from n inside in
-        let low = sm .below (at - from) (omega (arith, term-before, i .after)) in
-        omega (arith, term-is, i .kept .count)
+    -- the first of them are summed
+    module _ (words₁ slots₁ : List ℕ) (number : ℕ) (v : DagArena) (b : SumsNumber words′ slots′ t (part terms at rest) words₁ slots₁ number v) where
+      resumes-sum : (m : I.Built) → m ≡ first-sum (lent words′ slots′) → resume depth l terms rights lefts (at + rest) m ≡ plain
+      resumes-sum m e =
+          ap (resume depth l terms rights lefts (at + rest)) (e ∙ ap first-sum (lent-same words slots s words′ slots′ t (i .kept)))
+          ∙ split .resumes
 
-    pub joinable : (depth ≤ mostPending) × (length rights ≡ mostPending) × (length lefts ≡ mostPending) × Summed rights lefts depth (t .count) × (getD terms at 0 < t .count) × Sound words′ slots′ t
-    joinable = (split .sizes .shallow, split .sizes .long, i .long, split .summed, term-low, i .kept .whole)
+      kept₁ : Kept words slots s words₁ slots₁ v
+      kept₁ = kept-trans words slots s words′ slots′ t words₁ slots₁ v (i .kept) (b .builds .kept)
 
-    module _ (words″ slots″ : List ℕ) (u : DagArena) (lefts′ : List ℕ) (to : ℕ) (j : Joins words′ slots′ t rights lefts depth (getD terms at 0) words″ slots″ u lefts′ to) where
-      kept″ : Kept words slots s words″ slots″ u
-      kept″ = kept-trans words slots s words′ slots′ t words″ slots″ u (i .kept) (j .builds .builds .kept)
+      pub stops : mostNodes ≤ number → SumsNumber words slots s (part terms from n) words₁ slots₁ number v
+      stops past = refusal-stays words′ slots′ t _ words slots s _ words₁ slots₁ v number b past
+          (λ k h. record {
+            answer = sym (resume-stopped l terms depth rights lefts (at + rest) _ k) ∙ resumes-sum _ (h .answer);
+            kept = kept₁;
+            low = tt;
+          })
 
-      joined : Joined l rights lefts depth (built ns (getD terms at 0)) to (j .plain)
-      joined = subst (λ (k : Lent). Joined k rights lefts depth (built ns (getD terms at 0)) to (j .plain)) (lent-same words slots s words′ slots′ t (i .kept)) (j .joined)
+      -- their sum is an id
+      module _ (below : number < mostNodes) where
+        abbrev ns : List Node
+        ns = nodesIn words₁ (v .count)
 
-      resumes : resume to l terms rights lefts (at + 1) (j .plain) ≡ plain
-      resumes = joined-resumes l terms rights lefts joined (at + 1) ∙ resumes-term l plain terms (from + n) (inside .long) (inside .fits) ns (t .count) lefts at rights depth 1 split refl
+        summed : Summed rights lefts depth (v .count)
+        summed place less none = omega (arith, split .summed place less none, b .builds .kept .count)
 
-      pub shallow : to ≤ mostPending
-      shallow = omega (arith, joined-shallow l terms rights lefts joined, split .sizes .shallow)
+        id-is : Builds words′ slots′ t (first-sum (lent words′ slots′)) words₁ slots₁ (record { answer = Id number; arena = v })
+        id-is = is-id words′ slots′ t _ words₁ slots₁ v number b below
 
-      pub ends : to ≡ 0 → SumsNumber words slots s (part terms from n) words″ slots″ (getD lefts′ 0 0) u
-      ends none = subst (λ (number : ℕ). SumsNumber words slots s (part terms from n) words″ slots″ number u) (sym number-is)
-          (number-stays words′ slots′ t _ words slots s _ words″ slots″ u (j .number) (j .builds)
-          (λ answer h. record { answer = h .answer ∙ plain-is; kept = kept″; low = h .low }))
-        where
-          number-is : getD lefts′ 0 0 ≡ j .number
-          number-is =
-              let first : to - 1 ≡ 0 = omega arith in
-              ap (λ (a : List ℕ). getD a 0 0) (j .put ∙ ap (λ (place : ℕ). set lefts place (j .number)) first)
-              ∙ getD-set-same lefts 0 (j .number) 0 (omega (arith, i .long))
+        pub joinable : (depth ≤ mostPending) × (length rights ≡ mostPending) × (length lefts ≡ mostPending) × Summed rights lefts depth (v .count) × (number < v .count) × Sound words₁ slots₁ v
+        joinable = (split .sizes .shallow, split .sizes .long, i .long, summed, id-is .low, b .builds .kept .whole)
 
-          plain-is : j .plain ≡ plain
-          plain-is = subst (λ (d : ℕ). resume d l terms rights lefts (at + 1) (j .plain) ≡ plain) none resumes
+        -- and is joined
+        module _ (words″ slots″ : List ℕ) (u : DagArena) (lefts′ : List ℕ) (to : ℕ) (j : Joins words₁ slots₁ v rights lefts depth number words″ slots″ u lefts′ to) where
+          kept″ : Kept words slots s words″ slots″ u
+          kept″ = kept-trans words slots s words₁ slots₁ v words″ slots″ u kept₁ (j .builds .builds .kept)
 
-      pub goes-on : (to ≡ 0 → ⊥) → Summing words slots s terms from n words″ slots″ u (set rights (to - 1) 0) lefts′ to (at + 1) (getD rights (to - 1) 0)
-      goes-on more = record {
-        kept = kept″;
-        after = omega (arith, i .after);
-        long = ap length (j .put) ∙ length-set lefts (to - 1) (j .number) ∙ i .long;
-        unfinished = rw (j .put) (next (to - 1) to-is);
-      }
-        where
-          to-is : to ≡ suc (to - 1)
-          to-is = omega arith
+          joined : Joined l rights lefts depth (built ns number) to (j .plain)
+          joined = subst (λ (k : Lent). Joined k rights lefts depth (built ns number) to (j .plain)) (lent-same words slots s words₁ slots₁ v kept₁) (j .joined)
 
-          next : (place : ℕ) → to ≡ suc place → Unfinished l plain terms (from + n) (nodesIn words″ (u .count)) (u .count) (set rights place 0) (set lefts place (j .number)) to (at + 1) (getD rights place 0)
-          next place e =
-              let k = subst (λ (d : ℕ). Joined l rights lefts depth (built ns (getD terms at 0)) d (j .plain)) e joined in
-              let w = joined-waits l terms rights lefts k in
-              let id = goes-id words′ slots′ t (j .plain) words″ slots″ (j .number) u (j .builds) (w .goes) in
-              subst (λ (d : ℕ). Unfinished l plain terms (from + n) (nodesIn words″ (u .count)) (u .count) (set rights place 0) (set lefts place (j .number)) d (at + 1) (getD rights place 0)) (sym e)
-              (next-half l plain terms (from + n) rights lefts depth (split .sizes) (i .long) place (omega (arith, joined-shallow l terms rights lefts k)) (at + 1) (split .ends)
-              (nodesIn words″ (u .count)) (j .number)
-              (subst (Waiting rights depth place) (id .0) w)
-              (subst (λ (b : I.Built). resume (suc place) l terms rights lefts (at + 1) b ≡ plain) (id .0) (subst (λ (d : ℕ). resume d l terms rights lefts (at + 1) (j .plain) ≡ plain) e resumes))
-              (t .count) (u .count) (j .builds .builds .kept .count) (split .summed) (id .1))
+          resumes : resume to l terms rights lefts (at + rest) (j .plain) ≡ plain
+          resumes = joined-resumes l terms rights lefts joined (at + rest) ∙ resumes-sum _ (id-is .answer)
+
+          pub shallow : to ≤ mostPending
+          shallow = omega (arith, joined-shallow l terms rights lefts joined, split .sizes .shallow)
+
+          pub ends : to ≡ 0 → SumsNumber words slots s (part terms from n) words″ slots″ (getD lefts′ 0 0) u
+          ends none = subst (λ (number : ℕ). SumsNumber words slots s (part terms from n) words″ slots″ number u) (sym number-is)
+              (number-stays words₁ slots₁ v _ words slots s _ words″ slots″ u (j .number) (j .builds)
+              (λ answer h. record { answer = h .answer ∙ plain-is; kept = kept″; low = h .low }))
+            where
+              number-is : getD lefts′ 0 0 ≡ j .number
+              number-is =
+                  let first : to - 1 ≡ 0 = omega arith in
+                  ap (λ (a : List ℕ). getD a 0 0) (j .put ∙ ap (λ (place : ℕ). set lefts place (j .number)) first)
+                  ∙ getD-set-same lefts 0 (j .number) 0 (omega (arith, i .long))
+
+              plain-is : j .plain ≡ plain
+              plain-is = subst (λ (d : ℕ). resume d l terms rights lefts (at + rest) (j .plain) ≡ plain) none resumes
+
+          pub goes-on : (to ≡ 0 → ⊥) → Summing words slots s terms from n words″ slots″ u (set rights (to - 1) 0) lefts′ to (at + rest) (getD rights (to - 1) 0)
+          goes-on more = record {
+            kept = kept″;
+            after = omega (arith, i .after);
+            long = ap length (j .put) ∙ length-set lefts (to - 1) (j .number) ∙ i .long;
+            unfinished = rw (j .put) (next (to - 1) to-is);
+          }
+            where
+              to-is : to ≡ suc (to - 1)
+              to-is = omega arith
+
+              next : (place : ℕ) → to ≡ suc place → Unfinished l plain terms (from + n) (nodesIn words″ (u .count)) (u .count) (set rights place 0) (set lefts place (j .number)) to (at + rest) (getD rights place 0)
+              next place e =
+                  let k = subst (λ (d : ℕ). Joined l rights lefts depth (built ns number) d (j .plain)) e joined in
+                  let w = joined-waits l terms rights lefts k in
+                  let id = goes-id words₁ slots₁ v (j .plain) words″ slots″ (j .number) u (j .builds) (w .goes) in
+                  subst (λ (d : ℕ). Unfinished l plain terms (from + n) (nodesIn words″ (u .count)) (u .count) (set rights place 0) (set lefts place (j .number)) d (at + rest) (getD rights place 0)) (sym e)
+                  (next-half l plain terms (from + n) rights lefts depth (split .sizes) (i .long) place (omega (arith, joined-shallow l terms rights lefts k)) (at + rest) (split .ends)
+                  (nodesIn words″ (u .count)) (j .number)
+                  (subst (Waiting rights depth place) (id .0) w)
+                  (subst (λ (b : I.Built). resume (suc place) l terms rights lefts (at + rest) b ≡ plain) (id .0) (subst (λ (d : ℕ). resume d l terms rights lefts (at + rest) (j .plain) ≡ plain) e resumes))
+                  (v .count) (u .count) (j .builds .builds .kept .count) summed (id .1))

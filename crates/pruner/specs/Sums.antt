@@ -54,11 +54,11 @@ mostPending = 12
 abbrev pub Few : ℕ → ℕ → Type 0
 Few depth n = n ≤ 2 ^ (mostPending - depth)
 
--- the sizes of second halves, after those of `n` terms, of their first half, and so on to one term were put from a depth on; and the depth after them
-pub data Splits : List ℕ → ℕ → ℕ → List ℕ → ℕ → Type 0 where
-  whole : {rights : List ℕ} {depth n : ℕ} → n ≤ 1 → Splits rights depth n rights depth
-  halved : {rights : List ℕ} {depth n : ℕ} {rights′ : List ℕ} {to : ℕ} → 1 < n → depth < length rights
-      → Splits (set rights depth (n - n / 2)) (suc depth) (n / 2) rights′ to → Splits rights depth n rights′ to
+-- the sizes of second halves, after those of `n` terms, of their first half, and so on to one or two terms were put from a depth on; the depth after them, and the number of terms left
+pub data Splits : List ℕ → ℕ → ℕ → List ℕ → ℕ → ℕ → Type 0 where
+  whole : {rights : List ℕ} {depth n : ℕ} → n ≤ 2 → Splits rights depth n rights depth n
+  halved : {rights : List ℕ} {depth n : ℕ} {rights′ : List ℕ} {to rest : ℕ} → 2 < n → depth < length rights
+      → Splits (set rights depth (n - n / 2)) (suc depth) (n / 2) rights′ to rest → Splits rights depth n rights′ to rest
 
 -- the sums of the first halves whose second half is being summed are ids of the store
 abbrev pub Summed : List ℕ → List ℕ → ℕ → ℕ → Type 0

@@ -39,6 +39,11 @@ pub record BeginsWithTerm (words : List ℕ) (count id : ℕ) : Type 0 where
   pub two : length (childrenIn words count id) ≡ 2
   pub term : at (nodesIn words count) (getD (childrenIn words count id) 0 0) .kind ≡ addKind → ⊥
 
+-- An Add's two children of which the last is a term.
+pub record EndsWithTerm (words : List ℕ) (count id : ℕ) : Type 0 where
+  pub two : length (childrenIn words count id) ≡ 2
+  pub term : at (nodesIn words count) (getD (childrenIn words count id) 1 0) .kind ≡ addKind → ⊥
+
 -- How a term put at a place changes the array, and whether it is kept.
 abbrev pub Puts : Bool → ℕ → ℕ → List ℕ → Bool → List ℕ → Type 0
 Puts kept place id array answer array′ = (answer ≡ kept) × (array′ ≡ set array place id)

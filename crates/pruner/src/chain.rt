@@ -9,7 +9,7 @@ ghost use Rattle.definitions.specs.Prune as Prune;
 ghost use Rattle.definitions.specs.Prune.{chain};
 ghost use Rattle.store.specs.View.{nodesIn};
 ghost use Rattle.store.specs.Lookup.{Lookup};
-ghost use Rattle.pruner.specs.Terms.{childrenIn, Readable, Pushes, BeginsWithTerm, Puts, Closes, Flattens};
+ghost use Rattle.pruner.specs.Terms.{childrenIn, Readable, Pushes, BeginsWithTerm, EndsWithTerm, Puts, Closes, Flattens};
 use crate::keeping::keeps;
 use arena::kind::ADD;
 
@@ -40,7 +40,7 @@ fn push_first(
     nodes: &[u64],
     count: u64,
     id: u64,
-    terms: &mut [u64; MOST_TERMS],
+    terms: &mut [u32; MOST_TERMS],
     top: usize,
     free: usize,
 ) -> Waiting
@@ -50,7 +50,7 @@ fn push_first(
     if free <= top {
         return Waiting::Nowhere;
     }
-    terms[top] = store::child(nodes, count, id, 0);
+    terms[top] = store::child(nodes, count, id, 0) as u32;
     Waiting::Before(top + 1)
 }
 
@@ -60,7 +60,7 @@ fn push_siblings(
     nodes: &[u64],
     count: u64,
     id: u64,
-    terms: &mut [u64; MOST_TERMS],
+    terms: &mut [u32; MOST_TERMS],
     top: usize,
     free: usize,
 ) -> Waiting
@@ -77,7 +77,7 @@ fn push_siblings(
         if free <= to {
             return Waiting::Nowhere;
         }
-        terms[to] = store::child(nodes, count, id, place);
+        terms[to] = store::child(nodes, count, id, place) as u32;
         place += 1;
         to += 1;
     }
@@ -95,24 +95,35 @@ fn begins_with_term(nodes: &[u64], count: u64, id: u64) -> bool
     store::kind(nodes, count, store::child(nodes, count, id, 0)) != ADD
 }
 
+// Whether an Add has two children of which the last is a term.
+fn ends_with_term(nodes: &[u64], count: u64, id: u64) -> bool
+    requires { ⌜ (id < count) × Readable (now nodes) count ⌝ }
+    ensures { λ r. ⌜ (r ≡ true → EndsWithTerm (now (nodes .entry)) count id) ⌝ }
+{
+    if store::arity(nodes, count, id) != 2 {
+        return false;
+    }
+    store::kind(nodes, count, store::child(nodes, count, id, 1)) != ADD
+}
+
 // A term put at a place, and whether it is kept: it is put in any case, so that no branch waits for what is kept.
 fn put_term(
     nodes: &[u64],
     count: u64,
     threshold: u64,
-    terms: &mut [u64; MOST_TERMS],
+    terms: &mut [u32; MOST_TERMS],
     place: usize,
     id: u64,
 ) -> bool
     requires { ⌜ Lookup (now nodes) count id × (place < mostTerms) × (length (now terms) ≡ mostTerms) ⌝ }
     ensures { λ r. ⌜ Puts (Prune.keeps (nodesIn (now (nodes .entry)) count) (ofBits binary64 threshold) id) place id (now (terms .entry)) r (now (terms .exit)) ⌝ }
 {
-    terms[place] = id;
+    terms[place] = id as u32;
     keeps(nodes, count, threshold, id)
 }
 
 // The terms kept in the first places and in the last ones, side by side. Where there are none in the first places nothing is moved.
-fn close_up(terms: &mut [u64; MOST_TERMS], found: usize, front: usize, back: usize) -> Flattened
+fn close_up(terms: &mut [u32; MOST_TERMS], found: usize, front: usize, back: usize) -> Flattened
     requires { ⌜ (front + back ≤ mostTerms) × (length (now terms) ≡ mostTerms) ⌝ }
     ensures { λ r. ⌜ Closes found front back (now (terms .entry)) r (now (terms .exit)) ⌝ }
 {
@@ -144,7 +155,7 @@ pub(crate) fn flatten(
     count: u64,
     root: u64,
     threshold: u64,
-    terms: &mut [u64; MOST_TERMS],
+    terms: &mut [u32; MOST_TERMS],
 ) -> Flattened
     requires { ⌜ (root < count) × Readable (now nodes) count × (length (now terms) ≡ mostTerms) ⌝ }
     ensures { λ r. ⌜ Flattens (chain (nodesIn (now (nodes .entry)) count) root) (Prune.keeps (nodesIn (now (nodes .entry)) count) (ofBits binary64 threshold)) r (now (terms .exit)) ⌝ }
@@ -164,19 +175,23 @@ pub(crate) fn flatten(
                 return close_up(terms, found, front, back);
             }
             top -= 1;
-            id = terms[top];
+            id = terms[top] as u64;
+        } else if ends_with_term(nodes, count, id) {
+            if MOST_TERMS - 1 - found + front <= top {
+                return Flattened::TooMany;
+            }
+            let last = store::child(nodes, count, id, 1);
+            if put_term(nodes, count, threshold, terms, MOST_TERMS - 1 - back, last) {
+                back += 1;
+            }
+            found += 1;
+            id = store::child(nodes, count, id, 0);
         } else if top == front && begins_with_term(nodes, count, id) {
             if MOST_TERMS <= found + 1 {
                 return Flattened::TooMany;
             }
-            if put_term(
-                nodes,
-                count,
-                threshold,
-                terms,
-                front,
-                store::child(nodes, count, id, 0),
-            ) {
+            let first = store::child(nodes, count, id, 0);
+            if put_term(nodes, count, threshold, terms, front, first) {
                 front += 1;
             }
             found += 1;

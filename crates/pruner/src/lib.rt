@@ -42,7 +42,7 @@ fn prune_chain(
     requires { ⌜ (root < arena .count) × Sound (now nodes) (now slots) arena ⌝ }
     ensures { λ r. ⌜ PrunesChain (memory (now (nodes .entry)) (now (slots .entry)) arena) root threshold (r .answer) (memory (now (nodes .exit)) (now (slots .exit)) (r .arena)) ⌝ }
 {
-    let mut terms = [0u64; MOST_TERMS];
+    let mut terms = [0u32; MOST_TERMS];
     let count = arena.count;
     match chain::flatten(nodes, count, root, threshold, &mut terms) {
         Flattened::TooMany => Outcome {

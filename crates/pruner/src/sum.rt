@@ -38,9 +38,9 @@ fn zero(nodes: &mut [u64], slots: &mut [u32], arena: DagArena) -> Built
     )
 }
 
-// The sum of two ids, as a number. Sums made one after another have ids one after another, so that a prune done again
+// The sum of two terms, as a number. Sums made one after another have ids one after another, so that a prune done again
 // finds most sums at the id after the last one: it is looked at first.
-fn add(
+fn add_terms(
     nodes: &mut [u64],
     slots: &mut [u32],
     count: &mut u64,
@@ -69,20 +69,73 @@ fn add(
     number
 }
 
-// `n` terms halved, and their first half, and so on to one term: the sizes of the second halves are put from a depth on. The
-// answer is the depth after them.
-fn split(rights: &mut [usize; MOST_PENDING], depth: usize, n: usize) -> usize
-    requires { ⌜ Few depth n × (length (now rights) ≡ mostPending) ⌝ }
-    ensures { λ r. ⌜ Splits (now (rights .entry)) depth n (now (rights .exit)) r ⌝ }
+// The same for sums of halves, of which the second most often is the newest node.
+fn add_sums(
+    nodes: &mut [u64],
+    slots: &mut [u32],
+    count: &mut u64,
+    size: &mut usize,
+    next: &mut u64,
+    left: u64,
+    right: u64,
+) -> u64
+    requires { ⌜ (left < now count) × (right < now count) × Sound (now nodes) (now slots) (arenaOf (now count) (now size)) ⌝ }
+    ensures { λ r. ⌜ AddsNumber (now (nodes .entry)) (now (slots .entry)) (arenaOf (now (count .entry)) (now (size .entry))) left right (now (nodes .exit)) (now (slots .exit)) r (arenaOf (now (count .exit)) (now (size .exit))) ⌝ }
+{
+    let likely = *next;
+    let number = store::intern_over_newest(
+        nodes,
+        slots,
+        count,
+        size,
+        ADD,
+        0,
+        ADD_FLAGS,
+        2,
+        [left, right, 0, 0],
+        likely,
+    );
+    *next = number + 1;
+    number
+}
+
+// `n` terms halved, and their first half, and so on to one or two terms: the sizes of the second halves are put from a depth on,
+// which becomes the depth after them. The answer is the number of terms left.
+fn split(rights: &mut [usize; MOST_PENDING], depth: &mut usize, n: usize) -> usize
+    requires { ⌜ Few (now depth) n × (length (now rights) ≡ mostPending) ⌝ }
+    ensures { λ r. ⌜ Splits (now (rights .entry)) (now (depth .entry)) n (now (rights .exit)) (now (depth .exit)) r ⌝ }
 {
     let mut rest = n;
-    let mut to = depth;
-    while 1 < rest {
+    let mut to = *depth;
+    while 2 < rest {
         rights[to] = rest - rest / 2;
         to += 1;
         rest = rest / 2;
     }
-    to
+    *depth = to;
+    rest
+}
+
+// The sum of one or two terms, `n` from a place on, as a number.
+fn sum_of_few(
+    nodes: &mut [u64],
+    slots: &mut [u32],
+    count: &mut u64,
+    size: &mut usize,
+    next: &mut u64,
+    terms: &[u32; MOST_TERMS],
+    from: usize,
+    n: usize,
+) -> u64
+    requires { ⌜ (1 ≤ n) × (n ≤ 2) × Inside (now terms) from n × Summable (now nodes) (now slots) (arenaOf (now count) (now size)) (part (now terms) from n) ⌝ }
+    ensures { λ r. ⌜ SumsNumber (now (nodes .entry)) (now (slots .entry)) (arenaOf (now (count .entry)) (now (size .entry))) (part (now (terms .entry)) from n) (now (nodes .exit)) (now (slots .exit)) r (arenaOf (now (count .exit)) (now (size .exit))) ⌝ }
+{
+    let first = terms[from] as u64;
+    if n == 1 {
+        return first;
+    }
+    let second = terms[from + 1] as u64;
+    add_terms(nodes, slots, count, size, next, first, second)
 }
 
 // A term added to the sums of the first halves whose second half it ends. The answer is the depth after them, where the
@@ -109,7 +162,7 @@ fn join(
             return from;
         }
         from -= 1;
-        number = add(nodes, slots, count, size, next, lefts[from], number);
+        number = add_sums(nodes, slots, count, size, next, lefts[from], number);
         if REFUSALS <= number {
             lefts[0] = number;
             return 0;
@@ -126,7 +179,7 @@ fn sum(
     slots: &mut [u32],
     count: &mut u64,
     size: &mut usize,
-    terms: &[u64; MOST_TERMS],
+    terms: &[u32; MOST_TERMS],
     from: usize,
     n: usize,
 ) -> u64
@@ -141,7 +194,12 @@ fn sum(
     let mut rest = n;
     let mut at = from;
     loop {
-        depth = split(&mut rights, depth, rest);
+        rest = split(&mut rights, &mut depth, rest);
+        let number = sum_of_few(nodes, slots, count, size, &mut next, terms, at, rest);
+        if REFUSALS <= number {
+            return number;
+        }
+        at += rest;
         depth = join(
             nodes,
             slots,
@@ -151,12 +209,11 @@ fn sum(
             &rights,
             &mut lefts,
             depth,
-            terms[at],
+            number,
         );
         if depth == 0 {
             return lefts[0];
         }
-        at += 1;
         rest = rights[depth - 1];
         rights[depth - 1] = 0;
     }
@@ -167,7 +224,7 @@ pub(crate) fn balanced_add(
     nodes: &mut [u64],
     slots: &mut [u32],
     arena: DagArena,
-    terms: &[u64; MOST_TERMS],
+    terms: &[u32; MOST_TERMS],
     from: usize,
     n: usize,
 ) -> Built

@@ -1,7 +1,11 @@
 // The id of a node, old or new.
 ghost use mathlib.Core.Path.{_≡_};
-ghost use lib.ListN.{take};
-ghost use Rattle.arena.specs.Layout.{arenaOf};
+ghost use mathlib.Core.Bool.{_&&_};
+ghost use Prim.Native.Nat.{_*_, _≤_};
+ghost use lib.ListN.{length, take};
+ghost use lib.Dec.{ltb};
+ghost use Rattle.arena.specs.Layout.{nodeWords, mostChildren, arenaOf};
+ghost use Rattle.arena.specs.Node.{nodeAt, one, newNode};
 ghost use Rattle.arena.specs.Nodes.{WellFormed};
 ghost use Rattle.definitions.specs.Node as N;
 ghost use Rattle.definitions.specs.Intern as I;
@@ -20,7 +24,8 @@ use arena::has_parts;
 use dedup::NO_ROOM;
 use dedup::get_or_insert;
 use dedup::get_or_insert_in_room;
-use dedup::get_or_insert_together;
+use dedup::insert_absent;
+use dedup::insert_over_newest;
 
 // The id of a node by value.
 pub fn intern_node(nodes: &mut [u64], slots: &mut [u32], arena: DagArena, key: DagNode) -> Built
@@ -108,8 +113,8 @@ pub fn intern_number(
     intern_growing(nodes, slots, count, size, key)
 }
 
-// The same by slots looked at together, for nodes that are made one over the other.
-fn intern_together(
+// The same for a node that is most often none of the old ones.
+fn intern_absent(
     nodes: &mut [u64],
     slots: &mut [u32],
     count: &mut u64,
@@ -119,11 +124,49 @@ fn intern_together(
     requires { ⌜ WellFormed (now count) key × Sound (now nodes) (now slots) (arenaOf (now count) (now size)) ⌝ }
     ensures { λ r. ⌜ InternsNumber (now (nodes .entry)) (now (slots .entry)) (arenaOf (now (count .entry)) (now (size .entry))) (plainNode key) (now (nodes .exit)) (now (slots .exit)) r (arenaOf (now (count .exit)) (now (size .exit))) ⌝ }
 {
-    let id = get_or_insert_together(nodes, slots, count, *size, key);
+    let id = insert_absent(nodes, slots, count, *size, key);
     if id != NO_ROOM {
         return id;
     }
     intern_growing(nodes, slots, count, size, key)
+}
+
+// The same for a node that most often stands over the newest one.
+fn intern_over(
+    nodes: &mut [u64],
+    slots: &mut [u32],
+    count: &mut u64,
+    size: &mut usize,
+    key: DagNode,
+) -> u64
+    requires { ⌜ WellFormed (now count) key × Sound (now nodes) (now slots) (arenaOf (now count) (now size)) ⌝ }
+    ensures { λ r. ⌜ InternsNumber (now (nodes .entry)) (now (slots .entry)) (arenaOf (now (count .entry)) (now (size .entry))) (plainNode key) (now (nodes .exit)) (now (slots .exit)) r (arenaOf (now (count .exit)) (now (size .exit))) ⌝ }
+{
+    let id = insert_over_newest(nodes, slots, count, *size, key);
+    if id != NO_ROOM {
+        return id;
+    }
+    intern_growing(nodes, slots, count, size, key)
+}
+
+// Whether a number is the id of a node that is one with a node of these parts.
+fn is_node(
+    nodes: &[u64],
+    count: u64,
+    id: u64,
+    kind: u64,
+    payload: u64,
+    flags: u64,
+    arity: u64,
+    children: &[u64; MOST_CHILDREN],
+) -> bool
+    requires { ⌜ (count * nodeWords ≤ length (now nodes)) × (length (now children) ≡ mostChildren) ⌝ }
+    ensures { λ r. ⌜ r ≡ (ltb id count && one (nodeAt (now (nodes .entry)) id) (newNode kind payload flags arity (now (children .entry)))) ⌝ }
+{
+    if count <= id {
+        return false;
+    }
+    has_parts(nodes, id, kind, payload, flags, arity, children)
 }
 
 // The id of a node with these parts, or a refusal, as one number. An id that may be the node's own is looked at first: if
@@ -143,11 +186,50 @@ pub fn intern_likely(
     requires { ⌜ Fits (now count) kind payload flags arity children × Sound (now nodes) (now slots) (arenaOf (now count) (now size)) ⌝ }
     ensures { λ r. ⌜ BuildsNumber (now (nodes .entry)) (now (slots .entry)) (arenaOf (now (count .entry)) (now (size .entry))) (I.intern (lent (now (nodes .entry)) (now (slots .entry))) (nodesIn (now (nodes .entry)) (now (count .entry))) (N.node kind payload flags (take arity children))) (now (nodes .exit)) (now (slots .exit)) r (arenaOf (now (count .exit)) (now (size .exit))) ⌝ }
 {
-    if likely < *count {
-        if has_parts(nodes, likely, kind, payload, flags, arity, &children) {
-            return likely;
-        }
+    if is_node(
+        nodes,
+        *count,
+        likely,
+        kind,
+        payload,
+        flags,
+        arity,
+        &children,
+    ) {
+        return likely;
     }
     let key = DagNode::new(kind, payload, flags, arity, children);
-    intern_together(nodes, slots, count, size, key)
+    intern_absent(nodes, slots, count, size, key)
+}
+
+// The same for a node that most often stands over the newest one.
+pub fn intern_over_newest(
+    nodes: &mut [u64],
+    slots: &mut [u32],
+    count: &mut u64,
+    size: &mut usize,
+    kind: u64,
+    payload: u64,
+    flags: u64,
+    arity: u64,
+    children: [u64; MOST_CHILDREN],
+    likely: u64,
+) -> u64
+    requires { ⌜ Fits (now count) kind payload flags arity children × Sound (now nodes) (now slots) (arenaOf (now count) (now size)) ⌝ }
+    ensures { λ r. ⌜ BuildsNumber (now (nodes .entry)) (now (slots .entry)) (arenaOf (now (count .entry)) (now (size .entry))) (I.intern (lent (now (nodes .entry)) (now (slots .entry))) (nodesIn (now (nodes .entry)) (now (count .entry))) (N.node kind payload flags (take arity children))) (now (nodes .exit)) (now (slots .exit)) r (arenaOf (now (count .exit)) (now (size .exit))) ⌝ }
+{
+    if is_node(
+        nodes,
+        *count,
+        likely,
+        kind,
+        payload,
+        flags,
+        arity,
+        &children,
+    ) {
+        return likely;
+    }
+    let key = DagNode::new(kind, payload, flags, arity, children);
+    intern_over(nodes, slots, count, size, key)
 }

@@ -6,6 +6,7 @@ pub use interning::intern;
 pub use interning::intern_likely;
 pub use interning::intern_node;
 pub use interning::intern_number;
+pub use interning::intern_over_newest;
 pub use lookup::arity;
 pub use lookup::child;
 pub use lookup::children;

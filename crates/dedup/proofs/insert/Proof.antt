@@ -5,7 +5,6 @@ use native.Mathlib.Omega.{arith}
 use borrow.Author.Needs.{needs}
 use Rattle.arena.specs.Layout.{mostChildren}
 use Rattle.dedup.proofs.FreePlaces.{free-in}
-use Rattle.dedup.proofs.Placing.{room}
 use Rattle.dedup.proofs.Answers.{refuse-count, refuse-words, refuse-slots, added, doubles, added-doubled}
 use Rattle.dedup.proofs.insert.Statement.{statement}
 use Rattle.dedup.proofs.insert.Tie as tie
@@ -70,17 +69,20 @@ returns-4 c = rw (c .refused3 .ensures) (refuse-slots _ _ _ _ _ (c .before .befo
 mul-doubled : tie.Need-mul-doubled
 mul-doubled c = search needs
 
-rehash-requires : tie.Need-rehash-requires
-rehash-requires c κs = (c .before .before .before .before .before .before .before .before .before .pre .nodes .formed, doubles _ _ _ _ _ (c .before .before .before .before .before .before .before .before .before .pre) (c .before .before .before .before .before .before .if1 .left) (c .before .before .before .before .before .if2 .left) (children (c .before .before .before .before .before .before .before .before .before)) (let e = c .before .before .before .before .load-limit .ensures in let l = c .before .before .before .if3 .left in omega arith) (c .before .before .if4 .left))
-
-place-requires : tie.Need-place-requires
-place-requires c κs = (c .before .before .before .before .before .before .before .before .before .before .if1 .left, room _ _ _ _ (c .before .before .before .rehash .ensures .table))
-
 store-node-requires-2 : tie.Need-store-node-requires-2
-store-node-requires-2 c κs = c .before .before .before .before .before .before .before .before .before .before .before .before .before .if2 .left
+store-node-requires-2 c κs = c .before .before .before .before .if2 .left
 
-add-t33 : tie.Need-add-t33
-add-t33 c = search needs
+add-rehash : tie.Need-add-rehash
+add-rehash c = search needs
+
+rehash-requires : tie.Need-rehash-requires
+rehash-requires c κs =
+    let d = c .before .before .before .before .before .before in
+    let s = d .before .before .before .before .before .before .before in
+    rw (c .before .before .before .before .store-node2 .ensures) (doubles _ _ _ _ _ (s .pre) (d .before .before .before .before .if1 .left) (d .before .before .before .if2 .left) (children s) (let e = d .before .before .load-limit .ensures in let l = d .before .if3 .left in omega arith) (d .if4 .left))
+
+add-t30 : tie.Need-add-t30
+add-t30 c = search needs
 
 same-length-3 : tie.Need-same-length-3
 same-length-3 c = search needs
@@ -89,7 +91,10 @@ same-length-4 : tie.Need-same-length-4
 same-length-4 c = search needs
 
 returns-5 : tie.Need-returns-5
-returns-5 c = rw (c .before .before .store-node2 .ensures) (added-doubled _ _ _ _ _ (c .before .before .before .before .before .before .before .before .before .before .before .before .before .before .before .before .before .before .before .before .pre) (c .before .before .before .before .before .before .before .before .before .before .before .before .before .before .before .before .before .if1 .left) (c .before .before .before .before .before .before .before .before .before .before .before .before .before .before .before .before .if2 .left) (children (c .before .before .before .before .before .before .before .before .before .before .before .before .before .before .before .before .before .before .before .before)) (let e = c .before .before .before .before .before .before .before .before .before .before .before .before .before .before .before .load-limit .ensures in let l = c .before .before .before .before .before .before .before .before .before .before .before .before .before .before .if3 .left in omega arith) (c .before .before .before .before .before .before .before .before .before .before .before .before .before .if4 .left) _ _ (c .before .before .before .before .before .before .before .before .before .before .rehash .ensures) (c .before .before .before .before .before .before .place .ensures))
+returns-5 c =
+    let d = c .before .before .before .before .before .before .before .before .before in
+    let s = d .before .before .before .before .before .before .before in
+    rw (c .before .before .before .before .before .before .before .store-node2 .ensures) (added-doubled _ _ _ _ _ (s .pre) (d .before .before .before .before .if1 .left) (d .before .before .before .if2 .left) (children s) (let e = d .before .before .load-limit .ensures in let l = d .before .if3 .left in omega arith) (d .if4 .left) _ (rw (c .before .before .before .before .before .before .before .store-node2 .ensures) at (c .before .before .rehash .ensures)))
 
 pub insert-spec : {M : Type 1} → statement M
 insert-spec =
@@ -114,10 +119,10 @@ insert-spec =
     refused-requires-3
     returns-4
     mul-doubled
-    rehash-requires
-    place-requires
     store-node-requires-2
-    add-t33
+    add-rehash
+    rehash-requires
+    add-t30
     same-length-3
     same-length-4
     returns-5)

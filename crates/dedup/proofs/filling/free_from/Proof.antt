@@ -1,6 +1,6 @@
 -- `dedup::filling::free_from` meets its contract. The invariant: the slots passed are in use. The table has an empty one, so they are fewer than its slots.
 use Prim.Native.Nat.{ℕ, _+_, _%_, _-_, _<_}
-use mathlib.Core.Path.{_≡_, sym, _∙_, ap}
+use mathlib.Core.Path.{_≡_, refl, sym, _∙_, ap}
 use native.Mathlib.Omega.{arith}
 use native.Mathlib.Nat.{mod-lt, mod-eq-of-lt, add-zero}
 use borrow.Author.Needs.{needs}
@@ -21,7 +21,7 @@ loop-holds : tie.Need-loop-holds Inv-loop μ-loop
 loop-holds c =
     let s = c .before in
     let l = s .pre .0 in
-    (sym (rw add-zero (mod-eq-of-lt l)), l, none-passed (s .args .slots .now) (s .args .size) (s .args .home))
+    (sym (rw add-zero (mod-eq-of-lt l)), l, none-passed (s .args .slots .now) (s .args .size) (s .args .home) 0 refl)
 
 mul-if1 : tie.Need-mul-if1 Inv-loop μ-loop
 mul-if1 c = let l = c .before .before .pre .1 .sized in search needs

@@ -1,7 +1,7 @@
 -- `dedup::filling::free_place` meets its contract: the first empty slot of a window that lies in the table, or else the first round it.
 use native.Mathlib.Omega.{arith}
 use borrow.Author.Needs.{needs}
-use Rattle.dedup.proofs.FreePlaces.{home-in, free-onward, free-in-window}
+use Rattle.dedup.proofs.FreePlaces.{none-passed, home-in, free-onward, free-in-window}
 use Rattle.dedup.proofs.filling.free_place.Statement.{statement}
 use Rattle.dedup.proofs.filling.free_place.Tie as tie
 
@@ -18,7 +18,10 @@ add-result : tie.Need-add-result
 add-result c = search needs
 
 returns : tie.Need-returns
-returns c = free-in-window _ _ _ _ (c .before .before .before .modulo-size .ensures) _ (let l = c .before .before .if1 .taken in omega arith) (c .if2 .taken) (c .before .first-empty .ensures)
+returns c =
+    let s = c .before .before .before .before .before in
+    let e = c .before .before .before .modulo-size .ensures in
+    free-in-window _ _ _ _ (omega arith) (none-passed (s .args .slots .now) (s .args .size) (s .args .hash) _ (omega arith)) (let l = c .before .before .if1 .taken in omega arith) _ (c .before .first-empty .ensures) (c .if2 .taken)
 
 free-from-requires : tie.Need-free-from-requires
 free-from-requires c κs = (home-in _ _ _ _ (c .before .modulo-size .ensures) (c .before .before .before .pre), c .before .before .before .pre)

@@ -1,6 +1,6 @@
 -- `dedup::probing::probe` meets its contract. The invariant: the slots passed are in use by other nodes.
 use Prim.Native.Nat.{ℕ, _+_, _%_, _-_, _≤_, _<_}
-use mathlib.Core.Path.{_≡_, sym, _∙_, ap}
+use mathlib.Core.Path.{_≡_, refl, sym, _∙_, ap}
 use native.Mathlib.Omega.{arith}
 use native.Mathlib.Nat.{mod-lt}
 use borrow.Author.Needs.{needs}
@@ -21,7 +21,7 @@ modulo-size-requires : tie.Need-modulo-size-requires Inv-loop μ-loop
 modulo-size-requires c κs = c .before .before .pre .doubled
 
 loop-holds : tie.Need-loop-holds Inv-loop μ-loop
-loop-holds c = let s = c .before .before .before in (omega arith, c .modulo-size .ensures ∙ ap (λ (x : ℕ). x % s .args .size) (let same : s .args .key .hash ≡ s .args .key .hash + 0 = omega arith in same), rw (c .modulo-size .ensures) (mod-lt _ (positive _ (s .pre .doubled))), passed-none _ _ _ _ _)
+loop-holds c = let s = c .before .before .before in (omega arith, c .modulo-size .ensures ∙ ap (λ (x : ℕ). x % s .args .size) (let same : s .args .key .hash ≡ s .args .key .hash + 0 = omega arith in same), rw (c .modulo-size .ensures) (mod-lt _ (positive _ (s .pre .doubled))), passed-none _ _ _ _ _ _ refl)
 
 mul-slot : tie.Need-mul-slot Inv-loop μ-loop
 mul-slot c = let l = c .before .before .before .before .before .pre .sized in search needs

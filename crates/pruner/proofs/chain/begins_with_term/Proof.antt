@@ -1,7 +1,8 @@
 -- `pruner::chain::begins_with_term` meets its contract. Assumes nothing.
+use mathlib.Core.Path.{sym, _∙_}
 use mathlib.Core.Bool.{false≢true}
 use native.Mathlib.Omega.{arith}
-use Rattle.pruner.proofs.Reading.{child-below, begins-so}
+use Rattle.pruner.proofs.Reading.{child-below, term-so}
 use Rattle.pruner.proofs.chain.begins_with_term.Statement.{statement}
 use Rattle.pruner.proofs.chain.begins_with_term.Tie as tie
 
@@ -20,7 +21,7 @@ kind-requires c κs =
     p .1 .lookup _ (omega (arith, c .child .ensures, child-below _ _ (p .1) _ 0 (p .0) (omega (arith, c .before .before .arity .ensures, c .before .if1 .left))))
 
 returns-2 : tie.Need-returns-2
-returns-2 c = begins-so _ _ _ _ _ _ (c .before .before .before .arity .ensures) (c .before .before .if1 .left) (c .before .child .ensures) (c .kind .ensures)
+returns-2 c = λ is. record { two = sym (c .before .before .before .arity .ensures) ∙ c .before .before .if1 .left; term = term-so _ _ _ 0 _ _ (c .before .child .ensures) (c .kind .ensures) is }
 
 pub begins-with-term-spec : {M : Type 1} → statement M
 begins-with-term-spec =

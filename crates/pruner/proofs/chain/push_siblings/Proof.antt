@@ -3,6 +3,7 @@ use Prim.Native.Nat.{_-_}
 use native.Mathlib.Omega.{arith}
 use borrow.Author.Needs.{needs}
 use Rattle.pruner.specs.Terms.{childrenIn}
+use Rattle.pruner.proofs.Reading.{child-limited}
 use Rattle.pruner.proofs.Pushing as Q
 use Rattle.pruner.proofs.Pushing.{Pushing}
 use Rattle.pruner.proofs.chain.push_siblings.Statement.{statement}
@@ -34,6 +35,9 @@ returns-2 c = Q.nowhere _ _ _ _ (c .before .before .before .before .before .befo
 
 child-requires : tie.Need-child-requires Inv-loop μ-loop
 child-requires c κs = (c .before .before .loop .inv .many, c .before .before .before .before .before .before .pre .0)
+
+cast-terms : tie.Need-cast-terms Inv-loop μ-loop
+cast-terms c = omega (arith, child-limited _ _ _ (c .before .before .before .before .before .before .before .pre .0) _ _ (c .before .before .before .loop .inv .many) (c .child .ensures))
 
 mul-terms : tie.Need-mul-terms Inv-loop μ-loop
 mul-terms c = omega (arith, c .before .if2 .left, c .before .before .before .before .before .before .before .pre .3)
@@ -69,6 +73,7 @@ push-siblings-spec =
     loop-holds
     returns-2
     child-requires
+    cast-terms
     mul-terms
     element-write-terms
     add-place

@@ -13,7 +13,7 @@ abbrev μ-loop : tie.MeasureT-loop
 μ-loop rights₀ depth n rest₀ to₀ rights rest to = rest
 
 loop-holds : tie.Need-loop-holds Inv-loop μ-loop
-loop-holds c = record { few = c .pre .0; long = c .pre .1; goes = λ rights″ end h. h }
+loop-holds c = record { few = c .before .pre .0; long = c .before .pre .1; goes = λ rights″ end left h. h }
 
 sub-rights : tie.Need-sub-rights Inv-loop μ-loop
 sub-rights c = omega arith
@@ -34,7 +34,7 @@ loop-again : tie.Need-loop-again Inv-loop μ-loop
 loop-again c = Q.halves _ _ _ _ _ _ (c .before .loop .inv) (c .loop-test .taken)
 
 returns : tie.Need-returns Inv-loop μ-loop
-returns c = c .before .loop .inv .goes _ _ (whole (c .loop-test .left))
+returns c = c .before .loop .inv .goes _ _ _ (whole (c .loop-test .left))
 
 pub split-spec : {M : Type 1} → statement M
 split-spec =

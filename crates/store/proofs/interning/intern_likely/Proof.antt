@@ -2,6 +2,8 @@
 use mathlib.Core.Path.{_≡_, sym, subst, _∙_}
 use lib.ListN.{length}
 use borrow.Author.Needs.{needs}
+use borrow.Author.Tests.{ltb-true}
+use Rattle.definitions.proofs.Deciding.{both}
 use Rattle.arena.specs.Layout.{mostChildren}
 use Rattle.arena.specs.Node.{newNode}
 use Rattle.arena.specs.Nodes.{WellFormed}
@@ -13,8 +15,8 @@ use Rattle.store.proofs.interning.intern_likely.Tie as tie
 four : (s : tie.Start) → length (s .args .t9) ≡ mostChildren
 four s = search needs
 
-has-parts-requires : tie.Need-has-parts-requires
-has-parts-requires c κs = search needs
+is-node-requires : tie.Need-is-node-requires
+is-node-requires c κs = search needs
 
 same-length : tie.Need-same-length
 same-length c = search needs
@@ -22,15 +24,15 @@ same-length c = search needs
 returns : tie.Need-returns
 unfolding newNode
 returns c =
-    let e = c .before .before .before .before .before .before .before .before in
-    rw (← new-plain _ _ _ _ _ _ (e .pre .0))
-    (likely-builds _ _ _ _ (four e) (new-formed _ _ _ _ _ _ (e .pre .0)) (e .pre .1) _ (c .before .before .before .before .if1 .taken) (sym (c .before .has-parts .ensures) ∙ c .if2 .taken))
+    let e = c .before .before .before .before .before .before .before in
+    let test = both _ _ (sym (c .before .is-node .ensures) ∙ c .if1 .taken) in
+    rw (← new-plain _ _ _ _ _ _ (e .pre .0)) (likely-builds _ _ _ _ (four e) (new-formed _ _ _ _ _ _ (e .pre .0)) (e .pre .1) _ (ltb-true _ _ (test .0)) (test .1))
 
 new-requires : tie.Need-new-requires
 new-requires c κs = search needs
 
-intern-together-requires : tie.Need-intern-together-requires
-intern-together-requires c κs = let e = c .before .before .before .before .before .before .before .before .before in (subst (WellFormed _) (sym (c .before .before .before .before .new .ensures)) (new-formed _ _ _ _ _ _ (e .pre .0)), e .pre .1)
+intern-absent-requires : tie.Need-intern-absent-requires
+intern-absent-requires c κs = let e = c .before .before .before .before .before .before .before .before .before .before .before .before in (subst (WellFormed _) (sym (c .before .before .before .before .new .ensures)) (new-formed _ _ _ _ _ _ (e .pre .0)), e .pre .1)
 
 same-length-2 : tie.Need-same-length-2
 same-length-2 c = search needs
@@ -40,18 +42,8 @@ same-length-3 c = search needs
 
 returns-2 : tie.Need-returns-2
 returns-2 c =
-    let e = c .before .before .before .before .before .before .before .before .before .before .before .before .before .before in
-    rw (← new-plain _ _ _ _ _ _ (e .pre .0), ← c .before .before .before .before .before .before .before .before .before .new .ensures) (builds-number _ _ _ _ _ _ _ _ (c .before .before .before .before .intern-together .ensures))
+    let e = c .before .before .before .before .before .before .before .before .before .before .before .before .before .before .before .before .before in
+    rw (← new-plain _ _ _ _ _ _ (e .pre .0), ← c .before .before .before .before .before .before .before .before .before .new .ensures) (builds-number _ _ _ _ _ _ _ _ (c .before .before .before .before .intern-absent .ensures))
 
 pub intern-likely-spec : {M : Type 1} → statement M
-intern-likely-spec =
-    tie.close
-    (tie.spec
-    has-parts-requires
-    same-length
-    returns
-    new-requires
-    intern-together-requires
-    same-length-2
-    same-length-3
-    returns-2)
+intern-likely-spec = tie.close (tie.spec is-node-requires same-length returns new-requires intern-absent-requires same-length-2 same-length-3 returns-2)
