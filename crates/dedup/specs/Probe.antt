@@ -64,7 +64,7 @@ ProbedNear words known slots size key (Here place) = Finds words known slots siz
 ProbedNear words known slots size key (Free place) = Frees words known slots size key place
 ProbedNear words known slots size key Nowhere = Unit {0}
 
--- ---- the first slots, looked at together
+-- ---- slots looked at together
 -- how many slots are compared together
 abbrev pub searchWindow : ℕ
 searchWindow = 4

@@ -32,8 +32,8 @@ use probing::probe_near;
 use probing::slot_id;
 use sizes::load_limit;
 
-// What the calls that need room answer in place of an id: every id is below it.
-pub const NO_ROOM: u64 = MOST_NODES;
+// What the short ways answer in place of an id: every id is below it.
+pub const NO_ID: u64 = MOST_NODES;
 
 // The id of an old node or of a new one, or the number of a refusal.
 pub enum Answer {
@@ -141,7 +141,7 @@ fn has_room(words: usize, count: u64, size: usize) -> bool
     (count as usize) < load_limit(size)
 }
 
-// What a search for a key ended at, answered: the id of an old node, or of a new one where it has room; else NO_ROOM, and
+// What a search for a key ended at, answered: the id of an old node, or of a new one where it has room; else NO_ID, and
 // nothing changes.
 fn answer_in_room(
     nodes: &mut [u64],
@@ -164,13 +164,13 @@ fn answer_in_room(
                 *count = id + 1;
                 return id;
             }
-            NO_ROOM
+            NO_ID
         }
-        Place::Nowhere => NO_ROOM,
+        Place::Nowhere => NO_ID,
     }
 }
 
-// The id of a node, old or new, where a new one has room; else NO_ROOM, and nothing changes.
+// The id of a node, old or new, where a new one has room; else NO_ID, and nothing changes.
 pub fn get_or_insert_in_room(
     nodes: &mut [u64],
     slots: &mut [u32],
@@ -197,9 +197,9 @@ fn is_over_newest(key: DagNode, count: u64) -> bool
     greatest_child(children) + 1 == count
 }
 
-// The id of a node over the newest one, where it has room near its hash; else NO_ROOM, and nothing changes. No node is
-// compared.
-pub fn insert_over_newest(
+// The id of a node over the newest one, where it has room near its hash; for any other node, or without room, NO_ID, and
+// nothing changes. No node is compared.
+pub fn insert_if_over_newest(
     nodes: &mut [u64],
     slots: &mut [u32],
     count: &mut u64,
@@ -210,14 +210,15 @@ pub fn insert_over_newest(
     ensures { λ r. ⌜ InternsInRoom (now (nodes .entry)) (now (slots .entry)) (arenaOf (now (count .entry)) size) key r (now (nodes .exit)) (now (slots .exit)) (now (count .exit)) ⌝ }
 {
     if !is_over_newest(key, *count) {
-        return NO_ROOM;
+        return NO_ID;
     }
     let found = free_near(slots, size, key.hash);
     answer_in_room(nodes, slots, count, size, key, found)
 }
 
-// The id of a node whose hash is none of those near it, where it has room there; else NO_ROOM, and nothing changes.
-pub fn insert_absent(
+// The id of a node that is none of the old ones by the hashes near its own, where it has room there; else NO_ID, and nothing
+// changes.
+pub fn insert_if_absent(
     nodes: &mut [u64],
     slots: &mut [u32],
     count: &mut u64,

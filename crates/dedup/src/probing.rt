@@ -19,7 +19,7 @@ use arena::has_parts;
 // How many slots are compared together, without a branch for each.
 const SEARCH_WINDOW: usize = 4;
 
-// Where a search ends: at a slot that holds the key's node, at an empty one, or after all slots.
+// Where a search ends: at a slot that holds the key's node, at an empty one, or at none.
 pub enum Place {
     Here(usize),
     Free(usize),
@@ -150,7 +150,7 @@ fn any_before(
 }
 
 // The same search as `probe` for a key that is most often none of the nodes, by windows one after another, in a table whose ids
-// are all known. It ends at an empty slot, or nowhere if a hash is the key's or the table's end is near.
+// are all known. It ends at an empty slot, or at none if a hash is the key's or the table's end is near.
 pub(crate) fn probe_near(
     nodes: &[u64],
     slots: &[u32],

@@ -14,7 +14,7 @@ use Rattle.definitions.proofs.Stable.{Lower}
 use Rattle.definitions.proofs.Intern.{lower-up}
 use Rattle.store.specs.View.{nodesIn}
 use Rattle.store.proofs.Viewing.{plain-length}
-use Rattle.pruner.specs.Terms.{childrenIn, Readable, BeginsWithTerm, EndsWithTerm, Pushes, Puts, Closes, Flattens}
+use Rattle.pruner.specs.Terms.{childrenIn, Readable, Pushes, HasTerm, Puts, Closes, Flattens}
 use Rattle.pruner.specs.declared.chain.Waiting.{Waiting}
 use Rattle.pruner.specs.declared.chain.Waiting.the-variants.{Before, Nowhere}
 use Rattle.pruner.specs.declared.chain.Flattened.{Flattened}
@@ -216,8 +216,11 @@ module _ (words : List ℕ) (count root : ℕ) (keep : ℕ → Bool) (r : Readab
     both-are : length children ≡ 2 → (first : ℕ) → first ≡ getD children 0 0 → (last : ℕ) → last ≡ getD children 1 0 → children ≡ first ∷ last ∷ []
     both-are two first opens-with last closes-with = two-are children two ∙ ap₂ (λ (x y : ℕ). x ∷ y ∷ []) (sym opens-with) (sym closes-with)
 
+    is-other : (place : ℕ) → HasTerm words count id place → (child : ℕ) → child ≡ getD children place 0 → at ns child .kind ≡ addKind → ⊥
+    is-other place h child is e = h .term (ap (λ (i : ℕ). at ns i .kind) (sym is) ∙ e)
+
     -- ---- the last of two children is put before the last ones if it is a term
-    module _ (e : EndsWithTerm words count id) (h : top < mostTerms - 1 - found + front) (last : ℕ) (closes-with : last ≡ getD (childrenIn words count id) 1 0) (first : ℕ) (opens-with : first ≡ getD (childrenIn words count id) 0 0) (answer : Bool) (after : List ℕ) (puts : Puts (keep last) (mostTerms - 1 - back) last array answer after) where
+    module _ (e : HasTerm words count id 1) (h : top < mostTerms - 1 - found + front) (last : ℕ) (closes-with : last ≡ getD (childrenIn words count id) 1 0) (first : ℕ) (opens-with : first ≡ getD (childrenIn words count id) 0 0) (answer : Bool) (after : List ℕ) (puts : Puts (keep last) (mostTerms - 1 - back) last array answer after) where
       first-left : ahead after front top first ≡ rest ++ first ∷ []
       first-left = ap (λ (l : List ℕ). drop front l ++ first ∷ []) (before-same last answer after puts top (omega (arith, f .few, f .room, f .ordered)))
 
@@ -231,7 +234,7 @@ module _ (words : List ℕ) (count root : ℕ) (keep : ℕ → Bool) (r : Readab
           answer
           after
           puts
-          (λ add. e .term (ap (λ (i : ℕ). at ns i .kind) (sym closes-with) ∙ add))
+          (is-other 1 e last closes-with)
           (rest ++ first ∷ [])
           (expands ∙ ap (chains ns) family-is)
           back′
@@ -247,7 +250,7 @@ module _ (words : List ℕ) (count root : ℕ) (keep : ℕ → Bool) (r : Readab
       takes-last-less = omega (arith, ap weights first-left, ap weights family-is, weights-append rest children, weights-append (rest ++ first ∷ []) (last ∷ []), weights-append rest (id ∷ []), lighter)
 
     -- ---- where no id waits, the first of two children is put after the first ones if it is a term
-    module _ (alone : top ≡ front) (b : BeginsWithTerm words count id) (h : found + 1 < mostTerms) (first : ℕ) (opens-with : first ≡ getD (childrenIn words count id) 0 0) (second : ℕ) (closes-with : second ≡ getD (childrenIn words count id) 1 0) (answer : Bool) (longer : List ℕ) (puts : Puts (keep first) front first array answer longer) (front′ : ℕ) (counts : Counts answer front front′) where
+    module _ (alone : top ≡ front) (b : HasTerm words count id 0) (h : found + 1 < mostTerms) (first : ℕ) (opens-with : first ≡ getD (childrenIn words count id) 0 0) (second : ℕ) (closes-with : second ≡ getD (childrenIn words count id) 1 0) (answer : Bool) (longer : List ℕ) (puts : Puts (keep first) front first array answer longer) (front′ : ℕ) (counts : Counts answer front front′) where
       are-two : children ≡ first ∷ second ∷ []
       are-two = both-are (b .two) first opens-with second closes-with
 
@@ -261,7 +264,7 @@ module _ (words : List ℕ) (count root : ℕ) (keep : ℕ → Bool) (r : Readab
       one-left = ap (λ (l : List ℕ). l ++ second ∷ []) (none-waits longer front′ (omega (arith, few-still, long-still)))
 
       is-first : chain ns first ≡ first ∷ []
-      is-first = chain-term ns (layered words count r) first (λ e. b .term (ap (λ (i : ℕ). at ns i .kind) (sym opens-with) ∙ e))
+      is-first = chain-term ns (layered words count r) first (is-other 0 b first opens-with)
 
       begins-so : chains ns (ahead array front top id) ≡ first ∷ chains ns (ahead longer front′ front′ second)
       begins-so =

@@ -21,17 +21,17 @@ use Rattle.pruner.specs.Sums.{AddsNumber, Summed, Joined, ended, refused
 pub lent-same : (words slots : List ℕ) (s : DagArena) (words′ slots′ : List ℕ) (t : DagArena) → Kept words slots s words′ slots′ t → lent words′ slots′ ≡ lent words slots
 lent-same words slots s words′ slots′ t k = rw (k .long, k .wide) refl
 
--- between turns: an id is the sum so far, and how it is joined from its depth on is how the term is
-pub record Joining (words slots : List ℕ) (s : DagArena) (rights lefts : List ℕ) (depth term : ℕ) (words′ slots′ : List ℕ) (t : DagArena) (lefts′ : List ℕ) (number from : ℕ) : Type 0 where
+-- between turns: an id is the sum so far, and how it is joined from its depth on is how the first sum is
+pub record Joining (words slots : List ℕ) (s : DagArena) (rights lefts : List ℕ) (depth id : ℕ) (words′ slots′ : List ℕ) (t : DagArena) (lefts′ : List ℕ) (number from : ℕ) : Type 0 where
   pub kept : Kept words slots s words′ slots′ t
   pub low : number < t .count
   pub same : lefts′ ≡ lefts
   pub shorter : from ≤ depth
   pub goes : (to : ℕ) (b : I.Built) → Joined (lent words slots) rights lefts from (built (nodesIn words′ (t .count)) number) to b
-      → Joined (lent words slots) rights lefts depth (built (nodesIn words (s .count)) term) to b
+      → Joined (lent words slots) rights lefts depth (built (nodesIn words (s .count)) id) to b
 
-module _ (words slots : List ℕ) (s : DagArena) (rights lefts : List ℕ) (depth term : ℕ) where
-  pub begins : Sound words slots s → term < s .count → Joining words slots s rights lefts depth term words slots s lefts term depth
+module _ (words slots : List ℕ) (s : DagArena) (rights lefts : List ℕ) (depth id : ℕ) where
+  pub begins : Sound words slots s → id < s .count → Joining words slots s rights lefts depth id words slots s lefts id depth
   begins sound low = record {
     kept = kept-refl words slots s sound;
     low = low;
@@ -40,7 +40,7 @@ module _ (words slots : List ℕ) (s : DagArena) (rights lefts : List ℕ) (dept
     goes = λ to b j. j;
   }
 
-  module _ (words′ slots′ : List ℕ) (t : DagArena) (lefts′ : List ℕ) (number from : ℕ) (i : Joining words slots s rights lefts depth term words′ slots′ t lefts′ number from) where
+  module _ (words′ slots′ : List ℕ) (t : DagArena) (lefts′ : List ℕ) (number from : ℕ) (i : Joining words slots s rights lefts depth id words′ slots′ t lefts′ number from) where
     abbrev l : Lent
     l = lent words slots
 
@@ -48,7 +48,7 @@ module _ (words slots : List ℕ) (s : DagArena) (rights lefts : List ℕ) (dept
     ns = nodesIn words′ (t .count)
 
     -- the sum so far is what is left
-    leaves : (to : ℕ) → Joined l rights lefts from (built ns number) to (built ns number) → Joins words slots s rights lefts depth term words′ slots′ t (set lefts′ (to - 1) number) to
+    leaves : (to : ℕ) → Joined l rights lefts from (built ns number) to (built ns number) → Joins words slots s rights lefts depth id words′ slots′ t (set lefts′ (to - 1) number) to
     leaves to j = record {
       plain = built ns number;
       joined = i .goes to _ j;
@@ -57,14 +57,14 @@ module _ (words slots : List ℕ) (s : DagArena) (rights lefts : List ℕ) (dept
       put = ap (λ (a : List ℕ). set a (to - 1) number) (i .same);
     }
 
-    pub ends : from ≤ 0 → Joins words slots s rights lefts depth term words′ slots′ t (set lefts′ 0 number) 0
+    pub ends : from ≤ 0 → Joins words slots s rights lefts depth id words′ slots′ t (set lefts′ 0 number) 0
     ends none = leaves 0 (let e : 0 ≡ from = omega arith in subst (λ (d : ℕ). Joined l rights lefts d (built ns number) 0 (built ns number)) e ended)
 
     module _ (some : 0 < from) where
       from-is : suc (from - 1) ≡ from
       from-is = omega arith
 
-      pub stays : (getD rights (from - 1) 0 ≡ 0 → ⊥) → Joins words slots s rights lefts depth term words′ slots′ t (set lefts′ (from - 1) number) from
+      pub stays : (getD rights (from - 1) 0 ≡ 0 → ⊥) → Joins words slots s rights lefts depth id words′ slots′ t (set lefts′ (from - 1) number) from
       stays more = leaves from (subst (λ (d : ℕ). Joined l rights lefts d (built ns number) d (built ns number)) from-is (waits (omega arith)))
 
       -- one more sum
@@ -83,7 +83,7 @@ module _ (words slots : List ℕ) (s : DagArena) (rights lefts : List ℕ) (dept
           kept″ answer h = kept-trans words slots s words′ slots′ t words″ slots″ u (i .kept) (h .kept)
 
           joins : (m : I.Built) → m ≡ internAdd (lent words′ slots′) ns (getD lefts′ (from - 1) 0) number → (to : ℕ) (b : I.Built) → Joined l rights lefts (from - 1) m to b
-              → Joined l rights lefts depth (built (nodesIn words (s .count)) term) to b
+              → Joined l rights lefts depth (built (nodesIn words (s .count)) id) to b
           joins m e to b j =
               let is = e ∙ ap (λ (k : Lent). internAdd k ns (getD lefts′ (from - 1) 0) number) (lent-same words slots s words′ slots′ t (i .kept))
               ∙ ap (λ (a : List ℕ). internAdd l ns (getD a (from - 1) 0) number) (i .same) in
@@ -91,7 +91,7 @@ module _ (words slots : List ℕ) (s : DagArena) (rights lefts : List ℕ) (dept
               (subst (λ (d : ℕ). Joined l rights lefts d (built ns number) to b) from-is
               (added none (subst (λ (m : I.Built). Joined l rights lefts (from - 1) m to b) is j)))
 
-          pub stops : mostNodes ≤ number′ → Joins words slots s rights lefts depth term words″ slots″ u (set lefts′ 0 number′) 0
+          pub stops : mostNodes ≤ number′ → Joins words slots s rights lefts depth id words″ slots″ u (set lefts′ 0 number′) 0
           stops past =
               let h = is-refused words′ slots′ t _ words″ slots″ u number′ a past in
               record {
@@ -106,7 +106,7 @@ module _ (words slots : List ℕ) (s : DagArena) (rights lefts : List ℕ) (dept
                 put = ap (λ (a : List ℕ). set a 0 number′) (i .same);
               }
 
-          pub goes-on : number′ < mostNodes → Joining words slots s rights lefts depth term words″ slots″ u lefts′ number′ (from - 1)
+          pub goes-on : number′ < mostNodes → Joining words slots s rights lefts depth id words″ slots″ u lefts′ number′ (from - 1)
           goes-on below =
               let h = is-id words′ slots′ t _ words″ slots″ u number′ a below in
               record {

@@ -43,8 +43,8 @@ module _ (words : List ℕ) (count : ℕ) (r : Readable words count) where
   pub few-children : (i : ℕ) → i < count → length (childrenIn words count i) ≤ mostChildren
   few-children i h = R.few words count i (r .lookup i h)
 
-  pub child-below : (i place : ℕ) → i < count → place < length (childrenIn words count i) → getD (childrenIn words count i) place 0 < count
-  child-below i place h l = omega (arith, R.child-low words count i (r .lookup i h) place l)
+  pub child-below : (i place child : ℕ) → i < count → child ≡ getD (childrenIn words count i) place 0 → place < length (childrenIn words count i) → child < count
+  child-below i place child h e l = omega (arith, R.child-low words count i (r .lookup i h) place l)
 
 -- the store has at most 65,536 nodes, so that 32 bits hold an id and each child of it
 module _ (words : List ℕ) (count id : ℕ) (k : Lookup words count id) where

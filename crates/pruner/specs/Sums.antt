@@ -46,7 +46,7 @@ abbrev pub SumsNumber : List ℕ → List ℕ → DagArena → List ℕ → List
 SumsNumber words slots arena terms = BuildsNumber words slots arena (sumOfKept (lent words slots) (nodesIn words (arena .count)) terms)
 
 -- ---- halvings that are not done, by their depth: the size of the second half, or 0 if it is being summed, and then the sum of the first half
--- how many halvings of at most 4,096 terms are not done at a time, one fewer than what `sumOfKept` allows
+-- at most so many halvings of at most 4,096 terms are not done at a time
 abbrev pub mostPending : ℕ
 mostPending = 12
 
@@ -72,10 +72,10 @@ pub data Joined (l : Lent) (rights lefts : List ℕ) : ℕ → I.Built → ℕ �
   added : {depth : ℕ} {ns : List Node} {id to : ℕ} {b : I.Built} → getD rights depth 0 ≡ 0
       → Joined l rights lefts depth (internAdd l ns (getD lefts depth 0) id) to b → Joined l rights lefts (suc depth) (built ns id) to b
 
--- the same in memory, from a term on: the number that is the sum stands where its second half comes next, or first
-pub record Joins (words slots : List ℕ) (arena : DagArena) (rights lefts : List ℕ) (depth term : ℕ) (words′ slots′ : List ℕ) (arena′ : DagArena) (lefts′ : List ℕ) (to : ℕ) : Type 0 where
+-- the same in memory, from a sum on: the number that is the sum stands where its second half comes next, or first
+pub record Joins (words slots : List ℕ) (arena : DagArena) (rights lefts : List ℕ) (depth id : ℕ) (words′ slots′ : List ℕ) (arena′ : DagArena) (lefts′ : List ℕ) (to : ℕ) : Type 0 where
   pub plain : I.Built
-  pub joined : Joined (lent words slots) rights lefts depth (built (nodesIn words (arena .count)) term) to plain
+  pub joined : Joined (lent words slots) rights lefts depth (built (nodesIn words (arena .count)) id) to plain
   pub number : ℕ
   pub builds : BuildsNumber words slots arena plain words′ slots′ number arena′
   pub put : lefts′ ≡ set lefts (to - 1) number

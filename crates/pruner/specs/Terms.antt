@@ -34,15 +34,10 @@ Pushes children top free array (Before to) array′ =
     (to ≤ free) × (to + 1 ≡ top + length children) × (take to array′ ≡ take top array ++ take (length children - 1) children) × (drop free array′ ≡ drop free array) × (length array′ ≡ mostTerms)
 Pushes children top free array Nowhere array′ = (free + 1 < top + length children) × (length array′ ≡ mostTerms)
 
--- An Add's two children of which the first is a term.
-pub record BeginsWithTerm (words : List ℕ) (count id : ℕ) : Type 0 where
+-- An Add's two children of which the one at a place is a term.
+pub record HasTerm (words : List ℕ) (count id place : ℕ) : Type 0 where
   pub two : length (childrenIn words count id) ≡ 2
-  pub term : at (nodesIn words count) (getD (childrenIn words count id) 0 0) .kind ≡ addKind → ⊥
-
--- An Add's two children of which the last is a term.
-pub record EndsWithTerm (words : List ℕ) (count id : ℕ) : Type 0 where
-  pub two : length (childrenIn words count id) ≡ 2
-  pub term : at (nodesIn words count) (getD (childrenIn words count id) 1 0) .kind ≡ addKind → ⊥
+  pub term : at (nodesIn words count) (getD (childrenIn words count id) place 0) .kind ≡ addKind → ⊥
 
 -- How a term put at a place changes the array, and whether it is kept.
 abbrev pub Puts : Bool → ℕ → ℕ → List ℕ → Bool → List ℕ → Type 0

@@ -9,7 +9,7 @@ ghost use Rattle.definitions.specs.Prune as Prune;
 ghost use Rattle.definitions.specs.Prune.{chain};
 ghost use Rattle.store.specs.View.{nodesIn};
 ghost use Rattle.store.specs.Lookup.{Lookup};
-ghost use Rattle.pruner.specs.Terms.{childrenIn, Readable, Pushes, BeginsWithTerm, EndsWithTerm, Puts, Closes, Flattens};
+ghost use Rattle.pruner.specs.Terms.{childrenIn, Readable, Pushes, HasTerm, Puts, Closes, Flattens};
 use crate::keeping::keeps;
 use arena::kind::ADD;
 
@@ -84,26 +84,15 @@ fn push_siblings(
     Waiting::Before(to)
 }
 
-// Whether an Add has two children of which the first is a term.
-fn begins_with_term(nodes: &[u64], count: u64, id: u64) -> bool
-    requires { ⌜ (id < count) × Readable (now nodes) count ⌝ }
-    ensures { λ r. ⌜ (r ≡ true → BeginsWithTerm (now (nodes .entry)) count id) ⌝ }
+// Whether an Add has two children of which the one at a place is a term.
+fn has_term(nodes: &[u64], count: u64, id: u64, place: usize) -> bool
+    requires { ⌜ (id < count) × (place < 2) × Readable (now nodes) count ⌝ }
+    ensures { λ r. ⌜ (r ≡ true → HasTerm (now (nodes .entry)) count id place) ⌝ }
 {
     if store::arity(nodes, count, id) != 2 {
         return false;
     }
-    store::kind(nodes, count, store::child(nodes, count, id, 0)) != ADD
-}
-
-// Whether an Add has two children of which the last is a term.
-fn ends_with_term(nodes: &[u64], count: u64, id: u64) -> bool
-    requires { ⌜ (id < count) × Readable (now nodes) count ⌝ }
-    ensures { λ r. ⌜ (r ≡ true → EndsWithTerm (now (nodes .entry)) count id) ⌝ }
-{
-    if store::arity(nodes, count, id) != 2 {
-        return false;
-    }
-    store::kind(nodes, count, store::child(nodes, count, id, 1)) != ADD
+    store::kind(nodes, count, store::child(nodes, count, id, place)) != ADD
 }
 
 // A term put at a place, and whether it is kept: it is put in any case, so that no branch waits for what is kept.
@@ -176,7 +165,7 @@ pub(crate) fn flatten(
             }
             top -= 1;
             id = terms[top] as u64;
-        } else if ends_with_term(nodes, count, id) {
+        } else if has_term(nodes, count, id, 1) {
             if MOST_TERMS - 1 - found + front <= top {
                 return Flattened::TooMany;
             }
@@ -186,7 +175,7 @@ pub(crate) fn flatten(
             }
             found += 1;
             id = store::child(nodes, count, id, 0);
-        } else if top == front && begins_with_term(nodes, count, id) {
+        } else if top == front && has_term(nodes, count, id, 0) {
             if MOST_TERMS <= found + 1 {
                 return Flattened::TooMany;
             }

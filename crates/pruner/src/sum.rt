@@ -15,7 +15,7 @@ use store::Built;
 use store::REFUSALS;
 use store::answer_in;
 
-// How many halvings of at most 4,096 terms are not done at a time.
+// At most so many halvings of at most 4,096 terms are not done at a time.
 const MOST_PENDING: usize = 12;
 
 // The flags that `add` gives.
@@ -138,7 +138,7 @@ fn sum_of_few(
     add_terms(nodes, slots, count, size, next, first, second)
 }
 
-// A term added to the sums of the first halves whose second half it ends. The answer is the depth after them, where the
+// A sum added to the sums of the first halves whose second half it ends. The answer is the depth after them, where the
 // number is put: as the sum of a first half, or at depth 0 as that of all or as a refusal.
 fn join(
     nodes: &mut [u64],
@@ -149,12 +149,12 @@ fn join(
     rights: &[usize; MOST_PENDING],
     lefts: &mut [u64; MOST_PENDING],
     depth: usize,
-    term: u64,
+    id: u64,
 ) -> usize
-    requires { ⌜ (depth ≤ mostPending) × (length (now rights) ≡ mostPending) × (length (now lefts) ≡ mostPending) × Summed (now rights) (now lefts) depth (now count) × (term < now count) × Sound (now nodes) (now slots) (arenaOf (now count) (now size)) ⌝ }
-    ensures { λ r. ⌜ Joins (now (nodes .entry)) (now (slots .entry)) (arenaOf (now (count .entry)) (now (size .entry))) (now (rights .entry)) (now (lefts .entry)) depth term (now (nodes .exit)) (now (slots .exit)) (arenaOf (now (count .exit)) (now (size .exit))) (now (lefts .exit)) r ⌝ }
+    requires { ⌜ (depth ≤ mostPending) × (length (now rights) ≡ mostPending) × (length (now lefts) ≡ mostPending) × Summed (now rights) (now lefts) depth (now count) × (id < now count) × Sound (now nodes) (now slots) (arenaOf (now count) (now size)) ⌝ }
+    ensures { λ r. ⌜ Joins (now (nodes .entry)) (now (slots .entry)) (arenaOf (now (count .entry)) (now (size .entry))) (now (rights .entry)) (now (lefts .entry)) depth id (now (nodes .exit)) (now (slots .exit)) (arenaOf (now (count .exit)) (now (size .exit))) (now (lefts .exit)) r ⌝ }
 {
-    let mut number = term;
+    let mut number = id;
     let mut from = depth;
     while 0 < from {
         if rights[from - 1] != 0 {

@@ -21,11 +21,11 @@ use arena::DagArena;
 use arena::DagNode;
 use arena::MOST_CHILDREN;
 use arena::has_parts;
-use dedup::NO_ROOM;
+use dedup::NO_ID;
 use dedup::get_or_insert;
 use dedup::get_or_insert_in_room;
-use dedup::insert_absent;
-use dedup::insert_over_newest;
+use dedup::insert_if_absent;
+use dedup::insert_if_over_newest;
 
 // The id of a node by value.
 pub fn intern_node(nodes: &mut [u64], slots: &mut [u32], arena: DagArena, key: DagNode) -> Built
@@ -107,14 +107,14 @@ pub fn intern_number(
     ensures { λ r. ⌜ InternsNumber (now (nodes .entry)) (now (slots .entry)) (arenaOf (now (count .entry)) (now (size .entry))) (plainNode key) (now (nodes .exit)) (now (slots .exit)) r (arenaOf (now (count .exit)) (now (size .exit))) ⌝ }
 {
     let id = get_or_insert_in_room(nodes, slots, count, *size, key);
-    if id != NO_ROOM {
+    if id != NO_ID {
         return id;
     }
     intern_growing(nodes, slots, count, size, key)
 }
 
-// The same for a node that is most often none of the old ones.
-fn intern_absent(
+// The same for a node that is most often none of the old ones. Where one near it may be it, the general call says so.
+fn intern_absent_first(
     nodes: &mut [u64],
     slots: &mut [u32],
     count: &mut u64,
@@ -124,15 +124,15 @@ fn intern_absent(
     requires { ⌜ WellFormed (now count) key × Sound (now nodes) (now slots) (arenaOf (now count) (now size)) ⌝ }
     ensures { λ r. ⌜ InternsNumber (now (nodes .entry)) (now (slots .entry)) (arenaOf (now (count .entry)) (now (size .entry))) (plainNode key) (now (nodes .exit)) (now (slots .exit)) r (arenaOf (now (count .exit)) (now (size .exit))) ⌝ }
 {
-    let id = insert_absent(nodes, slots, count, *size, key);
-    if id != NO_ROOM {
+    let id = insert_if_absent(nodes, slots, count, *size, key);
+    if id != NO_ID {
         return id;
     }
     intern_growing(nodes, slots, count, size, key)
 }
 
-// The same for a node that most often stands over the newest one.
-fn intern_over(
+// The same for a node that most often stands over the newest one. Any other takes the general call.
+fn intern_over_newest_first(
     nodes: &mut [u64],
     slots: &mut [u32],
     count: &mut u64,
@@ -142,8 +142,8 @@ fn intern_over(
     requires { ⌜ WellFormed (now count) key × Sound (now nodes) (now slots) (arenaOf (now count) (now size)) ⌝ }
     ensures { λ r. ⌜ InternsNumber (now (nodes .entry)) (now (slots .entry)) (arenaOf (now (count .entry)) (now (size .entry))) (plainNode key) (now (nodes .exit)) (now (slots .exit)) r (arenaOf (now (count .exit)) (now (size .exit))) ⌝ }
 {
-    let id = insert_over_newest(nodes, slots, count, *size, key);
-    if id != NO_ROOM {
+    let id = insert_if_over_newest(nodes, slots, count, *size, key);
+    if id != NO_ID {
         return id;
     }
     intern_growing(nodes, slots, count, size, key)
@@ -199,10 +199,10 @@ pub fn intern_likely(
         return likely;
     }
     let key = DagNode::new(kind, payload, flags, arity, children);
-    intern_absent(nodes, slots, count, size, key)
+    intern_absent_first(nodes, slots, count, size, key)
 }
 
-// The same for a node that most often stands over the newest one.
+// The same for a node that, if it is not at that id, most often stands over the newest one.
 pub fn intern_over_newest(
     nodes: &mut [u64],
     slots: &mut [u32],
@@ -231,5 +231,5 @@ pub fn intern_over_newest(
         return likely;
     }
     let key = DagNode::new(kind, payload, flags, arity, children);
-    intern_over(nodes, slots, count, size, key)
+    intern_over_newest_first(nodes, slots, count, size, key)
 }

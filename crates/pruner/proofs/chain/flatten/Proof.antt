@@ -91,11 +91,11 @@ loop-again c =
     let readable = loop .before .before .pre .1 in
     Q.finds _ _ _ _ readable _ _ _ _ _ _ (loop .loop .inv) _ _ (put .put-term .ensures) (λ e. term .if1 .taken (term .before .kind .ensures ∙ e)) _ (⊎-elim (λ w. inl (w .0 .taken, w .1)) (λ w. inr (w .0 .left, w .1)) (joined .if2 .came)) (c .before .if3 .left)
 
-ends-with-term-requires : tie.Need-ends-with-term-requires Inv-loop μ-loop
-ends-with-term-requires c κs =
+has-term-requires : tie.Need-has-term-requires Inv-loop μ-loop
+has-term-requires c κs =
     let loop = c .before .before in
     let readable = loop .before .before .pre .1 in
-    (Q.id-below _ _ _ _ readable _ _ _ _ _ _ (loop .loop .inv), readable)
+    (Q.id-below _ _ _ _ readable _ _ _ _ _ _ (loop .loop .inv), omega arith, readable)
 
 sub-if5 : tie.Need-sub-if5 Inv-loop μ-loop
 sub-if5 c = omega arith
@@ -112,14 +112,14 @@ returns-2 c =
     let add = ends .before in
     let loop = add .before .before in
     let readable = loop .before .before .pre .1 in
-    Q.exceeds-two _ _ _ _ readable _ _ _ _ _ _ (loop .loop .inv) (sym (add .before .kind .ensures) ∙ add .if1 .left) ((ends .ends-with-term .ensures (c .before .if4 .taken)) .two) (c .if5 .taken)
+    Q.exceeds-two _ _ _ _ readable _ _ _ _ _ _ (loop .loop .inv) (sym (add .before .kind .ensures) ∙ add .if1 .left) ((ends .has-term .ensures (c .before .if4 .taken)) .two) (c .if5 .taken)
 
 child-requires : tie.Need-child-requires Inv-loop μ-loop
 child-requires c κs =
     let ends = c .before .before in
     let loop = ends .before .before .before in
     let readable = loop .before .before .pre .1 in
-    (omega (arith, (ends .ends-with-term .ensures (c .before .if4 .taken)) .two), readable .lookup _ (Q.id-below _ _ _ _ readable _ _ _ _ _ _ (loop .loop .inv)))
+    (omega (arith, (ends .has-term .ensures (c .before .if4 .taken)) .two), readable .lookup _ (Q.id-below _ _ _ _ readable _ _ _ _ _ _ (loop .loop .inv)))
 
 sub-put-term-3 : tie.Need-sub-put-term-3 Inv-loop μ-loop
 sub-put-term-3 c = omega arith
@@ -133,7 +133,7 @@ put-term-requires-2 c κs =
     let ends = room .before .before in
     let loop = ends .before .before .before in
     let readable = loop .before .before .pre .1 in
-    (readable .lookup _ (omega (arith, c .before .child .ensures, child-below _ _ readable _ 1 (Q.id-below _ _ _ _ readable _ _ _ _ _ _ (loop .loop .inv)) (omega (arith, (ends .ends-with-term .ensures (room .before .if4 .taken)) .two)))), omega arith, loop .loop .inv .long)
+    (readable .lookup _ (child-below _ _ readable _ _ _ (Q.id-below _ _ _ _ readable _ _ _ _ _ _ (loop .loop .inv)) (c .before .child .ensures) (omega (arith, (ends .has-term .ensures (room .before .if4 .taken)) .two))), omega arith, loop .loop .inv .long)
 
 add-back-2 : tie.Need-add-back-2 Inv-loop μ-loop
 add-back-2 c = let inv = c .before .before .before .before .before .before .before .before .before .loop .inv in omega (arith, inv .few, inv .room, inv .ordered)
@@ -156,7 +156,7 @@ loop-less-2 c =
     let add = ends .before in
     let loop = add .before .before in
     let readable = loop .before .before .pre .1 in
-    Q.takes-last-less _ _ _ _ readable _ _ _ _ _ _ (loop .loop .inv) (sym (add .before .kind .ensures) ∙ add .if1 .left) (ends .ends-with-term .ensures (room .before .if4 .taken)) (room .if5 .left) _ (put .before .before .child .ensures) _ (c .child2 .ensures) _ _ (put .put-term2 .ensures)
+    Q.takes-last-less _ _ _ _ readable _ _ _ _ _ _ (loop .loop .inv) (sym (add .before .kind .ensures) ∙ add .if1 .left) (ends .has-term .ensures (room .before .if4 .taken)) (room .if5 .left) _ (put .before .before .child .ensures) _ (c .child2 .ensures) _ _ (put .put-term2 .ensures)
 
 loop-again-2 : tie.Need-loop-again-2 Inv-loop μ-loop
 loop-again-2 c =
@@ -166,13 +166,13 @@ loop-again-2 c =
     let add = ends .before in
     let loop = add .before .before in
     let readable = loop .before .before .pre .1 in
-    Q.takes-last _ _ _ _ readable _ _ _ _ _ _ (loop .loop .inv) (sym (add .before .kind .ensures) ∙ add .if1 .left) (ends .ends-with-term .ensures (room .before .if4 .taken)) (room .if5 .left) _ (put .before .before .child .ensures) _ (c .child2 .ensures) _ _ (put .put-term2 .ensures) _ (⊎-elim (λ w. inl (w .0 .taken, w .1)) (λ w. inr (w .0 .left, w .1)) (c .before .if6 .came))
+    Q.takes-last _ _ _ _ readable _ _ _ _ _ _ (loop .loop .inv) (sym (add .before .kind .ensures) ∙ add .if1 .left) (ends .has-term .ensures (room .before .if4 .taken)) (room .if5 .left) _ (put .before .before .child .ensures) _ (c .child2 .ensures) _ _ (put .put-term2 .ensures) _ (⊎-elim (λ w. inl (w .0 .taken, w .1)) (λ w. inr (w .0 .left, w .1)) (c .before .if6 .came))
 
-begins-with-term-requires : tie.Need-begins-with-term-requires Inv-loop μ-loop
-begins-with-term-requires c κs =
+has-term-requires-2 : tie.Need-has-term-requires-2 Inv-loop μ-loop
+has-term-requires-2 c κs =
     let loop = c .before .before .before .before .before in
     let readable = loop .before .before .pre .1 in
-    (Q.id-below _ _ _ _ readable _ _ _ _ _ _ (loop .loop .inv), readable)
+    (Q.id-below _ _ _ _ readable _ _ _ _ _ _ (loop .loop .inv), omega arith, readable)
 
 add-if9 : tie.Need-add-if9 Inv-loop μ-loop
 add-if9 c = let inv = c .before .before .before .before .before .before .before .loop .inv in omega (arith, inv .room, inv .ordered)
@@ -183,7 +183,7 @@ returns-3 c =
     let add = begins .before .before .before .before in
     let loop = add .before .before in
     let readable = loop .before .before .pre .1 in
-    Q.exceeds-two _ _ _ _ readable _ _ _ _ _ _ (loop .loop .inv) (sym (add .before .kind .ensures) ∙ add .if1 .left) ((begins .begins-with-term .ensures (c .before .if8 .taken)) .two) (omega (arith, begins .before .if7 .taken, c .if9 .taken))
+    Q.exceeds-two _ _ _ _ readable _ _ _ _ _ _ (loop .loop .inv) (sym (add .before .kind .ensures) ∙ add .if1 .left) ((begins .has-term2 .ensures (c .before .if8 .taken)) .two) (omega (arith, begins .before .if7 .taken, c .if9 .taken))
 
 child-requires-3 : tie.Need-child-requires-3 Inv-loop μ-loop
 child-requires-3 c κs =
@@ -198,7 +198,7 @@ put-term-requires-3 c κs =
     let add = room .before .before .before .before .before .before in
     let loop = add .before .before in
     let readable = loop .before .before .pre .1 in
-    (readable .lookup _ (omega (arith, c .before .child3 .ensures, child-below _ _ readable _ 0 (Q.id-below _ _ _ _ readable _ _ _ _ _ _ (loop .loop .inv)) (Q.has-child _ _ _ _ readable _ _ _ _ _ _ (loop .loop .inv) (sym (add .before .kind .ensures) ∙ add .if1 .left)))), omega (arith, loop .loop .inv .few, room .if9 .left), loop .loop .inv .long)
+    (readable .lookup _ (child-below _ _ readable _ _ _ (Q.id-below _ _ _ _ readable _ _ _ _ _ _ (loop .loop .inv)) (c .before .child3 .ensures) (Q.has-child _ _ _ _ readable _ _ _ _ _ _ (loop .loop .inv) (sym (add .before .kind .ensures) ∙ add .if1 .left))), omega (arith, loop .loop .inv .few, room .if9 .left), loop .loop .inv .long)
 
 add-front : tie.Need-add-front Inv-loop μ-loop
 add-front c =
@@ -215,7 +215,7 @@ child-requires-4 c κs =
     let begins = room .before .before in
     let loop = begins .before .before .before .before .before .before in
     let readable = loop .before .before .pre .1 in
-    (omega (arith, (begins .begins-with-term .ensures (room .before .if8 .taken)) .two), readable .lookup _ (Q.id-below _ _ _ _ readable _ _ _ _ _ _ (loop .loop .inv)))
+    (omega (arith, (begins .has-term2 .ensures (room .before .if8 .taken)) .two), readable .lookup _ (Q.id-below _ _ _ _ readable _ _ _ _ _ _ (loop .loop .inv)))
 
 loop-less-3 : tie.Need-loop-less-3 Inv-loop μ-loop
 loop-less-3 c =
@@ -225,7 +225,7 @@ loop-less-3 c =
     let add = begins .before .before .before .before in
     let loop = add .before .before in
     let readable = loop .before .before .pre .1 in
-    Q.takes-first-less _ _ _ _ readable _ _ _ _ _ _ (loop .loop .inv) (sym (add .before .kind .ensures) ∙ add .if1 .left) (begins .before .if7 .taken) (begins .begins-with-term .ensures (room .before .if8 .taken)) (room .if9 .left) _ (put .before .before .child3 .ensures) _ (c .child4 .ensures) _ _ (put .put-term3 .ensures) _ (⊎-elim (λ w. inl (w .0 .taken, w .1)) (λ w. inr (w .0 .left, w .1)) (c .before .if10 .came))
+    Q.takes-first-less _ _ _ _ readable _ _ _ _ _ _ (loop .loop .inv) (sym (add .before .kind .ensures) ∙ add .if1 .left) (begins .before .if7 .taken) (begins .has-term2 .ensures (room .before .if8 .taken)) (room .if9 .left) _ (put .before .before .child3 .ensures) _ (c .child4 .ensures) _ _ (put .put-term3 .ensures) _ (⊎-elim (λ w. inl (w .0 .taken, w .1)) (λ w. inr (w .0 .left, w .1)) (c .before .if10 .came))
 
 loop-again-3 : tie.Need-loop-again-3 Inv-loop μ-loop
 loop-again-3 c =
@@ -235,7 +235,7 @@ loop-again-3 c =
     let add = begins .before .before .before .before in
     let loop = add .before .before in
     let readable = loop .before .before .pre .1 in
-    Q.takes-first _ _ _ _ readable _ _ _ _ _ _ (loop .loop .inv) (sym (add .before .kind .ensures) ∙ add .if1 .left) (begins .before .if7 .taken) (begins .begins-with-term .ensures (room .before .if8 .taken)) (room .if9 .left) _ (put .before .before .child3 .ensures) _ (c .child4 .ensures) _ _ (put .put-term3 .ensures) _ (⊎-elim (λ w. inl (w .0 .taken, w .1)) (λ w. inr (w .0 .left, w .1)) (c .before .if10 .came))
+    Q.takes-first _ _ _ _ readable _ _ _ _ _ _ (loop .loop .inv) (sym (add .before .kind .ensures) ∙ add .if1 .left) (begins .before .if7 .taken) (begins .has-term2 .ensures (room .before .if8 .taken)) (room .if9 .left) _ (put .before .before .child3 .ensures) _ (c .child4 .ensures) _ _ (put .put-term3 .ensures) _ (⊎-elim (λ w. inl (w .0 .taken, w .1)) (λ w. inr (w .0 .left, w .1)) (c .before .if10 .came))
 
 sub-push-siblings : tie.Need-sub-push-siblings Inv-loop μ-loop
 sub-push-siblings c = omega arith
@@ -324,7 +324,7 @@ flatten-spec =
     cast-id
     loop-less
     loop-again
-    ends-with-term-requires
+    has-term-requires
     sub-if5
     sub-if5-2
     add-if5
@@ -338,7 +338,7 @@ flatten-spec =
     child-requires-2
     loop-less-2
     loop-again-2
-    begins-with-term-requires
+    has-term-requires-2
     add-if9
     returns-3
     child-requires-3

@@ -8,11 +8,11 @@ use Rattle.pruner.proofs.sum.join.Statement.{statement}
 use Rattle.pruner.proofs.sum.join.Tie as tie
 
 abbrev Inv-loop : tie.InvT-loop
-Inv-loop nodes₀ slots₀ count₀ size₀ next₀ rights lefts₀ depth term number₀ from₀ nodes slots count size next lefts number from =
-    Joining nodes₀ slots₀ (arenaOf count₀ size₀) rights lefts₀ depth term nodes slots (arenaOf count size) lefts number from
+Inv-loop nodes₀ slots₀ count₀ size₀ next₀ rights lefts₀ depth id number₀ from₀ nodes slots count size next lefts number from =
+    Joining nodes₀ slots₀ (arenaOf count₀ size₀) rights lefts₀ depth id nodes slots (arenaOf count size) lefts number from
 
 abbrev μ-loop : tie.MeasureT-loop
-μ-loop nodes₀ slots₀ count₀ size₀ next₀ rights lefts₀ depth term number₀ from₀ nodes slots count size next lefts number from = from
+μ-loop nodes₀ slots₀ count₀ size₀ next₀ rights lefts₀ depth id number₀ from₀ nodes slots count size next lefts number from = from
 
 loop-holds : tie.Need-loop-holds Inv-loop μ-loop
 loop-holds c = let p = c .before .before .pre in Q.begins _ _ _ _ _ _ _ (p .5) (p .4)

@@ -31,8 +31,8 @@ returns c =
 new-requires : tie.Need-new-requires
 new-requires c κs = search needs
 
-intern-absent-requires : tie.Need-intern-absent-requires
-intern-absent-requires c κs = let e = c .before .before .before .before .before .before .before .before .before .before .before .before in (subst (WellFormed _) (sym (c .before .before .before .before .new .ensures)) (new-formed _ _ _ _ _ _ (e .pre .0)), e .pre .1)
+intern-absent-first-requires : tie.Need-intern-absent-first-requires
+intern-absent-first-requires c κs = let e = c .before .before .before .before .before .before .before .before .before .before .before .before in (subst (WellFormed _) (sym (c .before .before .before .before .new .ensures)) (new-formed _ _ _ _ _ _ (e .pre .0)), e .pre .1)
 
 same-length-2 : tie.Need-same-length-2
 same-length-2 c = search needs
@@ -43,7 +43,7 @@ same-length-3 c = search needs
 returns-2 : tie.Need-returns-2
 returns-2 c =
     let e = c .before .before .before .before .before .before .before .before .before .before .before .before .before .before .before .before .before in
-    rw (← new-plain _ _ _ _ _ _ (e .pre .0), ← c .before .before .before .before .before .before .before .before .before .new .ensures) (builds-number _ _ _ _ _ _ _ _ (c .before .before .before .before .intern-absent .ensures))
+    rw (← new-plain _ _ _ _ _ _ (e .pre .0), ← c .before .before .before .before .before .before .before .before .before .new .ensures) (builds-number _ _ _ _ _ _ _ _ (c .before .before .before .before .intern-absent-first .ensures))
 
 pub intern-likely-spec : {M : Type 1} → statement M
-intern-likely-spec = tie.close (tie.spec is-node-requires same-length returns new-requires intern-absent-requires same-length-2 same-length-3 returns-2)
+intern-likely-spec = tie.close (tie.spec is-node-requires same-length returns new-requires intern-absent-first-requires same-length-2 same-length-3 returns-2)

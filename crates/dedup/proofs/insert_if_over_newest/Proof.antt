@@ -1,10 +1,10 @@
--- `dedup::insert_over_newest` meets its contract: a node over the newest one is in no slot, so that the first free place ends its search.
+-- `dedup::insert_if_over_newest` meets its contract: a node over the newest one is in no slot, so that the first free place ends its search.
 use borrow.Author.Needs.{needs}
 use borrow.Author.Tests.{not-false}
 use Rattle.dedup.proofs.GreatestChild.{over-newest-near}
 use Rattle.dedup.proofs.InRoom.{no-room}
-use Rattle.dedup.proofs.insert_over_newest.Statement.{statement}
-use Rattle.dedup.proofs.insert_over_newest.Tie as tie
+use Rattle.dedup.proofs.insert_if_over_newest.Statement.{statement}
+use Rattle.dedup.proofs.insert_if_over_newest.Tie as tie
 
 is-over-newest-requires : tie.Need-is-over-newest-requires
 is-over-newest-requires c κs = search needs
@@ -31,8 +31,8 @@ same-length-2 c = search needs
 returns-2 : tie.Need-returns-2
 returns-2 c = search needs
 
-pub insert-over-newest-spec : {M : Type 1} → statement M
-insert-over-newest-spec =
+pub insert-if-over-newest-spec : {M : Type 1} → statement M
+insert-if-over-newest-spec =
     tie.close
     (tie.spec
     is-over-newest-requires
