@@ -123,7 +123,7 @@ fn any_near(nodes: &[u64], slots: &[u32], from: usize, hash: u64, greatest: u64)
 }
 
 // Whether one of so many slots from a place on, or a few past them, may hold the key's node. Most often SEARCH_WINDOW slots
-// are enough, and go without the loop.
+// are enough: they are looked at before it is known that they are.
 fn any_before(
     nodes: &[u64],
     slots: &[u32],
@@ -135,18 +135,17 @@ fn any_before(
     requires { ⌜ NearReady (now nodes) (now slots) home freeWindow greatest × (end ≤ freeWindow) ⌝ }
     ensures { λ r. ⌜ (r ≡ false → NoneNear (now (nodes .entry)) (now (slots .entry)) home hash greatest end) ⌝ }
 {
-    if end <= SEARCH_WINDOW {
-        return any_near(nodes, slots, home, hash, greatest);
+    if any_near(nodes, slots, home, hash, greatest) {
+        return true;
     }
-    let mut met = false;
-    let mut i: usize = 0;
+    let mut i = SEARCH_WINDOW;
     while i < end {
         if any_near(nodes, slots, home + i, hash, greatest) {
-            met = true;
+            return true;
         }
         i += SEARCH_WINDOW;
     }
-    met
+    false
 }
 
 // The same search as `probe` for a key that is most often none of the nodes, by windows one after another, in a table whose ids
