@@ -136,7 +136,7 @@ impl Formula for Settled {
 }
 
 /// One product of two variables for each number below 4,096.
-fn product(store: &mut impl Store, variables: &[u32], number: u32) -> u32 {
+pub fn product(store: &mut impl Store, variables: &[u32], number: u32) -> u32 {
     let (x, y) = (number % VARIABLES, number / VARIABLES % VARIABLES);
     store.mul(variables[x as usize], variables[y as usize])
 }

@@ -1,7 +1,8 @@
 //! Times the port beside the Rust original on the same inputs, in one process, and checks that both give the same answers.
-//! Arguments, if any, choose measurements by their first words.
+//! Arguments, if any, choose measurements by their first words; `comparing SEED COUNT` compares prunes of random sums and times nothing.
 
 mod by_hand;
+mod comparing;
 mod inputs;
 mod ours;
 mod sheets;
@@ -195,6 +196,12 @@ fn auditing(store: &mut Ours, distinct: u32) {
 fn main() {
     let words: Vec<String> = std::env::args().skip(1).collect();
     let chosen = |what: &str| words.is_empty() || words.iter().any(|word| what.starts_with(word.as_str()));
+    if let [first, seed, many] = words.as_slice()
+        && first == "comparing"
+    {
+        let number = |word: &str| word.parse().expect("a number");
+        return comparing::compare(number(seed), number(many));
+    }
     let mut store = Ours::new();
     println!("| what | unit | ours | the Rust (ratio) | over 01's hash (ratio) | without its clock read (ratio) |\n|---|---|---|---|---|---|");
     if chosen("interning") {

@@ -8,6 +8,8 @@ use crate::store::{Node, Store};
 pub const NODE_WORDS: usize = 10;
 const MOST_NODES: usize = 65_536;
 const SLOTS: usize = 131_072;
+/// Over 4,096 terms (01).
+pub const TOO_MANY_TERMS: u64 = 23;
 
 unsafe extern "C" {
     fn curvalique_fresh(nodes: *const u64, words: usize, slots: *mut u32, lent: usize, count: *mut u64, size: *mut usize) -> u64;
@@ -142,6 +144,11 @@ impl Ours {
 
     /// The answer and both counts.
     pub fn prune(&mut self, root: u32, threshold: f64) -> (u32, u64, u64) {
+        self.try_prune(root, threshold).expect("the prune is not refused")
+    }
+
+    /// The answer and both counts, or the number of a refusal.
+    pub fn try_prune(&mut self, root: u32, threshold: f64) -> Result<(u32, u64, u64), u64> {
         let (mut id, mut kept, mut dropped) = (0, 0, 0);
         // SAFETY: as in `build`.
         let refusal = unsafe {
@@ -150,8 +157,7 @@ impl Ours {
                 root, threshold.to_bits(), &mut id, &mut kept, &mut dropped,
             )
         };
-        assert_eq!(refusal, 0);
-        (id as u32, kept, dropped)
+        if refusal == 0 { Ok((id as u32, kept, dropped)) } else { Err(refusal) }
     }
 }
 
