@@ -1,5 +1,5 @@
-//! A prune written by hand over the port's lists, with no bounds checked, nothing passed through memory and the processor's vector
-//! instructions (SSE2) by name: what is left of the time is what 01's hash, its slots that hold ids alone, and its load of the table cost.
+//! A prune written by hand over the port's lists, with nothing that 01 asks for refused, hardly a bound checked, and the processor's vector
+//! instructions (SSE2) by name: what code like the port's takes without proofs.
 
 use std::arch::x86_64::{
     __m128i, _mm_cmpeq_epi32, _mm_loadu_si128, _mm_movemask_epi8, _mm_packs_epi16, _mm_packs_epi32, _mm_setzero_si128,
@@ -128,7 +128,7 @@ impl Lists {
         })
     }
 
-    /// The search where more slots are in use than are compared together.
+    /// The search where more slots are in use than are compared together, or a hash is the sum's.
     ///
     /// # Safety
     /// As for `add_terms`.

@@ -1,5 +1,5 @@
 //! Times the port beside the Rust original on the same inputs, in one process, and checks that both give the same answers.
-//! Arguments, if any, choose measurements by their first words; `comparing SEED COUNT` compares prunes of random sums and times nothing.
+//! Arguments, if any, choose measurements by their first letters; `comparing SEED COUNT` compares prunes of random sums and times nothing.
 
 mod by_hand;
 mod comparing;
@@ -20,6 +20,7 @@ use timing::{ROUNDS, interleaved, median, timed};
 /// Requests for new nodes, so that the store grows from 1,000 to nearly 65,536 nodes.
 const SIZES: [u32; 5] = [1_000, 4_096, 16_384, 30_000, 65_000];
 const TERMS: u32 = 4_096;
+const MEASUREMENTS: [&str; 8] = ["interning", "folding", "settled", "pruning", "sheets", "hand", "hashing", "auditing"];
 
 /// Our time, and the Rust's: as it is, over 01's hash and, where there is a walk, without its clock read.
 fn row(what: &str, unit: &str, ours: f64, theirs: &[f64]) {
@@ -196,12 +197,13 @@ fn auditing(store: &mut Ours, distinct: u32) {
 fn main() {
     let words: Vec<String> = std::env::args().skip(1).collect();
     let chosen = |what: &str| words.is_empty() || words.iter().any(|word| what.starts_with(word.as_str()));
-    if let [first, seed, many] = words.as_slice()
-        && first == "comparing"
-    {
-        let number = |word: &str| word.parse().expect("a number");
-        return comparing::compare(number(seed), number(many));
+    if words.first().is_some_and(|word| word == "comparing") {
+        let numbers: Vec<u64> = words[1..].iter().map(|word| word.parse().expect("comparing SEED COUNT")).collect();
+        let &[seed, many] = numbers.as_slice() else { panic!("comparing SEED COUNT") };
+        assert!(many > 0, "comparing SEED COUNT");
+        return comparing::compare(seed, many);
     }
+    assert!(words.iter().all(|word| MEASUREMENTS.iter().any(|name| name.starts_with(word.as_str()))), "one of {MEASUREMENTS:?}");
     let mut store = Ours::new();
     println!("| what | unit | ours | the Rust (ratio) | over 01's hash (ratio) | without its clock read (ratio) |\n|---|---|---|---|---|---|");
     if chosen("interning") {
