@@ -1,58 +1,82 @@
--- The promise at a list of calls: ((x + 0.25) + 0.5) * 1, simplified, then another call, then pruned at 1.
+-- The promise at a list of calls: a variable by its name in ((flow + 0.25) + 0.5) * 1, simplified, then other calls, then pruned at 1.
 use Prim.Native.Nat.{ℕ}
 use mathlib.Core.Path.{_≡_, refl}
 use mathlib.Core.Bool.{false}
+use mathlib.Core.Option.{some}
 use mathlib.Core.List.{List, [], _∷_, map}
 use lib.Dec.{lit≤, lit<}
-use lib.ListN.{take}
+use lib.ListN.{getD}
 use lib.Ieee.{binary64, ofBits, le, lt, eq, add as addFloat, mul as mulFloat, toBits}
-use Rattle.definitions.specs.Intern.{Lent}
-use Rattle.definitions.specs.Machine.{Call, store, variable, constant, add, mul, simplify, prune, State, empty, call, answers, states, run}
+use Rattle.definitions.specs.Machine.{variable, constant, add, mul, call}
+use Rattle.definitions.specs.Names.{internName, lookupName, sameName}
+use Rattle.definitions.specs.Controller.{LentLists, Controller, emptyController, ControllerCall, building, simplifying, pruning, naming, reading, stored, refused, numbered, controllerCall, controllerAnswers, controllers, takes}
 use Rattle.definitions.specs.Formula.{tree, nil, cons, formula}
 use Rattle.definitions.specs.Exact.{Exact, bound}
-use Rattle.definitions.specs.Promise.{Model, Called, Fresh, History, done, next, Balanced, Promise}
+use Rattle.definitions.specs.Promise.{ControllerModel, ControllerCalled, FreshController, History, done, next, nth, Balanced, Promise}
 use Rattle.definitions.specs.Value.{Reading, valueOf}
 use Rattle.definitions.specs.Moved.{Moved}
-use Rattle.definitions.proofs.Histories.{demand3}
+use Rattle.text_language.specs.Reader.{after}
+use Rattle.definitions.proofs.Histories.{demand3, all-of}
 use Rattle.definitions.proofs.Moved.{dropped-count-bounds}
 
-abbrev lent : Lent
-lent = record { nodes = 512; slots = 1024 }
+abbrev lent : LentLists
+lent = record { store = record { nodes = 512; slots = 1024 }; names = 1 }
 
--- the plain machine is a store of its own
-abbrev plainModel : Lent → Model
-plainModel l = record { Memory = State; Sound = λ s. Unit {0}; view = λ s. s; lent = λ s. l }
+-- the plain machine is a controller of its own
+abbrev plainModel : LentLists → ControllerModel
+plainModel l = record { Memory = Controller; Sound = λ s p. Unit {0}; view = λ s. s; lent = λ s. l }
 
-plain-history : (l : Lent) (s : State) (cs : List Call) → History (plainModel l) s cs (answers l s cs) (states l s cs)
-unfolding answers states
+plain-called : (l : LentLists) (s : Controller) (c : ControllerCall) → ControllerCalled (plainModel l) c s (controllerCall l s c .answer) (controllerCall l s c .left)
+plain-called l s c = record { unsound = λ u. absurd (u (all-of (λ p. Unit {0}) (λ p. tt) (takes c))); answer = λ u. refl; left = λ u. refl; sound = λ u p h. tt; same-lent = refl }
+
+plain-history : (l : LentLists) (s : Controller) (cs : List ControllerCall) → History (plainModel l) s cs (controllerAnswers l s cs) (controllers l s cs)
+unfolding controllerAnswers controllers
 plain-history l s [] = done
-plain-history l s (c ∷ cs) = next (record { unsound = λ u. absurd (u tt); answer = λ u. refl; left = λ u. refl; sound = λ u. tt; same-lent = refl }) (plain-history l (call l s c .left) cs)
+plain-history l s (c ∷ cs) = next (plain-called l s c) (plain-history l (controllerCall l s c .left) cs)
 
-abbrev calls : List Call
+abbrev flow : List ℕ
+flow = 102 ∷ 108 ∷ 111 ∷ 119 ∷ []
+
+abbrev calls : List ControllerCall
 calls =
-    store (variable 7) ∷ store (constant 0x3FD0000000000000) ∷ store (constant 0x3FE0000000000000) ∷ store (add 0 1) ∷ store (add 3 2)
-    ∷ store (constant 0x3FF0000000000000) ∷ store (mul 4 5) ∷ simplify 6 255 100 ∷ store (variable 9) ∷ prune 8 0x3FF0000000000000 ∷ []
+    naming (internName flow) ∷ building (variable 0) ∷ building (constant 0x3FD0000000000000) ∷ building (constant 0x3FE0000000000000) ∷ building (add 0 1)
+    ∷ building (add 3 2) ∷ building (constant 0x3FF0000000000000) ∷ building (mul 4 5) ∷ simplifying 6 255 100 ∷ naming (internName (116 ∷ []))
+    ∷ naming (lookupName flow) ∷ pruning 8 0x3FF0000000000000 ∷ []
 
-kept-promise : Promise lent calls (answers lent empty calls) (map (λ (s : State). s) (states lent empty calls))
+kept-promise : Promise lent calls (controllerAnswers lent emptyController calls) (map (λ (s : Controller). s) (controllers lent emptyController calls))
 kept-promise =
-    demand3 (plainModel lent) empty calls (answers lent empty calls) (states lent empty calls) (record { sound = tt; view = refl }) (plain-history lent empty calls) .0
+    demand3 (plainModel lent) emptyController calls (controllerAnswers lent emptyController calls) (controllers lent emptyController calls)
+    (record { sound = λ p. tt; view = refl }) (plain-history lent emptyController calls) .0
 
-abbrev stateAfter : ℕ → State
-stateAfter n = run lent empty (take n calls)
+abbrev stateAfter : ℕ → Controller
+stateAfter n = getD (emptyController ∷ controllers lent emptyController calls) n emptyController
 
-old-is-exact : Exact (formula (stateAfter 7 .nodes) 6)
-unfolding Exact formula run ofBits bound
+old-is-exact : Exact (formula (stateAfter 8 .nodes) 6)
+unfolding Exact formula controllers ofBits bound
 old-is-exact = (lit≤ tt, tt, ((lit≤ tt, tt, ((lit≤ tt, tt, ((lit≤ tt, tt, tt), ((lit≤ tt, tt, tt), tt))), ((lit≤ tt, tt, tt), tt))), ((lit≤ tt, tt, tt), tt)))
 
--- x + 0.75 is left of it, and pruned at 1 the constant is dropped: the old value is that of x plus 0.75
-pub instance : Balanced (formula (stateAfter 7 .nodes) 6)
-    (tree 2 0 3 (cons (tree 0 7 0 nil) (cons (tree 1 0x3FE8000000000000 0 nil) nil))) (tree 0 7 0 nil) (ofBits binary64 0x3FF0000000000000) 1 1
-unfolding answers states run call addFloat mulFloat le lt eq ofBits formula
+-- flow + 0.75 is left of it, and pruned at 1 the constant is dropped: the old value is that of flow plus 0.75
+pub instance : Balanced (formula (stateAfter 8 .nodes) 6)
+    (tree 2 0 3 (cons (tree 0 0 0 nil) (cons (tree 1 0x3FE8000000000000 0 nil) nil))) (tree 0 0 0 nil) (ofBits binary64 0x3FF0000000000000) 1 1
+unfolding controllerAnswers controllers addFloat mulFloat le lt eq ofBits formula
 instance =
-    kept-promise .balance 7 9 6 255 100 8 9 0x3FF0000000000000 0 1 1 false (prune 8 0x3FF0000000000000) (stateAfter 7) (stateAfter 8) (stateAfter 10) (lit< tt)
+    kept-promise .balance 8 11 6 255 100 8 9 0x3FF0000000000000 0 1 1 false (pruning 8 0x3FF0000000000000) (stateAfter 8) (stateAfter 9) (stateAfter 12) (lit< tt)
     refl refl refl refl refl refl refl refl tt old-is-exact .4
 
 -- one term was dropped at threshold 1: the value moved by less than 1
-pub instance-moved : (r : Reading) → Moved (valueOf r (formula (stateAfter 7 .nodes) 6)) (valueOf r (tree 0 7 0 nil)) (ofBits binary64 0x3FF0000000000000) 1
+pub instance-moved : (r : Reading) → Moved (valueOf r (formula (stateAfter 8 .nodes) 6)) (valueOf r (tree 0 0 0 nil)) (ofBits binary64 0x3FF0000000000000) 1
 unfolding le lt eq ofBits
-instance-moved = dropped-count-bounds (formula (stateAfter 7 .nodes) 6) _ (tree 0 7 0 nil) (ofBits binary64 0x3FF0000000000000) 1 1 tt instance
+instance-moved = dropped-count-bounds (formula (stateAfter 8 .nodes) 6) _ (tree 0 0 0 nil) (ofBits binary64 0x3FF0000000000000) 1 1 tt instance
+
+-- the name still has its number, in a list that had no place for another
+pub instance-named : nth (controllerAnswers lent emptyController calls) 10 ≡ some (numbered 0)
+unfolding controllerAnswers controllers sameName
+instance-named = kept-promise .names-known 10 0 flow (lookupName flow) (stateAfter 10) refl refl refl refl
+
+-- x+2 read, then x+y, for whose name there is no place, and x+ outside the language
+abbrev texts : List ControllerCall
+texts = reading (120 ∷ 43 ∷ 50 ∷ []) ∷ reading (120 ∷ 43 ∷ 121 ∷ []) ∷ reading (120 ∷ 43 ∷ []) ∷ []
+
+pub instance-read : controllerAnswers lent emptyController texts ≡ stored 2 ∷ refused 24 ∷ refused 11 ∷ []
+unfolding controllerAnswers sameName after
+instance-read = refl

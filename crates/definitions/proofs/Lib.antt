@@ -13,7 +13,14 @@ pub mod Floats
 pub mod Calls
 pub mod SimplifyCalls
 pub mod PruneCalls
+pub mod Answers
+pub mod NameLists
+pub mod Going
+pub mod Making
+pub mod Readings
 pub mod Histories
+pub mod Lifting
+pub mod StoreLists
 pub mod Units
 pub mod TableRule
 pub mod NearestTest
@@ -25,6 +32,5 @@ pub mod Instance
 pub mod FractionBits
 pub mod Coefficients
 pub mod OneNumber
-pub mod KnownNames
 pub mod SheetCalls
 pub mod Listing

@@ -4,7 +4,7 @@ use native.Mathlib.Omega.{arith}
 use mathlib.Core.Path.{_≡_, refl, sym, ap, _∙_, subst}
 use mathlib.Core.Bool.{Bool, true, false, _&&_, cond}
 use mathlib.Core.Option.{Option, none, some}
-use mathlib.Core.List.{List, [], _∷_, _++_, append-assoc}
+use mathlib.Core.List.{List, [], _∷_, _++_, append-assoc, map}
 use lib.ListN.{length}
 use lib.Dec.{leb, eqb}
 use Rattle.definitions.specs.Limits.{mostSheetBytes, mostRecords}
@@ -15,7 +15,8 @@ use Rattle.definitions.specs.Sheet.{callOn, operandId, Ran, ran, cut, re
 use Rattle.definitions.specs.SheetCalls.{recordCalls, sheetCalls, Ends, whole, bySheet, byCall, AsCalls}
 use Rattle.definitions.specs.Examples.{sheetBytes}
 use Rattle.definitions.specs.Promise.{Promise}
-use Rattle.definitions.proofs.Histories.{plain-promise}
+use Rattle.definitions.specs.Controller.{LentLists, asked, fromStore, withNames}
+use Rattle.definitions.proofs.StoreLists.{store-promise}
 
 without-calls : (l : Lent) (al : List Answer) (s : State) (o : Option (ℕ × ℕ)) → Ends al o [] → AsCalls l al s [] (ran al o s)
 unfolding answers run
@@ -106,8 +107,9 @@ unfolding sheetCalls
 example-calls = refl
 
 -- The calls of a sheet on the empty state keep the promise, with the sheet's answers.
-pub sheet-promise : (l : Lent) (bs : List ℕ)
-    → Promise l (sheetCalls l empty bs) (sheet l empty bs .answers ++ sheet-as-calls l empty bs .last) (states l empty (sheetCalls l empty bs))
+pub sheet-promise : (l : LentLists) (bs : List ℕ)
+    → let cs = sheetCalls (l .store) empty bs in
+    Promise l (map asked cs) (map fromStore (sheet (l .store) empty bs .answers ++ sheet-as-calls (l .store) empty bs .last)) (map (withNames []) (states (l .store) empty cs))
 sheet-promise l bs =
-    let cs = sheetCalls l empty bs in
-    subst (λ al. Promise l cs al (states l empty cs)) (sheet-as-calls l empty bs .same-answers) (plain-promise l cs)
+    let cs = sheetCalls (l .store) empty bs in
+    subst (λ al. Promise l (map asked cs) (map fromStore al) (map (withNames []) (states (l .store) empty cs))) (sheet-as-calls (l .store) empty bs .same-answers) (store-promise l cs)

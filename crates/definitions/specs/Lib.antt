@@ -15,9 +15,13 @@ pub mod Value
 pub mod Exact
 pub mod ExactExamples
 pub mod Chain
-pub mod Promise
-pub mod Moved
 pub mod Names
+pub mod Lists
+pub mod Making
+pub mod Controller
+pub mod Promise
+pub mod Beside
+pub mod Moved
 pub mod Sheet
 pub mod SheetCalls
 pub mod Listing

@@ -8,23 +8,22 @@ use lib.ListN.{length, getD, take, drop, length-drop}
 use lib.Dec.{leb}
 use native.Mathlib.Omega.{arith}
 use borrow.Author.Tests.{leb-true}
-use Rattle.definitions.specs.Machine.{Call}
-use Rattle.definitions.specs.Sheet.{withRest}
-use Rattle.history.specs.Encoding.{callOfCode, firstCall, Decoded, decoded, withFirst, decodeFrom, decode, unread}
+use Rattle.definitions.specs.Controller.{ControllerCall}
+use Rattle.history.specs.Encoding.{withRest, callOfCode, firstCall, Decoded, decoded, withFirst, decodeFrom, decode, unread}
 
 -- the rest after a call is shorter
-pub shorter : (ws : List ℕ) (c : Call) (r : List ℕ) → firstCall ws ≡ some (c, r) → length r < length ws
+pub shorter : (ws : List ℕ) (c : ControllerCall) (r : List ℕ) → firstCall ws ≡ some (c, r) → length r < length ws
 unfolding firstCall
 shorter ws c r = one (leb 6 (length ws)) refl
   where
     n : ℕ
     n = getD ws 5 0
 
-    three : 6 ≤ length ws → (o : Option Call) → withRest o (drop (6 + n) ws) ≡ some (c, r) → length r < length ws
+    three : 6 ≤ length ws → (o : Option ControllerCall) → withRest o (drop (6 + n) ws) ≡ some (c, r) → length r < length ws
     three h none e = let z : _≡_ {A = ℕ} 0 1 = cc in absurd (omega arith)
     three h (some d) e =
-        let p : _≡_ {A = Call × List ℕ} (d, drop (6 + n) ws) (c, r) = cc in
-        let q : drop (6 + n) ws ≡ r = ap (λ (x : Call × List ℕ). x .1) p in
+        let p : _≡_ {A = ControllerCall × List ℕ} (d, drop (6 + n) ws) (c, r) = cc in
+        let q : drop (6 + n) ws ≡ r = ap (λ (x : ControllerCall × List ℕ). x .1) p in
         subst (λ (x : List ℕ). length x < length ws) q (omega (arith, length-drop (6 + n) ws))
 
     two : 6 ≤ length ws → (b : Bool) → cond b (withRest (callOfCode (getD ws 0 0) (getD ws 1 0) (getD ws 2 0) (getD ws 3 0) (getD ws 4 0) (take n (drop 6 ws))) (drop (6 + n) ws)) none ≡ some (c, r) → length r < length ws
@@ -36,7 +35,7 @@ shorter ws c r = one (leb 6 (length ws)) refl
     one false k e = let z : _≡_ {A = ℕ} 0 1 = cc in absurd (omega arith)
 
 -- what is decoded from the first call, or none, on
-abbrev after : ℕ → List ℕ → Option (Call × List ℕ) → Decoded
+abbrev after : ℕ → List ℕ → Option (ControllerCall × List ℕ) → Decoded
 after f ws o = elim o as (λ x. Decoded) [ none ↦ decoded [] ws | some cr ↦ withFirst (cr .0) (decodeFrom f (cr .1)) ]
 
 -- more fuel than words changes nothing
@@ -45,17 +44,17 @@ unfolding decodeFrom
 enough zero zero ws a b = refl
 enough zero (suc g) ws a b = short (firstCall ws) refl
   where
-    short : (o : Option (Call × List ℕ)) → firstCall ws ≡ o → decoded [] ws ≡ after g ws o
+    short : (o : Option (ControllerCall × List ℕ)) → firstCall ws ≡ o → decoded [] ws ≡ after g ws o
     short none e = refl
     short (some cr) e = absurd (omega (arith, shorter ws (cr .0) (cr .1) e))
 enough (suc f) zero ws a b = short (firstCall ws) refl
   where
-    short : (o : Option (Call × List ℕ)) → firstCall ws ≡ o → after f ws o ≡ decoded [] ws
+    short : (o : Option (ControllerCall × List ℕ)) → firstCall ws ≡ o → after f ws o ≡ decoded [] ws
     short none e = refl
     short (some cr) e = absurd (omega (arith, shorter ws (cr .0) (cr .1) e))
 enough (suc f) (suc g) ws a b = both (firstCall ws) refl (λ r h. enough f g r (omega arith) (omega arith))
   where
-    both : (o : Option (Call × List ℕ)) → firstCall ws ≡ o → ((r : List ℕ) → length r < length ws → decodeFrom f r ≡ decodeFrom g r) → after f ws o ≡ after g ws o
+    both : (o : Option (ControllerCall × List ℕ)) → firstCall ws ≡ o → ((r : List ℕ) → length r < length ws → decodeFrom f r ≡ decodeFrom g r) → after f ws o ≡ after g ws o
     both none e rec = refl
     both (some cr) e rec = ap (withFirst (cr .0)) (rec (cr .1) (shorter ws (cr .0) (cr .1) e))
 
@@ -68,7 +67,7 @@ decoded-none ws e = go (length ws)
     go zero = refl
     go (suc f) = ap (after f ws) e
 
-decoded-some : (ws : List ℕ) (c : Call) (r : List ℕ) → firstCall ws ≡ some (c, r) → decodeFrom (length ws) ws ≡ withFirst c (decodeFrom (length r) r)
+decoded-some : (ws : List ℕ) (c : ControllerCall) (r : List ℕ) → firstCall ws ≡ some (c, r) → decodeFrom (length ws) ws ≡ withFirst c (decodeFrom (length r) r)
 unfolding decodeFrom
 decoded-some ws c r e = go (length ws) (shorter ws c r e)
   where
@@ -85,7 +84,7 @@ module _ (ws : List ℕ) where
   unfolding unread
   unread-none e = ap (λ (d : Decoded). d .unread) (decoded-none ws e)
 
-  module _ (c : Call) (r : List ℕ) where
+  module _ (c : ControllerCall) (r : List ℕ) where
     pub decode-some : firstCall ws ≡ some (c, r) → decode ws ≡ c ∷ decode r
     unfolding decode
     decode-some e = ap (λ (d : Decoded). d .calls) (decoded-some ws c r e)

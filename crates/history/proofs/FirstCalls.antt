@@ -10,10 +10,9 @@ use lib.Dec.{leb}
 use native.Mathlib.Omega.{arith}
 use native.Mathlib.Nat.{add-zero}
 use borrow.Author.Tests.{le-leb, lt-leb, leb-true}
-use Rattle.definitions.specs.Machine as M
+use Rattle.definitions.specs.Controller.{ControllerCall}
 use Rattle.history.specs.declared.finding.Next.the-variants.{Call, Stop}
-use Rattle.definitions.specs.Sheet.{withRest}
-use Rattle.history.specs.Encoding.{headerWords, lastCode, callOfCode, known, firstCall}
+use Rattle.history.specs.Encoding.{withRest, headerWords, lastCode, callOfCode, known, firstCall}
 use Rattle.history.specs.Calling.{callBetween, WholeCall, FindsCall}
 use Rattle.history.proofs.CodeCalls.{known-has, unknown-has-none}
 
@@ -35,7 +34,7 @@ module _ (calls : List ℕ) (at : ℕ) where
   many-is : getD ws 5 0 ≡ many
   many-is = getD-drop at calls 5 0
 
-  abbrev header : Option M.Call
+  abbrev header : Option ControllerCall
   header = callOfCode (getD ws 0 0) (getD ws 1 0) (getD ws 2 0) (getD ws 3 0) (getD ws 4 0) (take (getD ws 5 0) (drop headerWords ws))
 
   abbrev rest : List ℕ

@@ -11,29 +11,38 @@ use Rattle.arena.specs.declared.DagArena.{DagArena}
 use Rattle.definitions.specs.Machine as M
 use Rattle.definitions.specs.Limits.{firstTableSize}
 use Rattle.definitions.specs.Refusals.{noSlotPlace}
-use Rattle.definitions.specs.Promise.{Fresh, Promise}
+use Rattle.definitions.specs.Controller.{ControllerCall, storePart}
+use Rattle.definitions.specs.Promise.{Fresh, FreshController, Promise}
 use Rattle.definitions.proofs.Histories.{demand3}
+use Rattle.definitions.proofs.Lifting.{fresh-beside}
 use Rattle.definitions.proofs.Listing.{last-more}
 use Rattle.store.specs.View.{lent}
-use Rattle.store.specs.Memory.{Memory, memory, model, Leaves, Stays}
+use Rattle.store.specs.Memory.{memory, model, Stays}
 use Rattle.store.proofs.Keeping.{later}
 use Rattle.store.proofs.Staying.{grown-up, least-size}
 use Rattle.builder.specs.declared.opening.FreshStore.{FreshStore}
 use Rattle.builder.specs.declared.opening.FreshStore.the-variants as F
 use Rattle.builder.specs.Opens.{freshAnswer, freshSlots, freshMemory, Opens}
-use Rattle.history.specs.declared.reply.Answered.{Answered}
+use Rattle.names.specs.Sound.{lentEntries}
+use Rattle.names.specs.Memory.{nameMemory, nameModel}
+use Rattle.names.proofs.Modelled.{no-names}
+use Rattle.history.specs.declared.handing.Handed.{Handed}
+use Rattle.history.specs.declared.handing.LastReply.the-variants as Last
 use Rattle.history.specs.declared.reply.Reply.the-variants.{Nothing}
+use Rattle.history.specs.Memory.{Memory, held, freshHeld, lentController, Left, done}
 use Rattle.history.specs.declared.Run.{Run}
-use Rattle.history.specs.declared.Replayed.the-variants.{Done, Refused}
+use Rattle.history.specs.declared.Replayed.{Replayed}
+use Rattle.history.specs.declared.Opening.the-variants.{Opened, Refused}
 use Rattle.history.specs.Encoding.{firstCall, decode, unread, readWords}
-use Rattle.history.specs.Calling.{replyOf, RunsCallAt, WholeCall}
-use Rattle.history.specs.Replaying.{done, Continues, RunsAll, Promised, Replays}
-use Rattle.history.proofs.Turns.{turns-more, history-of, stays-in-turn, last-is}
+use Rattle.history.specs.Calling.{lastReplyOf, RunsCallAt, WholeCall}
+use Rattle.history.specs.Replaying.{after, Continues, RunsAll, Promised, Replays}
+use Rattle.history.proofs.Keeping.{history-of}
+use Rattle.history.proofs.Turns.{turns-more, stays-in-turn, NamesStay, names-in-turn, last-is}
 use Rattle.history.proofs.Decoding.{decode-none, decode-some, unread-none, unread-some, none-in-nothing}
 
 -- the calls before a place were run, so many of them, and with those from there on they are all
-pub record RunTo (m : Memory) (calls : List ℕ) (at : ℕ) (r : Answered) (many : ℕ) (m′ : Memory) : Type 0 where
-  pub before : List M.Call
+pub record RunTo (m : Memory) (calls : List ℕ) (at : ℕ) (r : Handed) (many : ℕ) (m′ : Memory) : Type 0 where
+  pub before : List ControllerCall
   pub split : decode calls ≡ before ++ decode (drop at calls)
   pub left : unread calls ≡ unread (drop at calls)
   pub run : Continues m before r m′
@@ -41,25 +50,25 @@ pub record RunTo (m : Memory) (calls : List ℕ) (at : ℕ) (r : Answered) (many
   pub few : many ≤ at
 
 module _ (m : Memory) (calls : List ℕ) where
-  pub none-run : (r : Answered) → r .reply ≡ Nothing → RunTo m calls 0 r 0 m
+  pub none-run : (r : Handed) → r .reply ≡ Last.Store Nothing → RunTo m calls 0 r 0 m
   none-run r e = record {
     before = [];
     split = refl;
     left = refl;
-    run = record { answers = []; memories = []; leaves = done; last-memory = refl; last-answer = sym (ap replyOf e) };
+    run = record { answers = []; memories = []; left = done; last-memory = refl; last-answer = sym (ap (λ x. lastReplyOf x (r .name)) e) };
     counted = refl;
     few = omega arith;
   }
 
   -- one call more
-  pub one-more : (at end many : ℕ) (r r′ : Answered) (m′ m″ : Memory) → WholeCall calls at end → RunTo m calls at r many m′ → RunsCallAt calls at end m′ r′ m″
+  pub one-more : (at end many : ℕ) (r r′ : Handed) (m′ m″ : Memory) → WholeCall calls at end → RunTo m calls at r many m′ → RunsCallAt calls at end m′ r′ m″
       → RunTo m calls end r′ (many + 1) m″
   one-more at end many r r′ m′ m″ w h f =
       let c = f .ran in
       let between = w .between in
       let is = f .is in
       let same : w .call ≡ c = cc in
-      let first : firstCall (drop at calls) ≡ some (c, drop end calls) = w .first ∙ ap (λ (x : M.Call). some (x, drop end calls)) same in
+      let first : firstCall (drop at calls) ≡ some (c, drop end calls) = w .first ∙ ap (λ (x : ControllerCall). some (x, drop end calls)) same in
       let so-far = h .run in
       let header = w .header in
       let counted = h .counted in
@@ -71,7 +80,7 @@ module _ (m : Memory) (calls : List ℕ) where
         run = record {
           answers = so-far .answers ++ f .answer ∷ [];
           memories = so-far .memories ++ m″ ∷ [];
-          leaves = turns-more (so-far .leaves) (subst (λ x. Leaves c x (f .answer) m″) (sym (so-far .last-memory)) (f .leaves));
+          left = turns-more (so-far .left) (subst (λ x. Left c x (f .answer) m″) (sym (so-far .last-memory)) (f .left));
           last-memory = last-more m (so-far .memories) m″;
           last-answer = last-is (so-far .answers) (f .answer) ∙ sym (f .reply);
         };
@@ -94,23 +103,31 @@ module _ (m : Memory) (calls : List ℕ) where
   pub all-run-at-end : (r : Run) (m′ : Memory) → r .words ≤ length calls → length calls ≤ r .words → RunTo m calls (r .words) (r .last) (r .calls) m′ → RunsAll m calls r m′
   all-run-at-end r m′ k l h = all-run r m′ k (ap firstCall (drop-of-length-le calls l) ∙ none-in-nothing) h
 
+-- what the first call gets is the lent memory without names
+pub from-first : (words slots bytes calls : List ℕ) (h : Handed) (arena : DagArena) (r : Run) (m′ : Memory) → (h .reply ≡ Last.Store Nothing) × (h .arena ≡ arena) × (h .names ≡ 0)
+    → RunsAll (after words slots bytes h) calls r m′ → RunsAll (held (memory words slots arena) (nameMemory bytes 0)) calls r m′
+from-first words slots bytes calls h arena r m′ (e, f, g) k = subst (λ m. RunsAll m calls r m′) (λ i. held (memory words slots (f i)) (nameMemory bytes (g i))) k
+
 -- past the first 64 slots a fresh store leaves all as it was
 fresh-slots-past : (slots : List ℕ) (size : ℕ) → firstTableSize ≤ size → drop size (freshSlots false slots) ≡ drop size slots
 fresh-slots-past slots size h = later (freshSlots false slots) slots firstTableSize size h (drop-at (replicate firstTableSize 0) (drop firstTableSize slots) firstTableSize (length-replicate {A = ℕ} firstTableSize 0))
 
 -- the promise, by demand 3
-pub promised : (words slots : List ℕ) (cs : List M.Call) (r : Answered) (words′ slots′ : List ℕ) → Fresh model (freshMemory words slots)
-    → model .lent (freshMemory words slots) ≡ lent words slots → Continues (freshMemory words slots) cs r (memory words′ slots′ (r .arena)) → Promised words slots cs r words′ slots′
-promised words slots cs r words′ slots′ f e h =
-    let p = demand3 model (freshMemory words slots) cs (h .answers) (h .memories) f (history-of (h .leaves)) in
-    let s : Stays (freshMemory words slots) (memory words′ slots′ (r .arena)) = subst (Stays (freshMemory words slots)) (h .last-memory) (stays-in-turn (h .leaves) (f .sound)) in
+pub promised : (words slots bytes : List ℕ) (cs : List ControllerCall) (r : Handed) (words′ slots′ bytes′ : List ℕ) → Fresh model (freshMemory words slots)
+    → model .lent (freshMemory words slots) ≡ lent words slots → Continues (freshHeld words slots bytes) cs r (after words′ slots′ bytes′ r) → Promised words slots bytes cs r words′ slots′ bytes′
+promised words slots bytes cs r words′ slots′ bytes′ f e h =
+    let fresh = fresh-beside model nameModel (freshMemory words slots) (nameMemory bytes 0) f (no-names bytes) in
+    let p = demand3 lentController (freshHeld words slots bytes) cs (h .answers) (h .memories) fresh (history-of (h .left)) in
+    let s : Stays (freshMemory words slots) (memory words′ slots′ (r .arena)) = subst (λ (m : Memory). Stays (freshMemory words slots) (m .store)) (h .last-memory) (stays-in-turn (h .left) (f .sound)) in
+    let n = subst (λ (m : Memory). NamesStay (nameMemory bytes 0) (m .names)) (h .last-memory) (names-in-turn (h .left) (no-names bytes .sound)) in
     record {
-      fresh = f;
+      fresh = fresh;
       run = h;
-      promise = subst (λ l. Promise l cs (h .answers) (map (model .view) (h .memories))) e (p .0);
+      promise = subst (λ l. Promise (record { store = l; names = lentEntries bytes }) cs (h .answers) (map (lentController .view) (h .memories))) e (p .0);
       sound = p .1;
       words-past = s .words-past;
       slots-past = s .slots-past ∙ fresh-slots-past slots (r .arena .size) (grown-up _ _ _ (s .grown));
+      bytes-past = n .past;
       size = least-size (freshMemory words slots) (memory words′ slots′ (r .arena)) refl s;
     }
 
@@ -122,21 +139,22 @@ bool-clash A e = let z : _≡_ {A = ℕ} 0 1 = cc in absurd (omega arith)
 fresh-clash : (A : Type 0) (arena : DagArena) (number : ℕ) → F.Store arena ≡ F.Refused number → A
 fresh-clash A arena number e = let z : _≡_ {A = ℕ} 0 1 = cc in absurd (omega arith)
 
-pub replays-refused : (words slots calls slots′ : List ℕ) (f : FreshStore) (number : ℕ) → Opens words slots f slots′ → f ≡ F.Refused number → Replays words slots calls (Refused number) words slots′
-replays-refused words slots calls slots′ f number o e = go (M.freshRefused (lent words slots)) refl (o .answer) (o .slots-after)
+pub replays-refused : (words slots bytes calls slots′ : List ℕ) (f : FreshStore) (number : ℕ) (run : Run) → Opens words slots f slots′ → f ≡ F.Refused number
+    → Replays words slots bytes calls (record { opening = Refused number; run = run }) words slots′ bytes
+replays-refused words slots bytes calls slots′ f number run o e = go (M.freshRefused (lent words slots)) refl (o .answer) (o .slots-after)
   where
-    go : (b : Bool) → M.freshRefused (lent words slots) ≡ b → f ≡ freshAnswer b → slots′ ≡ freshSlots b slots → Replays words slots calls (Refused number) words slots′
+    go : (b : Bool) → M.freshRefused (lent words slots) ≡ b → f ≡ freshAnswer b → slots′ ≡ freshSlots b slots → Replays words slots bytes calls (record { opening = Refused number; run = run }) words slots′ bytes
     go true q a s =
         let n : number ≡ noSlotPlace = cc in
-        record { refused = λ _. (ap Refused n, refl, s); promised = λ q′. bool-clash _ (sym q ∙ q′) }
+        record { refused = λ _. (ap Refused n, refl, s, refl); promised = λ q′. bool-clash _ (sym q ∙ q′) }
     go false q a s = fresh-clash _ (record { count = 0; size = firstTableSize }) number (sym a ∙ e)
 
-pub replays-done : (words slots calls slots₁ words′ slots′ : List ℕ) (f : FreshStore) (arena : DagArena) (r : Run)
+pub replays-done : (words slots bytes calls slots₁ words′ slots′ bytes′ : List ℕ) (f : FreshStore) (arena : DagArena) (r : Run)
     → Opens words slots f slots₁ → f ≡ F.Store arena → length slots₁ ≡ length slots
-    → RunsAll (memory words slots₁ arena) calls r (memory words′ slots′ (r .last .arena)) → Replays words slots calls (Done r) words′ slots′
-replays-done words slots calls slots₁ words′ slots′ f arena r o e l h = go (M.freshRefused (lent words slots)) refl (o .answer) (o .slots-after)
+    → RunsAll (held (memory words slots₁ arena) (nameMemory bytes 0)) calls r (after words′ slots′ bytes′ (r .last)) → Replays words slots bytes calls (record { opening = Opened; run = r }) words′ slots′ bytes′
+replays-done words slots bytes calls slots₁ words′ slots′ bytes′ f arena r o e l h = go (M.freshRefused (lent words slots)) refl (o .answer) (o .slots-after)
   where
-    go : (b : Bool) → M.freshRefused (lent words slots) ≡ b → f ≡ freshAnswer b → slots₁ ≡ freshSlots b slots → Replays words slots calls (Done r) words′ slots′
+    go : (b : Bool) → M.freshRefused (lent words slots) ≡ b → f ≡ freshAnswer b → slots₁ ≡ freshSlots b slots → Replays words slots bytes calls (record { opening = Opened; run = r }) words′ slots′ bytes′
     go true q a s = fresh-clash _ arena noSlotPlace (sym e ∙ a)
     go false q a s =
         let n : arena ≡ record { count = 0; size = firstTableSize } = cc in
@@ -146,10 +164,9 @@ replays-done words slots calls slots₁ words′ slots′ f arena r o e l h = go
         record {
           refused = λ q′. bool-clash _ (sym q′ ∙ q);
           promised = λ _. (
-            r,
             refl,
-            promised words slots (decode calls) (r .last) words′ slots′ (subst (Fresh model) at-first (o .fresh arena e)) same
-                (subst (λ m. Continues m (decode calls) (r .last) (memory words′ slots′ (r .last .arena))) at-first (h .continues)),
+            promised words slots bytes (decode calls) (r .last) words′ slots′ bytes′ (subst (Fresh model) at-first (o .fresh arena e)) same
+                (subst (λ m. Continues (held m (nameMemory bytes 0)) (decode calls) (r .last) (after words′ slots′ bytes′ (r .last))) at-first (h .continues)),
             h .counts,
           );
         }

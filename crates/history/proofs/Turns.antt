@@ -1,29 +1,78 @@
--- Calls in turn: they go on by one call more, are a history of demand 3, and leave what each of them does.
-use mathlib.Core.Path.{_≡_, refl, ap}
+-- Calls in turn: they go on by one call more, and leave the store as each of them does.
+use Prim.Native.Nat.{_*_, _≤_}
+use mathlib.Core.Path.{_≡_, refl, sym, ap, _∙_}
 use mathlib.Core.Option.{some}
 use mathlib.Core.List.{List, [], _∷_, _++_}
-use Rattle.definitions.specs.Machine.{Call, Answer}
-use Rattle.definitions.specs.Promise as Promise
+use lib.ListN.{length, drop}
+use native.Mathlib.Omega.{arith}
+use Rattle.definitions.specs.Controller.{ControllerCall, ControllerAnswer}
+use Rattle.definitions.specs.Names.{nameCall, entryBytes}
 use Rattle.definitions.specs.Listing.{lastOf}
 use Rattle.definitions.proofs.Listing.{last-more}
-use Rattle.store.specs.Memory.{Memory, model, Leaves, Stays}
+use Rattle.definitions.proofs.NameLists.{names-longer}
+use Rattle.store.specs.Memory.{model, Stays}
+use Rattle.store.proofs.Keeping.{later}
 use Rattle.store.proofs.Staying.{stays-refl, stays-trans, leaves-stays}
-use Rattle.history.specs.Replaying.{last, LeavesInTurn, done, next}
+use Rattle.names.specs.Sound.{namesOf, lentEntries}
+use Rattle.names.specs.Memory.{NameMemory, nameMemory, nameModel}
+use Rattle.names.proofs.Listing.{names-length}
+use Rattle.text.specs.Reading as Text
+use Rattle.history.specs.Memory.{Memory, Left, by-store, by-names, by-text, LeftInTurn, done, next}
+use Rattle.history.specs.Replaying.{last}
 
-pub turns-more : {m : Memory} {cs : List Call} {al : List Answer} {ms : List Memory} {c : Call} {a : Answer} {m′ : Memory}
-    → LeavesInTurn m cs al ms → Leaves c (lastOf m ms) a m′ → LeavesInTurn m (cs ++ c ∷ []) (al ++ a ∷ []) (ms ++ m′ ∷ [])
+pub turns-more : {m : Memory} {cs : List ControllerCall} {al : List ControllerAnswer} {ms : List Memory} {c : ControllerCall} {a : ControllerAnswer} {m′ : Memory}
+    → LeftInTurn m cs al ms → Left c (lastOf m ms) a m′ → LeftInTurn m (cs ++ c ∷ []) (al ++ a ∷ []) (ms ++ m′ ∷ [])
 turns-more done h = next h done
 turns-more (next k t) h = next k (turns-more t h)
 
-pub history-of : {m : Memory} {cs : List Call} {al : List Answer} {ms : List Memory} → LeavesInTurn m cs al ms → Promise.History model m cs al ms
-history-of done = Promise.done
-history-of (next k t) = Promise.next (k .called) (history-of t)
+-- a name call leaves the store as it is, and a reading that is refused
+left-stays : {c : ControllerCall} {m : Memory} {a : ControllerAnswer} {m′ : Memory} → Left c m a m′ → model .Sound (m .store) → Stays (m .store) (m′ .store)
+left-stays (by-store {c = c} {s = s} {s′ = s′} {a = a} l) h = leaves-stays c s a s′ h l
+left-stays (by-names {s = s} l) h = stays-refl s h
+left-stays (by-text {d = d} (Text.unsound n)) h = stays-refl (d .store) h
+left-stays (by-text {d = d} (Text.refused k r)) h = stays-refl (d .store) h
+left-stays (by-text (Text.read k e m)) h = m .follows .store
 
-pub stays-in-turn : {m : Memory} {cs : List Call} {al : List Answer} {ms : List Memory} → LeavesInTurn m cs al ms → model .Sound m → Stays m (lastOf m ms)
-stays-in-turn {m = m} done h = stays-refl m h
-stays-in-turn {m = m} {ms = m″ ∷ ms} (next {m′ = m′} {c = c} {a = a} l t) h =
-    let one = leaves-stays c m a m′ h l in
-    stays-trans m m′ (lastOf m′ ms) one (stays-in-turn t (one .sound))
+pub stays-in-turn : {m : Memory} {cs : List ControllerCall} {al : List ControllerAnswer} {ms : List Memory} → LeftInTurn m cs al ms → model .Sound (m .store)
+    → Stays (m .store) (lastOf m ms .store)
+stays-in-turn {m = m} done h = stays-refl (m .store) h
+stays-in-turn {m = m} {ms = m″ ∷ ms} (next {m′ = m′} l t) h =
+    let one = left-stays l h in
+    stays-trans (m .store) (m′ .store) (lastOf m′ ms .store) one (stays-in-turn t (one .sound))
+
+-- and a store call the names; no name is taken away, and bytes past the used entries stay
+pub record NamesStay (m m′ : NameMemory) : Type 0 where
+  pub sound : nameModel .Sound m′
+  pub count : m .count ≤ m′ .count
+  pub past : drop (m′ .count * entryBytes) (m′ .bytes) ≡ drop (m′ .count * entryBytes) (m .bytes)
+
+same-names : (m : NameMemory) → nameModel .Sound m → NamesStay m m
+same-names m h = record { sound = h; count = omega arith; past = refl }
+
+names-left : {c : ControllerCall} {m : Memory} {a : ControllerAnswer} {m′ : Memory} → Left c m a m′ → nameModel .Sound (m .names) → NamesStay (m .names) (m′ .names)
+names-left (by-store {n = n} l) h = same-names n h
+names-left (by-text {d = d} (Text.unsound n)) h = same-names (nameMemory (d .entries) (d .names)) h
+names-left (by-text {d = d} (Text.refused k r)) h = same-names (nameMemory (d .entries) (d .names)) h
+names-left (by-text (Text.read k e m)) h = record { sound = m .follows .names; count = m .follows .count; past = m .follows .past }
+names-left (by-names {c = c} {bytes = bytes} {bytes′ = bytes′} {count = count} {count′ = count′} l) h =
+    let e : count′ ≡ length (nameCall (lentEntries bytes) (namesOf bytes count) c .names) = sym (names-length bytes′ count′) ∙ ap length (l .names h) in
+    let f : length (namesOf bytes count) ≡ count = names-length bytes count in
+    let k = names-longer (lentEntries bytes) (namesOf bytes count) c in
+    record { sound = l .sound h; count = omega arith; past = l .past }
+
+pub names-in-turn : {m : Memory} {cs : List ControllerCall} {al : List ControllerAnswer} {ms : List Memory} → LeftInTurn m cs al ms → nameModel .Sound (m .names)
+    → NamesStay (m .names) (lastOf m ms .names)
+names-in-turn {m = m} done h = same-names (m .names) h
+names-in-turn {m = m} {ms = m″ ∷ ms} (next {m′ = m′} l t) h =
+    let one = names-left l h in
+    let more = names-in-turn t (one .sound) in
+    let first = one .count in
+    let rest = more .count in
+    record {
+      sound = more .sound;
+      count = omega arith;
+      past = more .past ∙ later (m′ .names .bytes) (m .names .bytes) (m′ .names .count * entryBytes) (lastOf m′ ms .names .count * entryBytes) (omega arith) (one .past);
+    }
 
 pub last-is : {A : Type 0} (xs : List A) (x : A) → last (xs ++ x ∷ []) ≡ some x
 last-is [] x = refl

@@ -3,11 +3,12 @@ use Prim.Native.Nat.{ℕ, zero, suc, _+_, _-_, _*_, _/_, _%_, _<_}
 use mathlib.Core.Path.{_≡_}
 use mathlib.Core.Bool.{Bool, cond}
 use mathlib.Core.Option.{Option, none, some}
-use mathlib.Core.List.{List, [], _∷_, _++_}
+use mathlib.Core.List.{List, [], _∷_, _++_, map}
 use lib.ListN.{length, getD, take, drop}
 use lib.Dec.{leb, eqb}
-use Rattle.definitions.specs.Machine.{Store, variable, constant, add, sub, mul, div, pow, modulo, neg, operator, function, select, ifElse, forLoop, control, Call, store, simplify, prune, pruneBySetting}
-use Rattle.definitions.specs.Sheet.{withRest}
+use Rattle.definitions.specs.Machine.{Store, variable, constant, add, sub, mul, div, pow, modulo, neg, operator, function, select, ifElse, forLoop, control}
+use Rattle.definitions.specs.Names.{NameCall, internName, lookupName, nameOf}
+use Rattle.definitions.specs.Controller.{ControllerCall, building, simplifying, pruning, pruningBySetting, naming, reading}
 use Rattle.definitions.specs.Promise.{All}
 
 abbrev pub headerWords : ℕ
@@ -21,44 +22,67 @@ wordValues = 4294967296
 abbrev pub wide : ℕ → ℕ → ℕ
 wide high low = high * wordValues + low
 
--- the first code of a call over a list of operands, the first of a call that is no store call, and the last
+-- an operand's lowest byte: the operands of a name call are the bytes of a name, those of a reading the bytes of a text
+abbrev pub lowestByte : ℕ → ℕ
+lowestByte word = word % 256
+
+abbrev pub bytesOf : List ℕ → List ℕ
+bytesOf operands = map lowestByte operands
+
+-- the first code of a call over a list of operands, the first of a simplify or prune, the first of a name call, that of a reading, and the last
 abbrev pub firstWithOperands : ℕ
 firstWithOperands = 9
 
 abbrev pub firstRewriting : ℕ
 firstRewriting = 15
 
-abbrev pub lastCode : ℕ
-lastCode = 17
+abbrev pub firstNaming : ℕ
+firstNaming = 18
 
--- the call of a code: 0 to 14 the store calls in the order of their list, 15 simplify, 16 prune, 17 prune by setting
-unfoldable pub callOfCode : ℕ → ℕ → ℕ → ℕ → ℕ → List ℕ → Option Call
+abbrev pub firstReading : ℕ
+firstReading = 21
+
+abbrev pub lastCode : ℕ
+lastCode = 21
+
+-- the call of a code: 0 to 14 the store calls in the order of their list, 15 simplify, 16 prune, 17 prune by setting, 18 a name interned,
+-- 19 a name looked up, 20 the name of a number, 21 a text read
+unfoldable pub callOfCode : ℕ → ℕ → ℕ → ℕ → ℕ → List ℕ → Option ControllerCall
 callOfCode code a b high low operands =
-    cond (eqb code 0) (some (store (variable a)))
-    (cond (eqb code 1) (some (store (constant (wide high low))))
-    (cond (eqb code 2) (some (store (add a b)))
-    (cond (eqb code 3) (some (store (sub a b)))
-    (cond (eqb code 4) (some (store (mul a b)))
-    (cond (eqb code 5) (some (store (div a b)))
-    (cond (eqb code 6) (some (store (pow a b)))
-    (cond (eqb code 7) (some (store (modulo a b)))
-    (cond (eqb code 8) (some (store (neg a)))
-    (cond (eqb code 9) (some (store (operator a b operands)))
-    (cond (eqb code 10) (some (store (function a operands)))
-    (cond (eqb code 11) (some (store (select a b high)))
-    (cond (eqb code 12) (some (store (ifElse a b high)))
-    (cond (eqb code 13) (some (store (forLoop a b high low)))
-    (cond (eqb code 14) (some (store (control a operands)))
-    (cond (eqb code 15) (some (simplify a b (wide high low)))
-    (cond (eqb code 16) (some (prune a (wide high low)))
-    (cond (eqb code 17) (some (pruneBySetting a b)) none)))))))))))))))))
+    cond (eqb code 0) (some (building (variable a)))
+    (cond (eqb code 1) (some (building (constant (wide high low))))
+    (cond (eqb code 2) (some (building (add a b)))
+    (cond (eqb code 3) (some (building (sub a b)))
+    (cond (eqb code 4) (some (building (mul a b)))
+    (cond (eqb code 5) (some (building (div a b)))
+    (cond (eqb code 6) (some (building (pow a b)))
+    (cond (eqb code 7) (some (building (modulo a b)))
+    (cond (eqb code 8) (some (building (neg a)))
+    (cond (eqb code 9) (some (building (operator a b operands)))
+    (cond (eqb code 10) (some (building (function a operands)))
+    (cond (eqb code 11) (some (building (select a b high)))
+    (cond (eqb code 12) (some (building (ifElse a b high)))
+    (cond (eqb code 13) (some (building (forLoop a b high low)))
+    (cond (eqb code 14) (some (building (control a operands)))
+    (cond (eqb code 15) (some (simplifying a b (wide high low)))
+    (cond (eqb code 16) (some (pruning a (wide high low)))
+    (cond (eqb code 17) (some (pruningBySetting a b))
+    (cond (eqb code 18) (some (naming (internName (bytesOf operands))))
+    (cond (eqb code 19) (some (naming (lookupName (bytesOf operands))))
+    (cond (eqb code 20) (some (naming (nameOf a)))
+    (cond (eqb code 21) (some (reading (bytesOf operands))) none)))))))))))))))))))))
 
 -- whether a code has a call
 abbrev pub known : ℕ → Bool
 known code = leb code lastCode
 
+-- a call and the words after it
+abbrev pub withRest : Option ControllerCall → List ℕ → Option (ControllerCall × List ℕ)
+withRest none ws = none
+withRest (some c) ws = some (c, ws)
+
 -- the first call of the words and the words after it; none where no whole call with a known code stands
-unfoldable pub firstCall : List ℕ → Option (Call × List ℕ)
+unfoldable pub firstCall : List ℕ → Option (ControllerCall × List ℕ)
 unfolding callOfCode
 firstCall ws =
     let n = getD ws 5 0 in
@@ -70,13 +94,13 @@ firstCall ws =
 
 -- calls, and the words past the last of them
 pub record Decoded : Type 0 where
-  pub calls : List Call
+  pub calls : List ControllerCall
   pub unread : List ℕ
 
-abbrev pub decoded : List Call → List ℕ → Decoded
+abbrev pub decoded : List ControllerCall → List ℕ → Decoded
 decoded cs ws = record { calls = cs; unread = ws }
 
-abbrev pub withFirst : Call → Decoded → Decoded
+abbrev pub withFirst : ControllerCall → Decoded → Decoded
 withFirst c d = decoded (c ∷ d .calls) (d .unread)
 
 -- the calls of the words, as far as whole calls with known codes stand; each takes a word at least
@@ -85,7 +109,7 @@ unfolding firstCall
 decodeFrom zero ws = decoded [] ws
 decodeFrom (suc f) ws = elim (firstCall ws) [ none ↦ decoded [] ws | some cr ↦ withFirst (cr .0) (decodeFrom f (cr .1)) ]
 
-unfoldable pub decode : List ℕ → List Call
+unfoldable pub decode : List ℕ → List ControllerCall
 unfolding decodeFrom
 decode ws = decodeFrom (length ws) ws .calls
 
@@ -121,13 +145,20 @@ encodeStore (ifElse a b c) = wordsOf 12 a b c 0 []
 encodeStore (forLoop a b c d) = wordsOf 13 a b c d []
 encodeStore (control o c) = wordsOf 14 o 0 0 0 c
 
-abbrev pub encodeCall : Call → List ℕ
-encodeCall (store c) = encodeStore c
-encodeCall (simplify i depth n) = wordsOf 15 i depth (n / wordValues) (n % wordValues) []
-encodeCall (prune i n) = wordsOf 16 i 0 (n / wordValues) (n % wordValues) []
-encodeCall (pruneBySetting i n) = wordsOf 17 i n 0 0 []
+abbrev pub encodeName : NameCall → List ℕ
+encodeName (internName name) = wordsOf 18 0 0 0 0 name
+encodeName (lookupName name) = wordsOf 19 0 0 0 0 name
+encodeName (nameOf number) = wordsOf 20 number 0 0 0 []
 
-abbrev pub encode : List Call → List ℕ
+abbrev pub encodeCall : ControllerCall → List ℕ
+encodeCall (building c) = encodeStore c
+encodeCall (simplifying i depth n) = wordsOf 15 i depth (n / wordValues) (n % wordValues) []
+encodeCall (pruning i n) = wordsOf 16 i 0 (n / wordValues) (n % wordValues) []
+encodeCall (pruningBySetting i n) = wordsOf 17 i n 0 0 []
+encodeCall (naming c) = encodeName c
+encodeCall (reading text) = wordsOf 21 0 0 0 0 text
+
+abbrev pub encode : List ControllerCall → List ℕ
 encode [] = []
 encode (c ∷ cs) = encodeCall c ++ encode cs
 
@@ -159,14 +190,25 @@ StoreWithin (ifElse a b c) = Word a × Word b × Word c
 StoreWithin (forLoop a b c d) = Word a × Word b × Word c × Word d
 StoreWithin (control o c) = Word o × OperandsWithin c
 
-abbrev pub CallWithin : Call → Type 0
-CallWithin (store c) = StoreWithin c
-CallWithin (simplify i depth n) = Word i × Word depth × WideWord n
-CallWithin (prune i n) = Word i × WideWord n
-CallWithin (pruneBySetting i n) = Word i × Word n
+-- the bytes of a name
+abbrev pub Byte : ℕ → Type 0
+Byte n = n < 256
 
--- Every list of calls is what some words decode to, with no word left over; within the widths they are words of 32 bits.
-pub record Encodes (cs : List Call) : Type 0 where
-  pub words : All CallWithin cs → All Word (encode cs)
+abbrev pub NameWithin : NameCall → Type 0
+NameWithin (internName name) = Word (length name) × All Byte name
+NameWithin (lookupName name) = Word (length name) × All Byte name
+NameWithin (nameOf number) = Word number
+
+abbrev pub CallWithin : ControllerCall → Type 0
+CallWithin (building c) = StoreWithin c
+CallWithin (simplifying i depth n) = Word i × Word depth × WideWord n
+CallWithin (pruning i n) = Word i × WideWord n
+CallWithin (pruningBySetting i n) = Word i × Word n
+CallWithin (naming c) = NameWithin c
+CallWithin (reading text) = Word (length text) × All Byte text
+
+-- Every list of calls within the widths is what some words of 32 bits decode to, with no word left over.
+pub record Encodes (cs : List ControllerCall) : Type 0 where
+  pub words : All Word (encode cs)
   pub decodes : decode (encode cs) ≡ cs
   pub all-read : readWords (encode cs) ≡ length (encode cs)

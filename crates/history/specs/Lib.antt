@@ -1,3 +1,4 @@
+pub mod Memory
 pub mod Encoding
 pub mod Calling
 pub mod Replaying

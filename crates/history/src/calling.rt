@@ -2,10 +2,18 @@
 ghost use mathlib.Core.Path.{_≡_};
 ghost use Prim.Native.Nat.{_≤_, _<_};
 ghost use Rattle.store.specs.Memory.{memory};
+ghost use Rattle.names.specs.Memory.{nameMemory};
+ghost use Rattle.history.specs.Memory.{held};
 ghost use Rattle.history.specs.Encoding as Encoding;
-ghost use Rattle.history.specs.Encoding.{firstWithOperands, firstRewriting, lastCode, callOfCode};
-ghost use Rattle.history.specs.Calling.{RunsCall};
+ghost use Rattle.history.specs.Encoding.{firstWithOperands, firstRewriting, firstNaming, lastCode, callOfCode};
+ghost use Rattle.history.specs.Calling.{RunsStoreCall, RunsCall};
 use crate::codes;
+use crate::handing::Handed;
+use crate::handing::of_names;
+use crate::handing::of_reading;
+use crate::handing::of_store;
+use crate::naming::call_names;
+use crate::reading::call_reading;
 use crate::reply::Answered;
 use crate::reply::pruned;
 use crate::reply::simplified;
@@ -16,6 +24,12 @@ use arena::DagArena;
 const FIRST_WITH_OPERANDS: u32 = codes::OPERATOR;
 // Codes from this one on are no store calls.
 const FIRST_REWRITING: u32 = codes::SIMPLIFY;
+
+// Codes from this one on are name calls.
+const FIRST_NAMING: u32 = codes::INTERN;
+
+// This one is a reading.
+const FIRST_READING: u32 = codes::READ;
 
 // How many values a word of 32 bits has.
 const WORD_VALUES: u64 = 4_294_967_296;
@@ -40,7 +54,7 @@ fn call_small(
     operands: &[u32],
 ) -> Answered
     requires { ⌜ code < firstWithOperands ⌝ }
-    ensures { λ r. ⌜ RunsCall (callOfCode code a b high low (now (operands .entry))) (memory (now (nodes .entry)) (now (slots .entry)) arena) r (memory (now (nodes .exit)) (now (slots .exit)) (r .arena)) ⌝ }
+    ensures { λ r. ⌜ RunsStoreCall (callOfCode code a b high low (now (operands .entry))) (memory (now (nodes .entry)) (now (slots .entry)) arena) r (memory (now (nodes .exit)) (now (slots .exit)) (r .arena)) ⌝ }
 {
     if code == codes::VARIABLE {
         return stored(builder::variable(nodes, slots, arena, a));
@@ -82,7 +96,7 @@ fn call_with_operands(
     operands: &[u32],
 ) -> Answered
     requires { ⌜ (firstWithOperands ≤ code) × (code < firstRewriting) ⌝ }
-    ensures { λ r. ⌜ RunsCall (callOfCode code a b high low (now (operands .entry))) (memory (now (nodes .entry)) (now (slots .entry)) arena) r (memory (now (nodes .exit)) (now (slots .exit)) (r .arena)) ⌝ }
+    ensures { λ r. ⌜ RunsStoreCall (callOfCode code a b high low (now (operands .entry))) (memory (now (nodes .entry)) (now (slots .entry)) arena) r (memory (now (nodes .exit)) (now (slots .exit)) (r .arena)) ⌝ }
 {
     if code == codes::OPERATOR {
         return stored(builder::operator(nodes, slots, arena, a, b, operands));
@@ -114,8 +128,8 @@ fn call_rewriting(
     low: u32,
     operands: &[u32],
 ) -> Answered
-    requires { ⌜ (firstRewriting ≤ code) × (code ≤ lastCode) ⌝ }
-    ensures { λ r. ⌜ RunsCall (callOfCode code a b high low (now (operands .entry))) (memory (now (nodes .entry)) (now (slots .entry)) arena) r (memory (now (nodes .exit)) (now (slots .exit)) (r .arena)) ⌝ }
+    requires { ⌜ (firstRewriting ≤ code) × (code < firstNaming) ⌝ }
+    ensures { λ r. ⌜ RunsStoreCall (callOfCode code a b high low (now (operands .entry))) (memory (now (nodes .entry)) (now (slots .entry)) arena) r (memory (now (nodes .exit)) (now (slots .exit)) (r .arena)) ⌝ }
 {
     if code == codes::SIMPLIFY {
         return simplified(walk::simplify(nodes, slots, arena, a, b, wide(high, low)));
@@ -126,8 +140,8 @@ fn call_rewriting(
     pruned(pruner::prune_by_setting(nodes, slots, arena, a, b))
 }
 
-// The call of a code.
-pub(crate) fn call(
+// The call of the store that a code has.
+fn call_store(
     nodes: &mut [u64],
     slots: &mut [u32],
     arena: DagArena,
@@ -138,8 +152,8 @@ pub(crate) fn call(
     low: u32,
     operands: &[u32],
 ) -> Answered
-    requires { ⌜ code ≤ lastCode ⌝ }
-    ensures { λ r. ⌜ RunsCall (callOfCode code a b high low (now (operands .entry))) (memory (now (nodes .entry)) (now (slots .entry)) arena) r (memory (now (nodes .exit)) (now (slots .exit)) (r .arena)) ⌝ }
+    requires { ⌜ code < firstNaming ⌝ }
+    ensures { λ r. ⌜ RunsStoreCall (callOfCode code a b high low (now (operands .entry))) (memory (now (nodes .entry)) (now (slots .entry)) arena) r (memory (now (nodes .exit)) (now (slots .exit)) (r .arena)) ⌝ }
 {
     if code < FIRST_WITH_OPERANDS {
         return call_small(nodes, slots, arena, code, a, b, high, low, operands);
@@ -148,4 +162,33 @@ pub(crate) fn call(
         return call_with_operands(nodes, slots, arena, code, a, b, high, low, operands);
     }
     call_rewriting(nodes, slots, arena, code, a, b, high, low, operands)
+}
+
+// The call of a code.
+pub(crate) fn call(
+    nodes: &mut [u64],
+    slots: &mut [u32],
+    entries: &mut [u8],
+    arena: DagArena,
+    names: usize,
+    code: u32,
+    a: u32,
+    b: u32,
+    high: u32,
+    low: u32,
+    operands: &[u32],
+) -> Handed
+    requires { ⌜ code ≤ lastCode ⌝ }
+    ensures { λ r. ⌜ RunsCall (callOfCode code a b high low (now (operands .entry))) (held (memory (now (nodes .entry)) (now (slots .entry)) arena) (nameMemory (now (entries .entry)) names)) r (held (memory (now (nodes .exit)) (now (slots .exit)) (r .arena)) (nameMemory (now (entries .exit)) (r .names))) ⌝ }
+{
+    if code < FIRST_NAMING {
+        let answered = call_store(nodes, slots, arena, code, a, b, high, low, operands);
+        return of_store(answered, names);
+    }
+    if code < FIRST_READING {
+        let named = call_names(entries, names, code, a, operands);
+        return of_names(named, arena);
+    }
+    let made = call_reading(nodes, slots, entries, arena, names, operands);
+    of_reading(made)
 }

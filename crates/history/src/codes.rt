@@ -34,3 +34,11 @@ pub const SIMPLIFY: u32 = 15;
 pub const PRUNE: u32 = 16;
 
 pub const PRUNE_BY_SETTING: u32 = 17;
+
+pub const INTERN: u32 = 18;
+
+pub const LOOKUP: u32 = 19;
+
+pub const NAME_OF: u32 = 20;
+
+pub const READ: u32 = 21;

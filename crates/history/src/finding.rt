@@ -4,12 +4,12 @@ ghost use Prim.Native.Nat.{_≤_};
 ghost use lib.ListN.{length};
 ghost use Rattle.history.specs.Encoding.{known};
 ghost use Rattle.history.specs.Calling.{FindsCall};
-use crate::codes::PRUNE_BY_SETTING;
+use crate::codes::READ;
 
 // Code, a, b, high, low, number of operands.
 pub(crate) const HEADER_WORDS: usize = 6;
 
-const LAST_CODE: u32 = PRUNE_BY_SETTING;
+const LAST_CODE: u32 = READ;
 
 pub(crate) enum Next {
     // The place after the call.

@@ -1,15 +1,20 @@
-// A list of calls, run on one store: the request's demand 3 as the contract of code. Calls are words, as specs/Encoding.antt says.
+// A list of calls, run on one store and one name list: the request's demand 3 as the contract of code. Calls are words, as specs/Encoding.antt says.
 mod calling;
 pub mod codes;
 mod finding;
+mod handing;
+mod naming;
+mod reading;
 mod reply;
 
 ghost use Prim.Native.Nat.{_+_, _≤_};
 ghost use lib.ListN.{length, getD};
 ghost use Rattle.store.specs.Memory.{memory};
+ghost use Rattle.names.specs.Memory.{nameMemory};
+ghost use Rattle.history.specs.Memory.{held};
 ghost use Rattle.history.specs.Encoding.{headerWords, lastCode};
 ghost use Rattle.history.specs.Calling.{RunsCallAt};
-ghost use Rattle.history.specs.Replaying.{RunsAll, Replays};
+ghost use Rattle.history.specs.Replaying.{after, RunsAll, Replays};
 use arena::DagArena;
 use builder::FreshStore;
 use builder::fresh;
@@ -17,43 +22,55 @@ use calling::call;
 use finding::HEADER_WORDS;
 use finding::Next;
 use finding::next_call;
-pub use reply::Answered;
+pub use handing::Handed;
+pub use handing::LastReply;
+use handing::at_first;
 pub use reply::Reply;
 
 pub struct Run {
-    // The reply of the last call, and the store's count and size after it.
-    pub last: Answered,
+    // The reply of the last call, and the store's count and size and the number of names after it.
+    pub last: Handed,
     // How many calls were run.
     pub calls: usize,
     // How many words those calls take. The words past them begin with no whole call with a known code, and nothing of them was run.
     pub words: usize,
 }
 
-pub enum Replayed {
+// Whether a store was opened.
+pub enum Opening {
     // Every call that was found was run.
-    Done(Run),
-    // No store was opened; the number of the refusal.
+    Opened,
+    // The number of the refusal; no call was run.
     Refused(u64),
+}
+
+pub struct Replayed {
+    pub opening: Opening,
+    pub run: Run,
 }
 
 // The call between two places.
 fn call_at(
     nodes: &mut [u64],
     slots: &mut [u32],
+    entries: &mut [u8],
     arena: DagArena,
+    names: usize,
     calls: &[u32],
     at: usize,
     end: usize,
-) -> Answered
+) -> Handed
     requires { ⌜ (at + headerWords ≤ end) × (end ≤ length (now calls)) × (getD (now calls) at 0 ≤ lastCode) ⌝ }
-    ensures { λ r. ⌜ RunsCallAt (now (calls .entry)) at end (memory (now (nodes .entry)) (now (slots .entry)) arena) r (memory (now (nodes .exit)) (now (slots .exit)) (r .arena)) ⌝ }
+    ensures { λ r. ⌜ RunsCallAt (now (calls .entry)) at end (held (memory (now (nodes .entry)) (now (slots .entry)) arena) (nameMemory (now (entries .entry)) names)) r (after (now (nodes .exit)) (now (slots .exit)) (now (entries .exit)) r) ⌝ }
 {
     let start = at + HEADER_WORDS;
     let operands = &calls[start..end];
     call(
         nodes,
         slots,
+        entries,
         arena,
+        names,
         calls[at],
         calls[at + 1],
         calls[at + 2],
@@ -63,14 +80,17 @@ fn call_at(
     )
 }
 
-// Every call of the list, each on the store as the call before left it.
-fn replay_from(nodes: &mut [u64], slots: &mut [u32], arena: DagArena, calls: &[u32]) -> Run
-    ensures { λ r. ⌜ RunsAll (memory (now (nodes .entry)) (now (slots .entry)) arena) (now (calls .entry)) r (memory (now (nodes .exit)) (now (slots .exit)) (r .last .arena)) ⌝ }
+// Every call of the list, each on the store and the names as the call before left them. No name is known at first.
+fn replay_from(
+    nodes: &mut [u64],
+    slots: &mut [u32],
+    entries: &mut [u8],
+    arena: DagArena,
+    calls: &[u32],
+) -> Run
+    ensures { λ r. ⌜ RunsAll (held (memory (now (nodes .entry)) (now (slots .entry)) arena) (nameMemory (now (entries .entry)) 0)) (now (calls .entry)) r (after (now (nodes .exit)) (now (slots .exit)) (now (entries .exit)) (r .last)) ⌝ }
 {
-    let mut last = Answered {
-        reply: Reply::Nothing,
-        arena,
-    };
+    let mut last = at_first(arena);
     let mut run: usize = 0;
     let mut at: usize = 0;
     while at < calls.len() {
@@ -83,7 +103,8 @@ fn replay_from(nodes: &mut [u64], slots: &mut [u32], arena: DagArena, calls: &[u
             };
         };
         let before = last.arena;
-        last = call_at(nodes, slots, before, calls, at, end);
+        let known = last.names;
+        last = call_at(nodes, slots, entries, before, known, calls, at, end);
         run += 1;
         at = end;
     }
@@ -94,12 +115,28 @@ fn replay_from(nodes: &mut [u64], slots: &mut [u32], arena: DagArena, calls: &[u
     }
 }
 
-// A fresh store, then every call of the list.
-pub fn replay(nodes: &mut [u64], slots: &mut [u32], calls: &[u32]) -> Replayed
-    ensures { λ r. ⌜ Replays (now (nodes .entry)) (now (slots .entry)) (now (calls .entry)) r (now (nodes .exit)) (now (slots .exit)) ⌝ }
+// A fresh store and an empty name list, then every call of the list.
+pub fn replay(nodes: &mut [u64], slots: &mut [u32], entries: &mut [u8], calls: &[u32]) -> Replayed
+    ensures { λ r. ⌜ Replays (now (nodes .entry)) (now (slots .entry)) (now (entries .entry)) (now (calls .entry)) r (now (nodes .exit)) (now (slots .exit)) (now (entries .exit)) ⌝ }
 {
     match fresh(nodes, slots) {
-        FreshStore::Refused(number) => Replayed::Refused(number),
-        FreshStore::Store(arena) => Replayed::Done(replay_from(nodes, slots, arena, calls)),
+        FreshStore::Refused(number) => {
+            let arena = DagArena { count: 0, size: 0 };
+            Replayed {
+                opening: Opening::Refused(number),
+                run: Run {
+                    last: at_first(arena),
+                    calls: 0,
+                    words: 0,
+                },
+            }
+        }
+        FreshStore::Store(arena) => {
+            let run = replay_from(nodes, slots, entries, arena, calls);
+            Replayed {
+                opening: Opening::Opened,
+                run,
+            }
+        }
     }
 }

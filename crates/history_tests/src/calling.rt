@@ -13,20 +13,24 @@ use history::codes::DIV;
 use history::codes::FOR_LOOP;
 use history::codes::FUNCTION;
 use history::codes::IF_ELSE;
+use history::codes::INTERN;
+use history::codes::LOOKUP;
 use history::codes::MODULO;
 use history::codes::MUL;
+use history::codes::NAME_OF;
 use history::codes::NEG;
 use history::codes::OPERATOR;
 use history::codes::POW;
 use history::codes::PRUNE;
 use history::codes::PRUNE_BY_SETTING;
+use history::codes::READ;
 use history::codes::SELECT;
 use history::codes::SIMPLIFY;
 use history::codes::SUB;
 use history::codes::VARIABLE;
 
 // No call has this one.
-const UNKNOWN: u32 = 18;
+const UNKNOWN: u32 = 22;
 // Words of the longest list.
 const LONGEST: usize = 300;
 
@@ -126,6 +130,38 @@ pub(crate) fn refused_calls() {
     at = next(&mut calls, at, PRUNE, 0, 0, MINUS_ZERO, 0);
     at = next(&mut calls, at, PRUNE_BY_SETTING, 0, 9, 0, 0);
     next(&mut calls, at, VARIABLE, 8, 0, 0, 0);
+}
+
+// `flow` gets number 0, and a variable of that number; `t1` is not known, then gets number 1, and is the name of 1; 2 has no name. Words of more
+// than a byte spell by their lowest ones. The third name fills the list: another has no place, a known one keeps its number. A name has a byte.
+pub(crate) fn name_calls() {
+    let mut calls = [0u32; LONGEST];
+    let flow = [0x66, 0x6c, 0x6f, 0x77, 0];
+    let t1 = [0x74, 0x31, 0, 0, 0];
+    let wide = [0x174, 0x7700_0031, 0, 0, 0];
+    let mut at = next_over(&mut calls, 0, INTERN, 0, 0, &flow, 4);
+    at = next(&mut calls, at, VARIABLE, 0, 0, 0, 0);
+    at = next_over(&mut calls, at, LOOKUP, 0, 0, &t1, 2);
+    at = next_over(&mut calls, at, INTERN, 0, 0, &t1, 2);
+    at = next_over(&mut calls, at, LOOKUP, 0, 0, &wide, 2);
+    at = next(&mut calls, at, NAME_OF, 1, 0, 0, 0);
+    at = next(&mut calls, at, NAME_OF, 2, 0, 0, 0);
+    at = next_over(&mut calls, at, INTERN, 0, 0, &t1, 1);
+    at = next_over(&mut calls, at, INTERN, 0, 0, &t1, 5);
+    at = next_over(&mut calls, at, INTERN, 0, 0, &flow, 4);
+    next_over(&mut calls, at, INTERN, 0, 0, &flow, 0);
+}
+
+// x+2, x+2+y, x+2+ and no text, then the name of the second symbol, and x+2 again.
+pub(crate) fn reading_calls() {
+    let mut calls = [0u32; LONGEST];
+    let sum = [0x78, 0x2b, 0x32, 0x2b, 0x79];
+    let mut at = next_over(&mut calls, 0, READ, 0, 0, &sum, 3);
+    at = next_over(&mut calls, at, READ, 0, 0, &sum, 5);
+    at = next_over(&mut calls, at, READ, 0, 0, &sum, 4);
+    at = next_over(&mut calls, at, READ, 0, 0, &sum, 0);
+    at = next(&mut calls, at, NAME_OF, 1, 0, 0, 0);
+    next_over(&mut calls, at, READ, 0, 0, &sum, 3);
 }
 
 // x, then 13 sums, each of the one before with itself: 4,096 terms after 12 of them, which are pruned, and 8,192 after 13, which gives 23.

@@ -8,6 +8,8 @@ fn main() {
     calling::store_calls();
     calling::rewriting_calls();
     calling::refused_calls();
+    calling::name_calls();
+    calling::reading_calls();
     calling::too_many_terms();
     calling::cut_lists();
     calling::few_places();

@@ -1,5 +1,6 @@
 // What a list of calls comes to, as a line of text.
-use history::Replayed;
+use history::LastReply;
+use history::Opening;
 use history::Reply;
 use history::Run;
 
@@ -9,6 +10,9 @@ const STANDARD_OUTPUT: i32 = 1;
 pub(crate) const MOST_WORDS: usize = 510;
 
 pub(crate) const MOST_SLOTS: usize = 128;
+
+// Three entries.
+const MOST_NAME_BYTES: usize = 99;
 
 fn text(bytes: &[u8]) {
     io::write_all(STANDARD_OUTPUT, bytes);
@@ -40,15 +44,34 @@ fn show_reply(reply: Reply) {
     }
 }
 
+fn show_name_reply(answer: names::Answer, name: [u8; 32]) {
+    match answer {
+        names::Answer::Numbered(n) => number(b"numbered ", n as u64),
+        names::Answer::Unknown => text(b"unknown"),
+        names::Answer::Named(length) => {
+            text(b"named ");
+            if length <= 32 {
+                text(&name[..length]);
+            }
+        }
+        names::Answer::Refused(refusal) => number(b"refused ", refusal),
+    }
+}
+
 fn show_run(run: Run) {
     let last = run.last;
     let reply = last.reply;
     let arena = last.arena;
-    show_reply(reply);
+    let name = last.name;
+    match reply {
+        LastReply::Store(answer) => show_reply(answer),
+        LastReply::Names(answer) => show_name_reply(answer, name),
+    }
     number(b"; calls ", run.calls as u64);
     number(b" words ", run.words as u64);
     number(b"; nodes ", arena.count);
     number(b" slots ", arena.size as u64);
+    number(b" names ", last.names as u64);
     text(b"\n");
 }
 
@@ -56,6 +79,7 @@ fn show_run(run: Run) {
 pub(crate) fn show_on(calls: &[u32], end: usize, words: usize, places: usize) {
     let mut nodes = [0u64; MOST_WORDS];
     let mut slots = [0u32; MOST_SLOTS];
+    let mut names = [0u8; MOST_NAME_BYTES];
     if end > calls.len() {
         return;
     }
@@ -65,10 +89,16 @@ pub(crate) fn show_on(calls: &[u32], end: usize, words: usize, places: usize) {
     if places > MOST_SLOTS {
         return;
     }
-    let replayed = history::replay(&mut nodes[..words], &mut slots[..places], &calls[..end]);
-    match replayed {
-        Replayed::Done(run) => show_run(run),
-        Replayed::Refused(refusal) => {
+    let replayed = history::replay(
+        &mut nodes[..words],
+        &mut slots[..places],
+        &mut names,
+        &calls[..end],
+    );
+    let opening = replayed.opening;
+    match opening {
+        Opening::Opened => show_run(replayed.run),
+        Opening::Refused(refusal) => {
             number(b"no store, refused ", refusal);
             text(b"\n");
         }

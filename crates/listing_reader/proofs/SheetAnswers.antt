@@ -31,7 +31,7 @@ use Rattle.definitions.proofs.Prune.{terms-ok, flat-filter, filter-length}
 use Rattle.definitions.proofs.Calls.{StoreSays, builds}
 use Rattle.definitions.proofs.SimplifyCalls.{SimplifySays, simplifies}
 use Rattle.definitions.proofs.PruneCalls.{remains-of}
-use Rattle.definitions.proofs.Histories.{call-step}
+use Rattle.definitions.proofs.Going.{call-step}
 use Rattle.definitions.proofs.SheetCalls.{sheet-as-calls}
 use Rattle.arena.specs.declared.DagArena.{DagArena}
 use Rattle.arena.specs.Kind.{listed as kindListed, operatorArity}
@@ -138,14 +138,14 @@ listed (refused r) count h = tt
 last-node : (l : Lent) (s : State) (cs : List Call) (a : Answer) → Sound (s .nodes) → Below a (length (s .nodes)) → Below (lastOf a (answers l s cs)) (length (run l s cs .nodes))
 unfolding answers run
 last-node l s [] a h b = b
-last-node l s (c ∷ cs) a h b = last-node l (call l s c .left) cs (call l s c .answer) (call-step l s c h .sound) (call-node l s c h)
+last-node l s (c ∷ cs) a h b = last-node l (call l s c .left) cs (call l s c .answer) (call-step l (s .nodes) c h .sound) (call-node l s c h)
 
 calls-listed : (l : Lent) (s : State) (cs : List Call) → Sound (s .nodes) → AnswerListed (outcomeOf none (answers l s cs)) (length (run l s cs .nodes))
 unfolding answers run
 calls-listed l s [] h = tt
 calls-listed l s (c ∷ cs) h =
     listed (lastOf (call l s c .answer) (answers l (call l s c .left) cs)) (length (run l (call l s c .left) cs .nodes))
-    (last-node l (call l s c .left) cs (call l s c .answer) (call-step l s c h .sound) (call-node l s c h))
+    (last-node l (call l s c .left) cs (call l s c .answer) (call-step l (s .nodes) c h .sound) (call-node l s c h))
 
 -- ---- a sheet on a state whose nodes are sound
 

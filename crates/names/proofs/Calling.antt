@@ -1,5 +1,5 @@
 -- What each way through a name call answers and leaves.
-use Prim.Native.Nat.{ℕ, _+_, _-_, _≤_, _<_, min}
+use Prim.Native.Nat.{ℕ, _+_, _-_, _/_, _≤_, _<_, min}
 use mathlib.Core.Path.{_≡_, refl, sym, ap, _∙_, subst}
 use mathlib.Core.Bool.{true, false}
 use mathlib.Core.Option.{none, some}
@@ -10,7 +10,7 @@ use native.Mathlib.Omega.{arith}
 use native.Mathlib.Decide.{decLe}
 use borrow.Author.Tests.{lt-ltb, le-ltb, le-leb, lt-leb}
 use Rattle.definitions.specs.Refusals.{badNameLength, notSound, noNamePlace}
-use Rattle.definitions.specs.Names.{NameCall, internName, lookupName, nameOf, NameAnswer, numbered, unknown, named, refused, NameResult, answers, nameCall, numberFrom, lengthAllowed, mostNames, shortestName, longestName}
+use Rattle.definitions.specs.Names.{NameCall, internName, lookupName, nameOf, NameAnswer, numbered, unknown, named, refused, NameResult, answers, nameCall, numberFrom, lengthAllowed, mostNames, shortestName, longestName, entryBytes}
 use Rattle.names.specs.declared.Answer.the-variants.{Unknown, Named, Refused}
 use Rattle.names.specs.declared.Found.{Found}
 use Rattle.names.specs.declared.Found.the-variants.{At, Nothing}
@@ -20,7 +20,7 @@ use Rattle.names.specs.Calls.{Allowed, Finds, FoundAt, Called, NameCalle
 use Rattle.names.proofs.Entries.{entry-of-length, sound-entry}
 use Rattle.names.proofs.Finding.{NotBelow}
 use Rattle.names.proofs.Listing.{number-found, number-none, names-length, names-at}
-use Rattle.names.proofs.Storing.{holds, held, names-more, sound-more, put-past}
+use Rattle.names.proofs.Storing.{holds, held, names-more, sound-more, put-length, put-past}
 
 -- a list that is not sound
 pub called-unsound : (bytes : List ℕ) (count : ℕ) (call : NameCall) → (Sound bytes count → ⊥) → Called bytes count call (refused notSound) bytes count
@@ -29,6 +29,7 @@ called-unsound bytes count call n = record {
   answered = λ s. absurd (n s);
   names = λ s. absurd (n s);
   sound = λ s. absurd (n s);
+  same-lent = refl;
   past = refl;
   refusal = λ r e. (refl, refl);
 }
@@ -41,6 +42,7 @@ module _ (bytes : List ℕ) (count : ℕ) (sound : Sound bytes count) where
     answered = λ _. sym (ap (λ (r : NameResult). r .answer) e);
     names = λ _. sym (ap (λ (r : NameResult). r .names) e);
     sound = λ s. s;
+    same-lent = refl;
     past = refl;
     refusal = λ r q. (refl, refl);
   }
@@ -86,6 +88,7 @@ module _ (bytes : List ℕ) (count : ℕ) (sound : Sound bytes count) where
         answered = λ _. sym (ap (λ (r : NameResult). r .answer) plain);
         names = λ _. names-more bytes count name sound allowed many lent n ∙ sym (ap (λ (r : NameResult). r .names) plain);
         sound = λ _. sound-more bytes count name sound allowed many lent n;
+        same-lent = ap (λ (k : ℕ). k / entryBytes) (put-length bytes count (entryOf name) (omega arith) (entry-of-length name (allowed .longest)));
         past = put-past bytes count (entryOf name) (omega arith) (entry-of-length name (allowed .longest));
         refusal = λ r e. let z : _≡_ {A = ℕ} 0 1 = cc in absurd (omega arith);
       }

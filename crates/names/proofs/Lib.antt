@@ -7,3 +7,4 @@ pub mod Finding
 pub mod Listing
 pub mod Storing
 pub mod Calling
+pub mod Modelled

@@ -1,34 +1,18 @@
 -- The names of a list, and the number of a name among them.
 use Prim.Native.Nat.{ℕ, zero, suc, _+_, _<_}
 use mathlib.Core.Path.{_≡_, refl, sym, ap, _∙_, subst}
-use mathlib.Core.Bool.{Bool, true, false, false≢true}
+use mathlib.Core.Bool.{Bool, true, false}
 use mathlib.Core.Option.{none, some}
 use mathlib.Core.List.{List, [], _∷_, _++_}
 use lib.ListN.{length, getD, length-append, List·getD-append}
 use lib.Seq.{getD-at}
-use lib.Dec.{eqb}
 use native.Mathlib.Nat.{add-zero, add-suc, suc-add}
 use native.Mathlib.Numerals.{add-one}
 use native.Mathlib.Omega.{arith}
 use native.Mathlib.Decide.{decLt}
-use borrow.Author.Tests.{eq-eqb, eqb-true}
 use Rattle.definitions.specs.Names.{sameName, numberFrom}
-use Rattle.definitions.proofs.Deciding.{both}
+use Rattle.definitions.proofs.NameLists.{same-self, same-one}
 use Rattle.names.specs.Sound.{namesOf, nameAt}
-
-same-self : (a : List ℕ) → sameName a a ≡ true
-unfolding sameName
-same-self [] = refl
-same-self (x ∷ a) = rw (eq-eqb x x refl, same-self a) refl
-
-same-one : (a b : List ℕ) → sameName a b ≡ true → a ≡ b
-unfolding sameName
-same-one [] [] e = refl
-same-one [] (y ∷ b) e = absurd (false≢true e)
-same-one (x ∷ a) [] e = absurd (false≢true e)
-same-one (x ∷ a) (y ∷ b) e =
-    let h = both (eqb x y) (sameName a b) e in
-    rw (eqb-true x y (h .0), same-one a b (h .1)) refl
 
 same-other : (a b : List ℕ) → (a ≡ b → ⊥) → sameName a b ≡ false
 same-other a b n = go (sameName a b) refl

@@ -45,6 +45,7 @@ pub record Called (bytes : List ℕ) (count : ℕ) (call : NameCall) (answer : N
   pub answered : Sound bytes count → answer ≡ plainly bytes count call .answer
   pub names : Sound bytes count → namesOf bytes′ count′ ≡ plainly bytes count call .names
   pub sound : Sound bytes count → Sound bytes′ count′
+  pub same-lent : lentEntries bytes′ ≡ lentEntries bytes
   pub past : drop (count′ * entryBytes) bytes′ ≡ drop (count′ * entryBytes) bytes
   pub refusal : (r : ℕ) → answer ≡ refused r → (bytes′ ≡ bytes) × (count′ ≡ count)
 

@@ -2,3 +2,4 @@ pub mod Entry
 pub mod Sound
 pub mod Buckets
 pub mod Calls
+pub mod Memory

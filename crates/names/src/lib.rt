@@ -40,6 +40,13 @@ enum Found {
     Nothing,
 }
 
+// Whether a name list is sound.
+pub fn is_sound(entries: &[u8], count: usize) -> bool
+    ensures { λ r. ⌜ Says r (Sound (now (entries .entry)) count) ⌝ }
+{
+    audit::audit(entries, count)
+}
+
 // The number of the entry `key`.
 fn find(entries: &[u8], count: usize, key: &[u8]) -> Found
     requires { ⌜ (count * entryBytes ≤ length (now entries)) × (length (now key) ≡ entryBytes) ⌝ }
@@ -56,7 +63,7 @@ fn find(entries: &[u8], count: usize, key: &[u8]) -> Found
 }
 
 // The number of a name whose length is allowed, found or new.
-fn intern_allowed(entries: &mut [u8], count: usize, name: &[u8]) -> Interned
+pub fn intern_allowed(entries: &mut [u8], count: usize, name: &[u8]) -> Interned
     requires { ⌜ Sound (now entries) count × Allowed (length (now name)) ⌝ }
     ensures { λ r. ⌜ Called (now (entries .entry)) count (internName (now (name .entry))) (answerOf (r .answer) []) (now (entries .exit)) (r .count) ⌝ }
 {

@@ -12,4 +12,3 @@ pub mod Marking
 pub mod Leaving
 pub mod Staying
 pub mod Determined
-pub mod Histories

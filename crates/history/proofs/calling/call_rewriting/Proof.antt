@@ -1,6 +1,6 @@
 use mathlib.Core.Path.{refl, sym, ap}
 use mathlib.Core.Option.{some}
-use Rattle.definitions.specs.Machine as M
+use Rattle.definitions.specs.Controller.{simplifying, pruning}
 use Rattle.history.specs.Encoding.{callOfCode}
 use Rattle.history.proofs.CodeCalls.{runs, last-rewriting}
 use borrow.Author.Needs.{needs}
@@ -24,7 +24,7 @@ same-length-2 c = search needs
 
 returns : tie.Need-returns
 unfolding callOfCode
-returns c = runs _ 15 _ _ _ _ _ _ _ _ _ _ _ _ (c .before .before .before .before .before .before .before .before .before .if1 .taken) (c .before .before .before .before .before .simplify .ensures) (c .simplified .ensures) (ap (λ n. some (M.simplify (c .before .before .before .before .before .before .before .before .before .before .before .before .before .args .a) (c .before .before .before .before .before .before .before .before .before .before .before .before .before .args .b) n)) (sym (c .before .before .before .before .before .before .wide .ensures)))
+returns c = runs _ 15 _ _ _ _ _ _ _ _ _ _ _ _ (c .before .before .before .before .before .before .before .before .before .if1 .taken) (c .before .before .before .before .before .simplify .ensures) (c .simplified .ensures) (ap (λ n. some (simplifying (c .before .before .before .before .before .before .before .before .before .before .before .before .before .args .a) (c .before .before .before .before .before .before .before .before .before .before .before .before .before .args .b) n)) (sym (c .before .before .before .before .before .before .wide .ensures)))
 
 wide-requires-2 : tie.Need-wide-requires-2
 wide-requires-2 c κs = search needs
@@ -43,7 +43,7 @@ same-length-4 c = search needs
 
 returns-2 : tie.Need-returns-2
 unfolding callOfCode
-returns-2 c = runs _ 16 _ _ _ _ _ _ _ _ _ _ _ _ (c .before .before .before .before .before .before .before .before .before .if2 .taken) (c .before .before .before .before .before .prune .ensures) (c .pruned .ensures) (ap (λ n. some (M.prune (c .before .before .before .before .before .before .before .before .before .before .before .before .before .before .args .a) n)) (sym (c .before .before .before .before .before .before .wide2 .ensures)))
+returns-2 c = runs _ 16 _ _ _ _ _ _ _ _ _ _ _ _ (c .before .before .before .before .before .before .before .before .before .if2 .taken) (c .before .before .before .before .before .prune .ensures) (c .pruned .ensures) (ap (λ n. some (pruning (c .before .before .before .before .before .before .before .before .before .before .before .before .before .before .args .a) n)) (sym (c .before .before .before .before .before .before .wide2 .ensures)))
 
 prune-by-setting-requires : tie.Need-prune-by-setting-requires
 prune-by-setting-requires c κs = search needs

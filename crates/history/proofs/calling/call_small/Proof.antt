@@ -1,6 +1,7 @@
 use mathlib.Core.Path.{refl, sym, ap}
 use mathlib.Core.Option.{some}
 use Rattle.definitions.specs.Machine as M
+use Rattle.definitions.specs.Controller.{building}
 use Rattle.history.specs.Encoding.{callOfCode}
 use Rattle.history.proofs.CodeCalls.{runs, last-small}
 use borrow.Author.Needs.{needs}
@@ -40,7 +41,7 @@ same-length-4 c = search needs
 
 returns-2 : tie.Need-returns-2
 unfolding callOfCode
-returns-2 c = runs _ 1 _ _ _ _ _ _ _ _ _ _ _ _ (c .before .before .before .before .before .before .before .before .before .if2 .taken) (c .before .before .before .before .before .constant .ensures) (c .stored2 .ensures) (ap (λ n. some (M.store (M.constant n))) (sym (c .before .before .before .before .before .before .wide .ensures)))
+returns-2 c = runs _ 1 _ _ _ _ _ _ _ _ _ _ _ _ (c .before .before .before .before .before .before .before .before .before .if2 .taken) (c .before .before .before .before .before .constant .ensures) (c .stored2 .ensures) (ap (λ n. some (building (M.constant n))) (sym (c .before .before .before .before .before .before .wide .ensures)))
 
 add-requires : tie.Need-add-requires
 add-requires c κs = search needs

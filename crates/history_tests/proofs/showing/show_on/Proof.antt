@@ -26,19 +26,22 @@ slice-aggregate-replay-2 : tie.Need-slice-aggregate-replay-2
 slice-aggregate-replay-2 c = simp length-take (omega arith)
 
 slice-aggregate-replay-3 : tie.Need-slice-aggregate-replay-3
-slice-aggregate-replay-3 c = simp length-take (omega arith)
+slice-aggregate-replay-3 c = search needs
+
+slice-aggregate-replay-4 : tie.Need-slice-aggregate-replay-4
+slice-aggregate-replay-4 c = simp length-take (omega arith)
 
 replay-requires : tie.Need-replay-requires
 replay-requires c κs = search needs
 
-enum-known-replayed : tie.Need-enum-known-replayed
-enum-known-replayed c = search needs
+enum-told : tie.Need-enum-told
+enum-told c = search needs
 
 show-run-requires : tie.Need-show-run-requires
 show-run-requires c κs = search needs
 
-enum-known-replayed-2 : tie.Need-enum-known-replayed-2
-enum-known-replayed-2 c = search needs
+enum-known-opening : tie.Need-enum-known-opening
+enum-known-opening c = search needs
 
 slice-aggregate-number : tie.Need-slice-aggregate-number
 slice-aggregate-number c = search needs
@@ -70,10 +73,11 @@ show-on-spec =
     array-borrow-prefix-slots
     slice-aggregate-replay-2
     slice-aggregate-replay-3
+    slice-aggregate-replay-4
     replay-requires
-    enum-known-replayed
+    enum-told
     show-run-requires
-    enum-known-replayed-2
+    enum-known-opening
     slice-aggregate-number
     number-requires
     slice-aggregate-text

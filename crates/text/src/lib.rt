@@ -1,0 +1,69 @@
+// Formulas typed as text: a text is checked and compiled to a postfix program by four readers that call each other, and the program is run
+// over the name list and the store by one loop.
+mod bytes;
+mod checking;
+mod making;
+mod numbers;
+mod places;
+mod readers;
+mod scanning;
+
+ghost use Rattle.text.specs.Making.{desk};
+ghost use Rattle.text.specs.Reading.{Reads};
+use arena::DagArena;
+use checking::Checked;
+use checking::any_nan;
+use checking::compile;
+use definitions::refusals::NOT_SOUND;
+pub use making::Made;
+use making::run_program;
+use store::Answer;
+use text_language::MOST_BYTES;
+
+const NOT_A_NUMBER: u64 = 10;
+
+// The node of a text, or 20, 1, 11, 12, 10, and then 24, 21 or 22 with the names and nodes made before.
+pub fn read(
+    text: &[u8],
+    nodes: &mut [u64],
+    slots: &mut [u32],
+    arena: DagArena,
+    entries: &mut [u8],
+    names: usize,
+) -> Made
+    ensures { λ r. ⌜ Reads (now (text .entry)) (desk (now (nodes .entry)) (now (slots .entry)) arena (now (entries .entry)) names) (r .answer) (desk (now (nodes .exit)) (now (slots .exit)) (r .arena) (now (entries .exit)) (r .names)) ⌝ }
+{
+    if !store::audit(nodes, slots, arena) {
+        return Made {
+            answer: Answer::Refused(NOT_SOUND),
+            arena,
+            names,
+        };
+    }
+    if !names::is_sound(entries, names) {
+        return Made {
+            answer: Answer::Refused(NOT_SOUND),
+            arena,
+            names,
+        };
+    }
+    let mut program = [0u16; MOST_BYTES];
+    let checked = compile(text, &mut program);
+    match checked {
+        Checked::Program(size) => {
+            if any_nan(text, &program, size) {
+                return Made {
+                    answer: Answer::Refused(NOT_A_NUMBER),
+                    arena,
+                    names,
+                };
+            }
+            run_program(text, &program, size, nodes, slots, arena, entries, names)
+        }
+        Checked::Refused(number) => Made {
+            answer: Answer::Refused(number),
+            arena,
+            names,
+        },
+    }
+}

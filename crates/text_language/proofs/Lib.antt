@@ -1,0 +1,10 @@
+pub mod Sound
+pub mod Complete
+pub mod Or
+pub mod Place
+pub mod Atoms
+pub mod Scanning
+pub mod Waiting
+pub mod Signs
+pub mod Tokens
+pub mod Reading

@@ -1,0 +1,7 @@
+pub mod Grammar
+pub mod Reader
+pub mod Places
+pub mod Scan
+pub mod Program
+pub mod Reading
+pub mod Examples
