@@ -1,5 +1,6 @@
--- The numbers of document 01's refusals, by what they say.
+-- The numbers of the refusals of documents 01 and 02, by what they say. Those that a text meets stand with the language.
 use Prim.Native.Nat.{ℕ}
+pub use Rattle.text_language.specs.Refusals.{badText, notANumber, outsideLanguage, nestedTooDeep}
 
 -- 1: sheet empty, over 16,384 bytes, or first byte not 1
 abbrev pub badSheet : ℕ
@@ -36,6 +37,14 @@ badSetting = 8
 -- 9: name length
 abbrev pub badNameLength : ℕ
 badNameLength = 9
+
+-- 13: a node that has no text, or a symbol without a name of the text's form (02 d)
+abbrev pub noText : ℕ
+noText = 13
+
+-- 14: text over 8,192 bytes, longer than the lent text buffer, or too deep for reading (02 d)
+abbrev pub textTooLong : ℕ
+textTooLong = 14
 
 -- 20: store or name list not sound
 abbrev pub notSound : ℕ

@@ -1,4 +1,5 @@
-// The numbers of 01's refusals, each with what 01 says of it. `specs/Refusals` has the same numbers for the statements.
+// The numbers of the refusals, each with what 01 or 02 says of it. `specs/Refusals` has the same numbers for the statements; those that a text
+// meets stand in text_language.
 
 // "sheet empty, over 16,384 bytes, or first byte not 1"
 pub const BAD_SHEET: u64 = 1;
@@ -18,6 +19,10 @@ pub const BAD_THRESHOLD: u64 = 7;
 pub const BAD_SETTING: u64 = 8;
 // "name length"
 pub const BAD_NAME_LENGTH: u64 = 9;
+// "a node that has no text, or a symbol without a name of the text's form"
+pub const NO_TEXT: u64 = 13;
+// "text over 8,192 bytes, longer than the lent text buffer, or too deep for reading"
+pub const TEXT_TOO_LONG: u64 = 14;
 // "store or name list not sound"
 pub const NOT_SOUND: u64 = 20;
 // "no place for a new node"

@@ -12,14 +12,11 @@ use crate::numbers::bits_at;
 use crate::readers::Look;
 use crate::readers::sum;
 use crate::scanning::scan;
+use text_language::BAD_TEXT;
 use text_language::MOST_BYTES;
 use text_language::MOST_NESTED;
-
-const BAD_SIZE: u64 = 1;
-
-const OUTSIDE: u64 = 11;
-
-const TOO_DEEP: u64 = 12;
+use text_language::NESTED_TOO_DEEP;
+use text_language::OUTSIDE_LANGUAGE;
 
 // With the sign's bit off, the patterns above the infinity's are those of NaN.
 const BITS_OF_INFINITY: u64 = 0x7ff0_0000_0000_0000;
@@ -39,19 +36,19 @@ pub(crate) fn compile(text: &[u8], program: &mut [u16]) -> Checked
     ensures { λ r. ⌜ Compiles (now (text .entry)) (now (program .exit)) r ⌝ }
 {
     if text.len() == 0 {
-        return Checked::Refused(BAD_SIZE);
+        return Checked::Refused(BAD_TEXT);
     }
     if text.len() > MOST_BYTES {
-        return Checked::Refused(BAD_SIZE);
+        return Checked::Refused(BAD_TEXT);
     }
     if !scan(text) {
-        return Checked::Refused(OUTSIDE);
+        return Checked::Refused(OUTSIDE_LANGUAGE);
     }
     let look = sum(text, 0, MOST_NESTED, program, 0);
     match look {
         Look::Past { next: _, size } => Checked::Program(size),
-        Look::Bad => Checked::Refused(OUTSIDE),
-        Look::Deep => Checked::Refused(TOO_DEEP),
+        Look::Bad => Checked::Refused(OUTSIDE_LANGUAGE),
+        Look::Deep => Checked::Refused(NESTED_TOO_DEEP),
     }
 }
 

@@ -19,8 +19,7 @@ pub use making::Made;
 use making::run_program;
 use store::Answer;
 use text_language::MOST_BYTES;
-
-const NOT_A_NUMBER: u64 = 10;
+use text_language::NOT_A_NUMBER;
 
 // The node of a text, or 20, 1, 11, 12, 10, and then 24, 21 or 22 with the names and nodes made before.
 pub fn read(

@@ -6,6 +6,7 @@ use mathlib.Core.List.{List, [], _∷_}
 use lib.ListN.{length}
 use lib.Dec.{leb, eqb}
 use lib.Ieee.{binary64, nanBits}
+use Rattle.text_language.specs.Refusals.{badText, notANumber, outsideLanguage, nestedTooDeep}
 use Rattle.text_language.specs.Grammar.{Expr, Text, chain, sums}
 use Rattle.text_language.specs.Reader.{Got, got, bad, level, read}
 use Rattle.text_language.specs.Scan.{ended}
@@ -37,11 +38,11 @@ anyNan (t ∷ ts) = elim (nanToken t) [ true ↦ true | false ↦ anyNan ts ]
 
 -- 1, 11, 12 and 10, in this order
 pub data Refuses (s : List ℕ) : ℕ → Type 0 where
-  empty : length s ≡ 0 → Refuses s 1
-  long : mostBytes < length s → Refuses s 1
-  outside : Sized s → ((e : Expr) (d : ℕ) → Text s e d → ⊥) → Refuses s 11
-  deep : {e : Expr} {d : ℕ} → Sized s → Text s e d → mostNested < d → Refuses s 12
-  nan : {e : Expr} {d : ℕ} → Sized s → Text s e d → d ≤ mostNested → anyNan (postfix e) ≡ true → Refuses s 10
+  empty : length s ≡ 0 → Refuses s badText
+  long : mostBytes < length s → Refuses s badText
+  outside : Sized s → ((e : Expr) (d : ℕ) → Text s e d → ⊥) → Refuses s outsideLanguage
+  deep : {e : Expr} {d : ℕ} → Sized s → Text s e d → mostNested < d → Refuses s nestedTooDeep
+  nan : {e : Expr} {d : ℕ} → Sized s → Text s e d → d ≤ mostNested → anyNan (postfix e) ≡ true → Refuses s notANumber
 
 -- a text that meets none of these denotes e
 pub record Denotes (s : List ℕ) (e : Expr) : Type 0 where
@@ -59,17 +60,17 @@ pub data Verdict : Type 0 where
 
 unfoldable pub judge : Got → Verdict
 unfolding ended anyNan postfix
-judge bad = refuses 11
+judge bad = refuses outsideLanguage
 judge (got e d r) =
     cond (ended r)
-    (cond (leb d mostNested) (cond (anyNan (postfix e)) (refuses 10) (denotes e)) (refuses 12))
-    (refuses 11)
+    (cond (leb d mostNested) (cond (anyNan (postfix e)) (refuses notANumber) (denotes e)) (refuses nestedTooDeep))
+    (refuses outsideLanguage)
 
 unfoldable pub verdict : List ℕ → Verdict
 unfolding read judge
 verdict s =
-    cond (eqb (length s) 0) (refuses 1)
-    (cond (leb (length s) mostBytes) (judge (read (4 * length s + 4) (level (chain sums)) s)) (refuses 1))
+    cond (eqb (length s) 0) (refuses badText)
+    (cond (leb (length s) mostBytes) (judge (read (4 * length s + 4) (level (chain sums)) s)) (refuses badText))
 
 abbrev pub Judged : List ℕ → Verdict → Type 0
 Judged s (refuses k) = Refuses s k
