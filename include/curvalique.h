@@ -88,7 +88,13 @@ extern "C" {
 #define CURVALIQUE_BAD_THRESHOLD 7    /* a threshold that is NaN or has the sign bit */
 #define CURVALIQUE_BAD_SETTING 8      /* a setting that is not 10 to 100 */
 #define CURVALIQUE_BAD_NAME_LENGTH 9  /* a name that is empty or over 32 bytes */
-#define CURVALIQUE_NOT_SOUND 20       /* the store or the name list is not as 01 says of every sound one */
+#define CURVALIQUE_BAD_TEXT 1         /* a text that is empty or over 8,192 bytes */
+#define CURVALIQUE_NOT_A_NUMBER 10    /* a constant whose bits are a NaN */
+#define CURVALIQUE_OUTSIDE_LANGUAGE 11 /* a text that is no formula of the language */
+#define CURVALIQUE_NESTED_TOO_DEEP 12 /* brackets, minus factors and powers nested over 64 deep */
+#define CURVALIQUE_NO_TEXT 13         /* a node that has no text, or a symbol without a name that a text can have */
+#define CURVALIQUE_TEXT_TOO_LONG 14   /* a text over 8,192 bytes, longer than the lent buffer, or nested too deep */
+#define CURVALIQUE_NOT_SOUND 20       /* the store or the name list is not sound */
 #define CURVALIQUE_NO_NODE_PLACE 21   /* no place for a new node */
 #define CURVALIQUE_NO_SLOT_PLACE 22   /* a new node needs a larger table than the lent slots */
 #define CURVALIQUE_TOO_MANY_TERMS 23  /* a chain of over 4,096 terms */

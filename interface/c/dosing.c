@@ -1,10 +1,10 @@
 /*
  * Builds the dosing formula of samples/dosing.txt by calls of the library,
  * simplifies it, prunes it, and reads its nodes back. Standard output gets the
- * listing that document 01 describes, which the loader reads; standard error
- * gets what simplify and prune report.
+ * listing, which the loader reads; standard error gets what simplify and prune
+ * report.
  */
-#include "curvalique.h"
+#include "curvalique_store.h"
 
 #include <inttypes.h>
 #include <stdio.h>
@@ -21,16 +21,9 @@
 #define BUDGET 1000000
 #define THRESHOLD 0.01
 
-/* Places of a node's words. */
-enum { KIND = 0, PAYLOAD = 1, FLAGS = 4, CHILD_COUNT = 5, FIRST_CHILD = 6 };
-
 static uint64_t nodes[NODES * CURVALIQUE_NODE_WORDS];
 static uint32_t slots[SLOTS];
-static uint64_t count;
-static size_t size;
-
-/* The arguments that every call on the store has. */
-#define STORE nodes, NODES *CURVALIQUE_NODE_WORDS, slots, SLOTS, &count, &size
+static struct curvalique_store store;
 
 static void answered(const char *call, uint64_t refusal) {
     if (refusal != 0) {
@@ -46,27 +39,27 @@ static uint64_t bits_of(double value) {
 }
 
 static uint32_t variable(uint32_t symbol) {
-    uint64_t id;
-    answered("variable", curvalique_variable(STORE, symbol, &id));
-    return (uint32_t)id;
+    uint32_t id = 0;
+    answered("variable", curvalique_store_variable(&store, symbol, &id));
+    return id;
 }
 
 static uint32_t constant(double value) {
-    uint64_t id;
-    answered("constant", curvalique_constant(STORE, bits_of(value), &id));
-    return (uint32_t)id;
+    uint32_t id = 0;
+    answered("constant", curvalique_store_constant(&store, bits_of(value), &id));
+    return id;
 }
 
 static uint32_t add(uint32_t a, uint32_t b) {
-    uint64_t id;
-    answered("add", curvalique_add(STORE, a, b, &id));
-    return (uint32_t)id;
+    uint32_t id = 0;
+    answered("add", curvalique_store_add(&store, a, b, &id));
+    return id;
 }
 
 static uint32_t mul(uint32_t a, uint32_t b) {
-    uint64_t id;
-    answered("mul", curvalique_mul(STORE, a, b, &id));
-    return (uint32_t)id;
+    uint32_t id = 0;
+    answered("mul", curvalique_store_mul(&store, a, b, &id));
+    return id;
 }
 
 /* 2 * (flow * 1.0) + 0.5 * chlorine + 0.004 */
@@ -79,36 +72,37 @@ static uint32_t formula(void) {
 }
 
 static uint32_t simplify(uint32_t root) {
-    uint64_t id, spent, steps;
-    answered("simplify", curvalique_simplify(STORE, root, DEPTH, BUDGET, &id, &spent, &steps));
-    fprintf(stderr, "simplified %" PRIu32 " to %" PRIu64, root, id);
-    fprintf(stderr, ": spent %" PRIu64 ", steps %" PRIu64 "\n", spent, steps);
-    return (uint32_t)id;
+    struct curvalique_simplified answer;
+    answered("simplify", curvalique_store_simplify(&store, root, DEPTH, BUDGET, &answer));
+    fprintf(stderr, "simplified %" PRIu32 " to %" PRIu32, root, answer.id);
+    fprintf(stderr, ": spent %" PRIu64 ", steps %" PRIu64 "\n", answer.spent, answer.steps);
+    return answer.id;
 }
 
 static uint32_t prune(uint32_t root) {
-    uint64_t id, kept, dropped;
-    answered("prune", curvalique_prune(STORE, root, bits_of(THRESHOLD), &id, &kept, &dropped));
-    fprintf(stderr, "pruned %" PRIu32 " to %" PRIu64, root, id);
-    fprintf(stderr, ": kept %" PRIu64 ", dropped %" PRIu64 "\n", kept, dropped);
-    return (uint32_t)id;
+    struct curvalique_pruned answer;
+    answered("prune", curvalique_store_prune(&store, root, bits_of(THRESHOLD), &answer));
+    fprintf(stderr, "pruned %" PRIu32 " to %" PRIu32, root, answer.id);
+    fprintf(stderr, ": kept %" PRIu64 ", dropped %" PRIu64 "\n", answer.kept, answer.dropped);
+    return answer.id;
 }
 
 static void print_node(uint32_t id) {
-    uint64_t words[CURVALIQUE_NODE_WORDS];
-    answered("node", curvalique_node(nodes, NODES * CURVALIQUE_NODE_WORDS, slots, SLOTS, count, size, id, words));
-    printf("%" PRIu32 " %" PRIu64 " %016" PRIX64 " %" PRIu64, id, words[KIND], words[PAYLOAD], words[FLAGS]);
-    for (uint64_t child = 0; child < words[CHILD_COUNT]; child++) {
-        printf(" %" PRIu64, words[FIRST_CHILD + child]);
+    struct curvalique_node_parts node = {0};
+    answered("node", curvalique_store_node(&store, id, &node));
+    printf("%" PRIu32 " %" PRIu64 " %016" PRIX64 " %" PRIu64, id, node.kind, node.payload, node.flags);
+    for (uint64_t child = 0; child < node.child_count; child++) {
+        printf(" %" PRIu64, node.children[child]);
     }
     printf("\n");
 }
 
 int main(void) {
-    answered("fresh", curvalique_fresh(STORE));
+    store = curvalique_store_in(nodes, NODES * CURVALIQUE_NODE_WORDS, slots, SLOTS);
+    answered("fresh", curvalique_store_fresh(&store));
     uint32_t answer = prune(simplify(formula()));
     printf("ok %" PRIu32 "\n", answer);
-    for (uint32_t id = 0; id < count; id++) {
+    for (uint32_t id = 0; id < store.count; id++) {
         print_node(id);
     }
     return 0;

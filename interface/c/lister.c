@@ -1,6 +1,6 @@
 /*
- * Reads a sheet of document 01 from standard input and writes its listing, as
- * the program `listing` does.
+ * Reads a sheet from standard input and writes its listing, as the program
+ * `listing` does.
  */
 #include "curvalique.h"
 

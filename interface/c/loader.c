@@ -3,7 +3,7 @@
  * number, and prints the value of the answer, in decimal and as its bits.
  * Functions and controls are refused, and so is an answer that is not finite.
  */
-#include "curvalique.h"
+#include "curvalique_store.h"
 
 #include <inttypes.h>
 #include <math.h>
@@ -17,16 +17,8 @@
 /* As many as the listing program's store has. */
 #define NODES 512
 
-/* Kinds of nodes, and the places of a node's words. */
+/* Kinds of nodes. */
 enum { VARIABLE = 0, CONSTANT = 1, ADD = 2, SUB = 3, MUL = 4, DIV = 5, POW = 6, MOD = 7, NEG = 8, FUNCTION = 16 };
-enum { KIND = 0, PAYLOAD = 1, CHILD_COUNT = 5, FIRST_CHILD = 6 };
-
-struct listing {
-    uint64_t nodes[NODES * CURVALIQUE_NODE_WORDS];
-    uint64_t count;
-    uint64_t form;
-    uint64_t answer;
-};
 
 struct variables {
     struct {
@@ -93,15 +85,12 @@ static size_t read_input(uint8_t *bytes, size_t most) {
 }
 
 /* Reads a listing that has an answer, which the reader sees to be one of its nodes. */
-static void read_listing(struct listing *listing) {
+static void read_listing(struct curvalique_listing *listing) {
     static uint8_t bytes[CURVALIQUE_LISTING_BYTES];
     size_t length = read_input(bytes, sizeof bytes);
-    uint64_t number, record, line;
-    uint64_t refusal = curvalique_read_listing(
-        bytes, length, listing->nodes, NODES * CURVALIQUE_NODE_WORDS, &listing->count,
-        &listing->form, &listing->answer, &number, &record, &line);
+    uint64_t refusal = curvalique_store_read_listing(listing, bytes, length);
     if (refusal == CURVALIQUE_WRONG_LINE) {
-        stop("line %" PRIu64 " of the listing is wrong", line);
+        stop("line %" PRIu64 " of the listing is wrong", listing->line);
     }
     if (refusal == CURVALIQUE_TOO_FEW_WORDS) {
         stop("the listing has more than %d nodes", NODES);
@@ -110,7 +99,7 @@ static void read_listing(struct listing *listing) {
         stop("the sheet has no records and no answer");
     }
     if (listing->form == CURVALIQUE_FORM_REFUSED) {
-        stop("the sheet is refused with %" PRIu64 " at record %" PRIu64, number, record);
+        stop("the sheet is refused with %" PRIu64 " at record %" PRIu64, listing->number, listing->record);
     }
 }
 
@@ -151,33 +140,38 @@ static double operator_value(uint64_t id, uint64_t kind, const double *children,
     return NAN;
 }
 
-/* The value of a node, from its own words and the values of nodes before it. */
-static double node_value(const uint64_t *words, uint64_t id, const double *values, const struct variables *variables) {
-    double children[CURVALIQUE_NODE_WORDS - FIRST_CHILD];
-    for (uint64_t place = 0; place < words[CHILD_COUNT]; place++) {
-        children[place] = values[words[FIRST_CHILD + place]];
+/* The value of a node, from itself and the values of nodes before it. */
+static double node_value(
+    const struct curvalique_node_parts *node, uint64_t id, const double *values, const struct variables *variables) {
+    double children[CURVALIQUE_MOST_CHILDREN];
+    for (uint64_t place = 0; place < node->child_count; place++) {
+        children[place] = values[node->children[place]];
     }
-    switch (words[KIND]) {
-    case VARIABLE: return variable_value(variables, id, words[PAYLOAD]);
-    case CONSTANT: return double_of(words[PAYLOAD]);
-    default: return operator_value(id, words[KIND], children, words[CHILD_COUNT]);
+    switch (node->kind) {
+    case VARIABLE: return variable_value(variables, id, node->payload);
+    case CONSTANT: return double_of(node->payload);
+    default: return operator_value(id, node->kind, children, node->child_count);
     }
 }
 
 int main(int argc, char **argv) {
-    static struct listing listing;
+    static uint64_t words[NODES * CURVALIQUE_NODE_WORDS];
     static double values[NODES];
+    struct curvalique_listing listing = {0};
     struct variables variables = read_arguments(argc - 1, argv + 1);
+    listing.nodes = words;
+    listing.node_words = sizeof words / sizeof *words;
     read_listing(&listing);
     for (uint64_t id = 0; id < listing.count; id++) {
-        values[id] = node_value(listing.nodes + id * CURVALIQUE_NODE_WORDS, id, values, &variables);
+        struct curvalique_node_parts node = curvalique_listed_node(&listing, id);
+        values[id] = node_value(&node, id, values, &variables);
     }
     free(variables.given);
-    double value = values[listing.answer];
+    double value = values[listing.id];
     if (!isfinite(value)) {
-        stop("the value of node %" PRIu64 " is not finite", listing.answer);
+        stop("the value of node %" PRIu64 " is not finite", listing.id);
     }
     const char *spent = listing.form == CURVALIQUE_FORM_SPENT ? " (spent)" : "";
-    printf("node %" PRIu64 "%s: %.6f %016" PRIX64 "\n", listing.answer, spent, value, bits_of(value));
+    printf("node %" PRIu64 "%s: %.6f %016" PRIX64 "\n", listing.id, spent, value, bits_of(value));
     return 0;
 }

@@ -1,6 +1,6 @@
 //! Builds the dosing formula of samples/dosing.txt by calls of the library, simplifies it, prunes it, and reads its
-//! nodes back. Standard output gets the listing that document 01 describes, which the loader reads; standard error gets
-//! what simplify and prune report.
+//! nodes back. Standard output gets the listing, which the loader reads; standard error gets what simplify and prune
+//! report.
 
 use std::process::ExitCode;
 

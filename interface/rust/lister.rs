@@ -1,4 +1,4 @@
-//! Reads a sheet of document 01 from standard input and writes its listing, as the program `listing` does.
+//! Reads a sheet from standard input and writes its listing, as the program `listing` does.
 
 use std::io::{Read, Result, Write, stdin, stdout};
 

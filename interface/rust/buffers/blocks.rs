@@ -61,7 +61,7 @@ impl Blocks {
 
     /// Calls the library on this store.
     pub fn call<T>(&mut self, call: impl FnOnce(&mut Store) -> T) -> T {
-        let mut store = Store { nodes: &mut self.nodes, slots: &mut self.slots, count: self.count, size: self.size };
+        let mut store = Store::lent(&mut self.nodes, &mut self.slots, self.count, self.size);
         let answer = call(&mut store);
         (self.count, self.size) = (store.count, store.size);
         answer

@@ -10,7 +10,7 @@ const FEW_NODES: u32 = 3;
 
 fn try_empty_stores() {
     check(Store::fresh(&mut [], &mut []).err() == Some(Refusal::NO_SLOT_PLACE), "no slots");
-    let mut lists = Store { nodes: &mut [], slots: &mut [], count: 0, size: FEWEST_SLOTS };
+    let mut lists = Store::lent(&mut [], &mut [], 0, FEWEST_SLOTS);
     check(lists.variable(1) == Err(Refusal::NOT_SOUND), "no lists");
     let mut blocks = Blocks::fresh(0, FEWEST_SLOTS);
     check(blocks.call(|store| store.variable(1)) == Err(Refusal::NO_NODE_PLACE), "a store without nodes");
@@ -18,7 +18,7 @@ fn try_empty_stores() {
 }
 
 fn try_empty_bytes() {
-    let mut names = Names { entries: &mut [], count: 0 };
+    let mut names = Names::lent(&mut [], 0);
     check(names.intern(b"x") == Err(Refusal::NO_NAME_PLACE), "no place for a name");
     check(names.intern(b"") == Err(Refusal::BAD_NAME_LENGTH), "an empty name");
     let mut room = Box::new([UNTOUCHED_BYTE; LISTING_BYTES]);

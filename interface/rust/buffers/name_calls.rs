@@ -27,7 +27,7 @@ fn one_call(trial: &mut Trial, names: &mut Names) -> Result<(), Refusal> {
 pub fn try_names(trial: &mut Trial, rounds: u64) {
     for _ in 0..rounds {
         let mut entries = filled_block(UNTOUCHED_BYTE, trial.place(MOST_ENTRIES * ENTRY_BYTES));
-        let mut names = Names { entries: &mut entries, count: 0 };
+        let mut names = Names::lent(&mut entries, 0);
         for _ in 0..CALLS {
             check(one_call(trial, &mut names) != Err(Refusal::NOT_SOUND), "a sound name list stays sound");
         }

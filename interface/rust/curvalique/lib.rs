@@ -1,4 +1,7 @@
-//! Safe calls of libcurvalique. What each call does is said in include/curvalique.h.
+//! Safe calls of libcurvalique. What each call does is said in include/curvalique.h and docs/REFERENCE.md.
+//!
+//! Structs here grow with the library: they are made by functions, and a program that names the fields it reads compiles
+//! unchanged when others come.
 
 mod listing;
 mod names;

@@ -4,12 +4,19 @@ use crate::refusal::answered;
 use crate::{LONGEST_NAME, Refusal, raw};
 
 /// A name list. Its bytes and its count may hold anything: every call looks them over first.
+#[derive(Default)]
+#[non_exhaustive]
 pub struct Names<'lent> {
     pub entries: &'lent mut [u8],
     pub count: usize,
 }
 
-impl Names<'_> {
+impl<'lent> Names<'lent> {
+    /// A name list in lent bytes, with a count of names; 0 makes it an empty one.
+    pub fn lent(entries: &'lent mut [u8], count: usize) -> Self {
+        Self { entries, count }
+    }
+
     /// The number of a name, which is added if it is new.
     pub fn intern(&mut self, name: &[u8]) -> Result<u64, Refusal> {
         let mut number = 0;

@@ -1,4 +1,4 @@
-//! A sheet of document 01, run on a store.
+//! A sheet, run on a store.
 
 use crate::{FORM_EMPTY, FORM_SPENT, Refusal, Store, raw};
 

@@ -1,21 +1,27 @@
 //! A store in lent lists: store calls, simplify and prune.
 
 use crate::refusal::answered;
-use crate::{NODE_WORDS, Refusal, raw};
+use crate::{NODE_WORDS, Names, Refusal, raw};
 
+/// The words of a node before its children's.
+const FIRST_CHILD: usize = 6;
 /// The places for children in a node's words, at their end.
-const CHILD_PLACES: usize = 4;
+const CHILD_PLACES: usize = NODE_WORDS - FIRST_CHILD;
 
-/// A store. Its lists and numbers may hold anything: every call looks them over first and refuses what is not sound.
+/// A store and the lists beside it. Lists and numbers may hold anything: every call looks over what it takes first and
+/// refuses what is not sound. Without `lend_names` its name list has no places.
+#[non_exhaustive]
 pub struct Store<'lent> {
     pub nodes: &'lent mut [u64],
     pub slots: &'lent mut [u32],
     pub count: u64,
     pub size: usize,
+    pub names: Names<'lent>,
 }
 
 /// A node as it is read back.
 #[derive(Clone, Copy, PartialEq, Eq, Debug)]
+#[non_exhaustive]
 pub struct Node {
     pub kind: u64,
     pub payload: u64,
@@ -40,6 +46,7 @@ impl Node {
 
 /// What a simplify answers.
 #[derive(Clone, Copy, PartialEq, Eq, Debug)]
+#[non_exhaustive]
 pub struct Simplified {
     pub id: u32,
     pub spent: bool,
@@ -48,6 +55,7 @@ pub struct Simplified {
 
 /// What a prune answers.
 #[derive(Clone, Copy, PartialEq, Eq, Debug)]
+#[non_exhaustive]
 pub struct Pruned {
     pub id: u32,
     pub kept: u64,
@@ -77,11 +85,21 @@ macro_rules! call_for_id {
 }
 
 impl<'lent> Store<'lent> {
-    /// A fresh store.
+    /// A fresh store, without names.
     pub fn fresh(nodes: &'lent mut [u64], slots: &'lent mut [u32]) -> Result<Self, Refusal> {
-        let mut store = Self { nodes, slots, count: 0, size: 0 };
+        let mut store = Self::lent(nodes, slots, 0, 0);
         let returned = call!(store, curvalique_fresh,);
         answered(returned, store)
+    }
+
+    /// A store in lists that have been used before, with the numbers that it had then; without names.
+    pub fn lent(nodes: &'lent mut [u64], slots: &'lent mut [u32], count: u64, size: usize) -> Self {
+        Self { nodes, slots, count, size, names: Names::default() }
+    }
+
+    /// Lends the store a list for names, which is empty then.
+    pub fn lend_names(&mut self, entries: &'lent mut [u8]) {
+        self.names = Names::lent(entries, 0);
     }
 
     pub fn variable(&mut self, symbol: u32) -> Result<u32, Refusal> {
