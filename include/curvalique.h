@@ -1,11 +1,15 @@
 /*
  * Curvalique: a formula store, rewriter and pruner in memory that the caller
- * lends. Every function here is proved to do what document 01 says, or, where 01
- * has no such call, what is said at it, for every content of the lent lists; "01"
- * below is that document.
+ * lends. Every function here is proved to do what is said at it and in
+ * docs/REFERENCE.md, for every content of the lent lists. REFERENCE has what a
+ * sound store is, the rules of simplify, sheets and listings byte by byte, and
+ * what is promised of a formula's value.
  *
- * Linking: `rt staticlib curvalique` writes target/staticlib/libcurvalique.a,
- * for x86-64 Linux. It needs memcpy and memset of C's library and nothing else.
+ * curvalique_store.h beside this file has the same calls over one struct for a
+ * store and its lists.
+ *
+ * Linking: `interface/install PREFIX` puts libcurvalique.a, for x86-64 Linux, where
+ * pkg-config finds it. It needs memcpy and memset of C's library and nothing else.
  *
  * A STORE is two lent lists and two numbers. `nodes` holds the nodes, ten words
  * each (CURVALIQUE_NODE_WORDS), and `node_words` is how many words are lent;
@@ -74,12 +78,13 @@ extern "C" {
 #define CURVALIQUE_FORM_REFUSED 3  /* "refused", a refusal's number, "at" and its record */
 
 /* What curvalique_read_listing returns of bytes that it does not read: numbers
- * of its own, not refusals of 01. */
+ * of its own, not refusals. */
 #define CURVALIQUE_WRONG_LINE 1
 #define CURVALIQUE_TOO_FEW_WORDS 2
 
-/* Refusals. */
+/* Refusals; docs/REFERENCE.md says which call meets which, and what each leaves. */
 #define CURVALIQUE_BAD_SHEET 1        /* a sheet that is empty, over 16,384 bytes or does not begin with the byte 1 */
+#define CURVALIQUE_BAD_TEXT 1         /* a text that is empty or over 8,192 bytes */
 #define CURVALIQUE_BAD_RECORD 2       /* a record that goes past the sheet's end, is unknown or has a wrong length */
 #define CURVALIQUE_TOO_MANY_RECORDS 3 /* bytes after 1,024 records */
 #define CURVALIQUE_BAD_OPERAND 4      /* an id that is not below the count; in a sheet, no earlier record */
@@ -88,12 +93,11 @@ extern "C" {
 #define CURVALIQUE_BAD_THRESHOLD 7    /* a threshold that is NaN or has the sign bit */
 #define CURVALIQUE_BAD_SETTING 8      /* a setting that is not 10 to 100 */
 #define CURVALIQUE_BAD_NAME_LENGTH 9  /* a name that is empty or over 32 bytes */
-#define CURVALIQUE_BAD_TEXT 1         /* a text that is empty or over 8,192 bytes */
-#define CURVALIQUE_NOT_A_NUMBER 10    /* a constant whose bits are a NaN */
-#define CURVALIQUE_OUTSIDE_LANGUAGE 11 /* a text that is no formula of the language */
-#define CURVALIQUE_NESTED_TOO_DEEP 12 /* brackets, minus factors and powers nested over 64 deep */
-#define CURVALIQUE_NO_TEXT 13         /* a node that has no text, or a symbol without a name that a text can have */
-#define CURVALIQUE_TEXT_TOO_LONG 14   /* a text over 8,192 bytes, longer than the lent buffer, or nested too deep */
+#define CURVALIQUE_NOT_A_NUMBER 10    /* a constant whose bits are a NaN's */
+#define CURVALIQUE_OUTSIDE_LANGUAGE 11 /* a text that is not of the language */
+#define CURVALIQUE_NESTED_TOO_DEEP 12 /* a text that nests over 64 deep */
+#define CURVALIQUE_NO_TEXT 13         /* a node that has no text */
+#define CURVALIQUE_TEXT_TOO_LONG 14   /* a node whose text is too long or too deep */
 #define CURVALIQUE_NOT_SOUND 20       /* the store or the name list is not sound */
 #define CURVALIQUE_NO_NODE_PLACE 21   /* no place for a new node */
 #define CURVALIQUE_NO_SLOT_PLACE 22   /* a new node needs a larger table than the lent slots */
@@ -347,7 +351,7 @@ uint64_t curvalique_name(
  * ---- Sheets and listings ----
  *
  * A SHEET is bytes: the byte 1, then records, each of which builds a node,
- * simplifies or prunes; 01 has their layout. They are done in order on one
+ * simplifies or prunes; REFERENCE has their layout. They are done in order on one
  * store, which is looked over once, and an operand is the number of an earlier
  * record, from 0. A LISTING is text: a line that says how a sheet ended, in one
  * of the forms above, and a line for each node of its store, by rising id: id,
@@ -384,7 +388,7 @@ uint64_t curvalique_run_sheet_fresh(
 
 /*
  * Writes the listing of a sheet on a fresh store of 512 nodes and 1,024 slots of
- * its own, as 01's listing program prints it: the first `length` bytes of
+ * its own, as the program `listing` prints it: the first `length` bytes of
  * `listing`. What the bytes past them hold is not said. Refusals: none; the
  * listing's first line has a refusal of the sheet.
  */
@@ -400,10 +404,10 @@ void curvalique_list_sheet(
  * line's id, which is below the count; with CURVALIQUE_FORM_REFUSED `number` and
  * `record` are the line's; what it does not have, and `line`, stay as they were.
  * It is not asked that no two nodes are one, nor that a refusal's number and
- * record are such as 01 has: only that they are words of 64 bits. Nodes may also
- * follow `ok -`. Else reading ends at the first line that is wrong, is missing or
+ * record are such as a sheet gives: only that they are words of 64 bits. Nodes may
+ * also follow `ok -`. Else reading ends at the first line that is wrong, is missing or
  * whose node has no place, and all these but `line` stay. Refusals:
- * CURVALIQUE_WRONG_LINE if the line is not as 01 has it (but for what is not
+ * CURVALIQUE_WRONG_LINE if the line is not a listing's (but for what is not
  * asked), comes after 65,536 nodes, or is missing, where the bytes end before
  * the first line or before the node of its id; `line` is its number, from 1, and
  * the nodes before it are written. CURVALIQUE_TOO_FEW_WORDS if the node has no

@@ -15,6 +15,14 @@ static uint8_t listing[CURVALIQUE_LISTING_BYTES];
 int main(void) {
     size_t length;
     size_t sheet_length = fread(sheet, 1, sizeof sheet, stdin);
+    if (ferror(stdin)) {
+        fprintf(stderr, "lister: the sheet could not be read to its end\n");
+        return 1;
+    }
     curvalique_list_sheet(sheet, sheet_length, listing, &length);
-    return fwrite(listing, 1, length, stdout) == length ? 0 : 1;
+    if (fwrite(listing, 1, length, stdout) != length || fflush(stdout) != 0) {
+        fprintf(stderr, "lister: the listing could not be written\n");
+        return 1;
+    }
+    return 0;
 }

@@ -5,7 +5,6 @@ use crate::{LONGEST_NAME, Refusal, raw};
 
 /// A name list. Its bytes and its count may hold anything: every call looks them over first.
 #[derive(Default)]
-#[non_exhaustive]
 pub struct Names<'lent> {
     pub entries: &'lent mut [u8],
     pub count: usize,

@@ -8,6 +8,7 @@ pub struct Refusal(pub u64);
 
 impl Refusal {
     pub const BAD_SHEET: Self = Self(1);
+    pub const BAD_TEXT: Self = Self(1);
     pub const BAD_RECORD: Self = Self(2);
     pub const TOO_MANY_RECORDS: Self = Self(3);
     pub const BAD_OPERAND: Self = Self(4);
@@ -16,7 +17,6 @@ impl Refusal {
     pub const BAD_THRESHOLD: Self = Self(7);
     pub const BAD_SETTING: Self = Self(8);
     pub const BAD_NAME_LENGTH: Self = Self(9);
-    pub const BAD_TEXT: Self = Self(1);
     pub const NOT_A_NUMBER: Self = Self(10);
     pub const OUTSIDE_LANGUAGE: Self = Self(11);
     pub const NESTED_TOO_DEEP: Self = Self(12);
