@@ -19,14 +19,12 @@ fn folders() -> Vec<PathBuf> {
 fn main() {
     println!("cargo:rerun-if-env-changed=CURVALIQUE_LIB");
     let folders = folders();
-    for folder in &folders {
-        println!("cargo:rerun-if-changed={}", folder.join(ARCHIVE).display());
-    }
     let Some(folder) = folders.iter().find(|folder| folder.join(ARCHIVE).is_file()) else {
         eprintln!("{ARCHIVE} is in none of {folders:?}.");
         eprintln!("Build it with `interface/build library`, or set CURVALIQUE_LIB to the folder that has it.");
         exit(1);
     };
+    println!("cargo:rerun-if-changed={}", folder.join(ARCHIVE).display());
     println!("cargo:rustc-link-search=native={}", folder.display());
     println!("cargo:rustc-link-lib=static=curvalique");
 }
