@@ -1,5 +1,5 @@
 -- What plain soundness gives: each node fits its id, and no two ids have one formula.
-use Prim.Native.Nat.{ℕ, zero, suc, _-_, _<_, _≤_}
+use Prim.Native.Nat.{ℕ, zero, suc, _<_, _≤_}
 use mathlib.Core.Path.{_≡_, sym, _∙_, subst}
 use mathlib.Core.Bool.{true, _||_, _&&_}
 use mathlib.Core.List.{List, [], _∷_}

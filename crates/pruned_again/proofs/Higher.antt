@@ -13,7 +13,6 @@ use Rattle.definitions.specs.Intern.{Built, built, stopped, Lent}
 use Rattle.definitions.specs.Prune.{chain, keeps, filter, balancedAdd}
 use Rattle.definitions.specs.Threshold.{Threshold, bits, given}
 use Rattle.definitions.specs.Machine.{pruned, Outcome, outcome, prunedAs, pruneCall}
-use Rattle.definitions.specs.Formula.{formula}
 use Rattle.definitions.specs.Chain.{terms, isAdd}
 use Rattle.definitions.proofs.Intern.{Sound, Inj, Step, trans}
 use Rattle.definitions.proofs.Prune.{Flat, flat-filter, filter-length, clear-bits}

@@ -9,7 +9,7 @@ use lib.Dec.{eqb}
 use lib.Ieee.{binary64, ofBits}
 use Rattle.definitions.specs.Limits.{mostTerms, mostHalvings}
 use Rattle.definitions.specs.Node.{Node, at, addKind}
-use Rattle.definitions.specs.Intern.{Built, built, Lent}
+use Rattle.definitions.specs.Intern.{built, Lent}
 use Rattle.definitions.specs.Prune.{chain, keeps, balancedAdd}
 use Rattle.definitions.specs.Formula.{Tree, tree, formula}
 use Rattle.definitions.specs.Chain.{terms, termsAll, isAdd, Remains}

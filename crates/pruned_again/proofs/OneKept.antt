@@ -8,13 +8,13 @@ use native.Mathlib.Omega.{arith}
 use borrow.Author.Tests.{eq-eqb}
 use lib.Dec.{eqb}
 use lib.Ieee.{binary64, ofBits}
-use Rattle.definitions.specs.Limits.{infinityBits, mostTerms, mostHalvings}
+use Rattle.definitions.specs.Limits.{infinityBits, mostHalvings}
 use Rattle.definitions.specs.Node.{Node, at, same, addKind}
 use Rattle.definitions.specs.Intern.{built, Lent}
 use Rattle.definitions.specs.Prune.{chain, keeps, filter, balancedAdd}
 use Rattle.definitions.specs.Threshold.{Threshold, bits, given}
 use Rattle.definitions.specs.Machine.{pruned, outcome, pruneCall}
-use Rattle.definitions.specs.Formula.{Forest, nil, cons, tree, forest, formula}
+use Rattle.definitions.specs.Formula.{nil, tree, forest, formula}
 use Rattle.definitions.proofs.Stable.{opened}
 use Rattle.definitions.proofs.Intern.{Sound, T-true, eq-same}
 use Rattle.definitions.proofs.Prune.{Flat, flat-filter}

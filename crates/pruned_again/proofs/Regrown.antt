@@ -1,8 +1,8 @@
 -- What was built once is found again, at the same id, in every store that has grown from there.
-use Prim.Native.Nat.{ℕ, zero, suc, _+_, _-_, _/_, _<_}
+use Prim.Native.Nat.{ℕ, zero, suc, _+_, _/_, _<_}
 use mathlib.Core.Path.{_≡_, refl, sym, ap, _∙_}
 use mathlib.Core.Bool.{Bool, true, false}
-use mathlib.Core.List.{List, [], _∷_, _++_, append-assoc}
+use mathlib.Core.List.{List, [], _∷_, _++_, append-assoc, append-nil}
 use mathlib.Core.Option.{Option, none, some}
 use lib.ListN.{length, take, drop, List·getD-append}
 use native.Mathlib.Omega.{arith}
@@ -17,10 +17,6 @@ use Rattle.definitions.proofs.Intern.{eq-same, T-true}
 pub record Ext (ns ms : List Node) : Type 0 where
   pub rest : List Node
   pub is : ms ≡ ns ++ rest
-
-append-nil : (xs : List Node) → xs ++ [] ≡ xs
-append-nil [] = refl
-append-nil (x ∷ xs) = ap (λ l. x ∷ l) (append-nil xs)
 
 pub ext-refl : (ns : List Node) → Ext ns ns
 ext-refl ns = record { rest = []; is = sym (append-nil ns) }

@@ -1,20 +1,20 @@
 -- Prunes by setting among those at a threshold's bits.
 use Prim.Native.Nat.{ℕ, zero, suc, _-_, _≤_}
 use mathlib.Core.Path.{_≡_, refl, sym, _∙_, subst, subst₂}
-use mathlib.Core.Bool.{Bool, true, false, cond, _&&_}
+use mathlib.Core.Bool.{Bool, true, false, _&&_}
 use mathlib.Core.List.{List, [], _∷_}
 use lib.ListN.{length, getD, drop}
 use native.Mathlib.Omega.{arith}
-use borrow.Author.Tests.{leb-true}
+use borrow.Author.Tests.{leb-true, leb-false}
 use lib.Dec.{T, leb, leb→le}
 use lib.Ieee.{binary64, ofBits, le}
 use lib.Ieee.Fits.{and-l, and-r}
 use Rattle.definitions.specs.Limits.{infinityBits}
-use Rattle.definitions.specs.Refusals.{badSetting}
-use Rattle.definitions.specs.Threshold.{Threshold, bits, refusing, given}
+use Rattle.definitions.specs.Threshold.{bits}
 use Rattle.definitions.specs.Settings.{firstSetting, lastSetting, thresholds, threshold, setting}
 use Rattle.definitions.specs.Machine.{pruneBySetting}
 use Rattle.definitions.proofs.NearestSettings.{finite}
+use Rattle.definitions.proofs.SettingAnswers as Settings
 use Rattle.definitions.proofs.Prune.{clear-bits}
 use Rattle.pruned_again.specs.Plain.{NotBelow}
 use Rattle.pruned_again.specs.Stored.{Asks, by-setting, SettingAsks, SettingsRise}
@@ -28,13 +28,22 @@ pub record Listed (n t : ℕ) : Type 0 where
   pub is : threshold n ≡ t
 
 pub listed : (n t : ℕ) → setting n ≡ bits t → Listed n t
-unfolding setting
-listed n t e = by-tests (leb firstSetting n) (leb n lastSetting) refl refl e
+listed n t e = by-tests (leb firstSetting n) (leb n lastSetting) refl refl
   where
-    by-tests : (low high : Bool) → leb firstSetting n ≡ low → leb n lastSetting ≡ high → cond (low && high) (bits (threshold n)) (refusing badSetting) ≡ bits t → Listed n t
-    by-tests true true low high e = record { first = leb-true firstSetting n low; last = leb-true n lastSetting high; is = cc }
-    by-tests true false low high e = let z : _≡_ {A = ℕ} 0 1 = cc in absurd (omega arith)
-    by-tests false high low h e = let z : _≡_ {A = ℕ} 0 1 = cc in absurd (omega arith)
+    by-tests : (low high : Bool) → leb firstSetting n ≡ low → leb n lastSetting ≡ high → Listed n t
+    by-tests true true low high =
+        let first = leb-true firstSetting n low in
+        let last = leb-true n lastSetting high in
+        let same = sym (Settings.listed n first last) ∙ e in
+        record { first = first; last = last; is = cc }
+    by-tests true false low high =
+        let no-threshold = sym (Settings.above-last n (omega (arith, leb-false n lastSetting high))) ∙ e in
+        let z : _≡_ {A = ℕ} 0 1 = cc in
+        absurd (omega arith)
+    by-tests false high low h =
+        let no-threshold = sym (Settings.below-first n (omega (arith, leb-false firstSetting n low))) ∙ e in
+        let z : _≡_ {A = ℕ} 0 1 = cc in
+        absurd (omega arith)
 
 finite-at : (n t : ℕ) → setting n ≡ bits t → threshold n ≤ infinityBits
 finite-at n t e = let there = listed n t e in let below = finite n (there .first) (there .last) in omega arith
