@@ -9,26 +9,8 @@ use lib.Ieee.{ofBits, lt}
 use native.Mathlib.Omega.{arith}
 use Rattle.definitions.specs.Node.{Node, node, at, same, variableKind, constantKind, addKind, subKind, bothFlags}
 use Rattle.definitions.specs.Machine.{pruned, Outcome, outcome, allBelow, pruneCall}
-use Rattle.definitions.specs.Intern.{Lent}
+use Rattle.definitions.specs.Examples.{lent, hundredth, tenth, half, one, two}
 use Rattle.pruned_again.specs.Plain.{PlainlySound, NotFromOne, NotExchanged}
-
-abbrev lent : Lent
-lent = record { nodes = 512; slots = 1024 }
-
-abbrev hundredth : ℕ
-hundredth = 0x3F847AE147AE147B
-
-abbrev tenth : ℕ
-tenth = 0x3FB999999999999A
-
-abbrev half : ℕ
-half = 0x3FE0000000000000
-
-abbrev one : ℕ
-one = 0x3FF0000000000000
-
-abbrev two : ℕ
-two = 0x4000000000000000
 
 -- two leaves and an Add over them are plainly sound
 module _ (a b c : Node) (la : a .children ≡ []) (lb : b .children ≡ []) (lc : allBelow 2 (c .children) ≡ true) (fc : 0 < length (c .children))

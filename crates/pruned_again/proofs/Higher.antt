@@ -15,14 +15,14 @@ use Rattle.definitions.specs.Threshold.{Threshold, bits, given}
 use Rattle.definitions.specs.Machine.{pruned, Outcome, outcome, prunedAs, pruneCall}
 use Rattle.definitions.specs.Chain.{terms, isAdd}
 use Rattle.definitions.proofs.Intern.{Sound, Inj, Step, trans}
-use Rattle.definitions.proofs.Prune.{Flat, flat-filter, filter-length, clear-bits}
+use Rattle.definitions.proofs.Prune.{Flat, flat-up, map-up, flat-filter, filter-length, clear-bits}
 use Rattle.pruned_again.specs.Plain.{pruneAtBits, NotBelow, HigherPlainly}
 use Rattle.pruned_again.proofs.Regrown.{Ext, ext-refl, ext-trans}
 use Rattle.pruned_again.proofs.Order.{not-below, no-nan}
 use Rattle.pruned_again.proofs.Fitting.{fitting, apart}
 use Rattle.pruned_again.proofs.Chains.{chain-is, flat-chain, same-chain, filter-ext, filter-filter, keeps-up, keptIds}
 use Rattle.pruned_again.proofs.Answered.{Way, sum, lone, answered, answered-bits, given-is, does-sum}
-use Rattle.pruned_again.proofs.Left.{LeftBy, kind-sum, left-by, left, flat-ext, map-ext, flat-kept, kept-few, answer-chain}
+use Rattle.pruned_again.proofs.Left.{LeftBy, kind-sum, left-by, left, flat-kept, kept-few, answer-chain}
 
 -- thresholds of which the second is not below the first
 pub not-above : (t u : ℕ) → t ≤ infinityBits → u ≤ infinityBits → NotBelow t u → T (le (ofBits binary64 t) (ofBits binary64 u))
@@ -43,8 +43,8 @@ module _ (ns os : List Node) (i : ℕ) (s : Sound ns) (one : Inj ns) (h : i < le
 
   pub chain-stays : chain os i ≡ chain ns i
   chain-stays =
-      chain-is os (st .sound) (st .one one) i inside (chain ns i) (flat-ext ns os st (chain ns i) (flat-chain ns i s h))
-      (ap terms (st .kept i h) ∙ sym (same-chain ns i s h) ∙ sym (map-ext ns os st (chain ns i) (flat-chain ns i s h)))
+      chain-is os (st .sound) (st .one one) i inside (chain ns i) (flat-up ns os st (chain ns i) (flat-chain ns i s h))
+      (ap terms (st .kept i h) ∙ sym (same-chain ns i s h) ∙ sym (map-up ns os st (chain ns i) (flat-chain ns i s h)))
 
   kind-stays : eqb (at os i .kind) addKind ≡ eqb (at ns i .kind) addKind
   kind-stays = kind-sum os (st .sound) i inside ∙ ap isAdd (st .kept i h) ∙ sym (kind-sum ns s i h)
@@ -85,7 +85,7 @@ module _ (l : Lent) (ns : List Node) (i t u j : ℕ) (ms : List Node) (s : Sound
       (filter-ext ns ms (L .grown) (ofBits binary64 u) (keptIds ns i t) (flat-kept l ns i t j ms s one h few b) ∙ kept-of-kept ns i t u ht hu nb)
 
   flat-higher : Flat ms Q
-  flat-higher = flat-ext ns ms (L .step) Q (flat-filter ns (keeps ns (ofBits binary64 u)) (chain ns i) (flat-chain ns i s h))
+  flat-higher = flat-up ns ms (L .step) Q (flat-filter ns (keeps ns (ofBits binary64 u)) (chain ns i) (flat-chain ns i s h))
 
   few-higher : length Q ≤ mostTerms
   few-higher = omega (arith, filter-length (keeps ns (ofBits binary64 u)) (chain ns i), few)

@@ -15,7 +15,7 @@ use Rattle.definitions.specs.Formula.{Tree, tree, formula}
 use Rattle.definitions.specs.Chain.{terms, termsAll, isAdd, Remains}
 use Rattle.definitions.proofs.Stable.{opened}
 use Rattle.definitions.proofs.Intern.{Sound, Inj, Step, Result}
-use Rattle.definitions.proofs.Prune.{Flat, flat-filter, filter-length}
+use Rattle.definitions.proofs.Prune.{Flat, flat-up, map-up, flat-filter, filter-length}
 use Rattle.definitions.proofs.PruneCalls.{remains-of}
 use Rattle.pruned_again.proofs.Regrown.{Ext, Again, balanced-again}
 use Rattle.pruned_again.proofs.Chains.{chain-is, flat-chain, keptIds}
@@ -75,14 +75,6 @@ two-terms ns [] t h r = absurd (omega arith)
 two-terms ns (a ∷ []) t h r = absurd (omega arith)
 two-terms ns (a ∷ b ∷ q) t h r = r
 
-pub flat-ext : (ns ms : List Node) → Step ns ms → (ts : List ℕ) → Flat ns ts → Flat ms ts
-flat-ext ns ms st [] f = tt
-flat-ext ns ms st (x ∷ ts) f = ((omega (arith, f .0 .0, st .longer), ap isAdd (st .kept x (f .0 .0)) ∙ f .0 .1), flat-ext ns ms st ts (f .1))
-
-pub map-ext : (ns ms : List Node) → Step ns ms → (ts : List ℕ) → Flat ns ts → map (formula ms) ts ≡ map (formula ns) ts
-map-ext ns ms st [] f = refl
-map-ext ns ms st (x ∷ ts) f = let a = st .kept x (f .0 .0) in let b = map-ext ns ms st ts (f .1) in cc
-
 -- a prune at t of the chain of i, whose kept terms were summed to j
 module _ (l : Lent) (ns : List Node) (i t j : ℕ) (ms : List Node) (s : Sound ns) (u : Inj ns) (h : i < length ns)
     (few : length (chain ns i) ≤ mostTerms) (b : balancedAdd mostHalvings l ns (keptIds ns i t) ≡ built ms j) where
@@ -97,5 +89,5 @@ module _ (l : Lent) (ns : List Node) (i t j : ℕ) (ms : List Node) (s : Sound n
 
   pub answer-chain : 2 ≤ length (keptIds ns i t) → chain ms j ≡ keptIds ns i t
   answer-chain two =
-      chain-is ms (left .step .sound) (left .step .one u) j (left .inside) (keptIds ns i t) (flat-ext ns ms (left .step) (keptIds ns i t) flat-kept)
-      (two-terms ns (keptIds ns i t) (formula ms j) two (left .remains) ∙ sym (map-ext ns ms (left .step) (keptIds ns i t) flat-kept))
+      chain-is ms (left .step .sound) (left .step .one u) j (left .inside) (keptIds ns i t) (flat-up ns ms (left .step) (keptIds ns i t) flat-kept)
+      (two-terms ns (keptIds ns i t) (formula ms j) two (left .remains) ∙ sym (map-up ns ms (left .step) (keptIds ns i t) flat-kept))
