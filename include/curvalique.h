@@ -2,7 +2,7 @@
  * Curvalique: a formula store, rewriter and pruner in memory that the caller
  * lends. Every function here is proved to do what document 01 says, or, where 01
  * has no such call, what is said at it, for every content of the lent lists; "01"
- * below is that document.
+ * below is that document, and "02" that of the later requests.
  *
  * Linking: `rt staticlib curvalique` writes target/staticlib/libcurvalique.a,
  * for x86-64 Linux. It needs memcpy and memset of C's library and nothing else.
@@ -22,7 +22,8 @@
  * pointers at the end of its list of arguments. Else it returns the number of a
  * refusal, and leaves what is behind those pointers as it was. The numbers are
  * below. Of several that apply the first in this order is returned: 20, 5, 6,
- * 4, 7 or 8, 23, 21, 22; for names 20, 9, 24. What a refusal leaves in the store
+ * 4, 7 or 8, 23, 21, 22; for names 20, 9, 24; for texts 20, 1, 11, 12, 10, and
+ * then the first of 24, 21, 22 that is met. What a refusal leaves in the store
  * is said at each function. Of sheets and listings, what is returned and what
  * stays is said there.
  *
@@ -39,9 +40,9 @@
  * stores and name lists that are not sound are refused, with 20; damage that
  * leaves a sound one, as another name in a list, is not noticed. No function
  * keeps a pointer, allocates, or touches other memory, but for its stack: as
- * compiled now, the listing of a sheet takes about 290 KB of it, a sheet 43 KB,
- * a prune 35 KB, a name call 17 KB, a simplify 13 KB and any other call under
- * 1 KB.
+ * compiled now, the listing of a sheet takes about 290 KB of it, a text 61 KB, a
+ * sheet 43 KB, a prune 35 KB, a name call 17 KB, a simplify 13 KB and any other
+ * call under 1 KB.
  *
  * NOT PROVED, but read or measured: time, stack, how often a store is looked
  * over, and what the compiled code needs of C's library and its calls.
@@ -80,6 +81,7 @@ extern "C" {
 
 /* Refusals. */
 #define CURVALIQUE_BAD_SHEET 1        /* a sheet that is empty, over 16,384 bytes or does not begin with the byte 1 */
+#define CURVALIQUE_BAD_TEXT 1         /* a text that is empty or over 8,192 bytes */
 #define CURVALIQUE_BAD_RECORD 2       /* a record that goes past the sheet's end, is unknown or has a wrong length */
 #define CURVALIQUE_TOO_MANY_RECORDS 3 /* bytes after 1,024 records */
 #define CURVALIQUE_BAD_OPERAND 4      /* an id that is not below the count; in a sheet, no earlier record */
@@ -88,6 +90,11 @@ extern "C" {
 #define CURVALIQUE_BAD_THRESHOLD 7    /* a threshold that is NaN or has the sign bit */
 #define CURVALIQUE_BAD_SETTING 8      /* a setting that is not 10 to 100 */
 #define CURVALIQUE_BAD_NAME_LENGTH 9  /* a name that is empty or over 32 bytes */
+#define CURVALIQUE_NOT_A_NUMBER 10    /* a constant whose bits are a NaN's */
+#define CURVALIQUE_OUTSIDE_LANGUAGE 11 /* a text that is not of the language */
+#define CURVALIQUE_NESTED_TOO_DEEP 12 /* a text that nests over 64 deep */
+#define CURVALIQUE_NO_TEXT 13         /* a node that has no text */
+#define CURVALIQUE_TEXT_TOO_LONG 14   /* a node whose text is too long or too deep */
 #define CURVALIQUE_NOT_SOUND 20       /* the store or the name list is not as 01 says of every sound one */
 #define CURVALIQUE_NO_NODE_PLACE 21   /* no place for a new node */
 #define CURVALIQUE_NO_SLOT_PLACE 22   /* a new node needs a larger table than the lent slots */
@@ -336,6 +343,36 @@ uint64_t curvalique_lookup_name(
 uint64_t curvalique_name(
     const uint8_t *entries, size_t entry_bytes, size_t count,
     uint32_t number, uint64_t *known, size_t *length, uint8_t bytes[CURVALIQUE_LONGEST_NAME]);
+
+/*
+ * ---- Formulas typed as text ----
+ *
+ * A TEXT is bytes such as 2*(flow + 3) - t1^2, 1 to 8,192 of them. A sum is
+ * products joined by + or -, a product is powers joined by * or /, a power is a
+ * factor with an optional ^ and power, and a factor is a number, a name, a minus
+ * factor or a sum in brackets. A name is a letter, then letters or digits, 32 at
+ * most. A number is 1 to 9 decimal digits, or # and the 16 hexadecimal digits of
+ * binary64 bits. Letters and hexadecimal digits are of either case. Blanks (the
+ * byte 32, and no other) may stand anywhere but inside a name or number. Sums and
+ * products group left, ^ groups right, and -x^2 is (-x)^2.
+ */
+
+/*
+ * Reads a text into a store and a name list, and answers the id of its formula.
+ * The text is checked whole before anything is made: 1 if it is empty or over
+ * 8,192 bytes, 11 if it is not of the language, 12 if brackets, minus factors and
+ * powers, counted together, nest over 64 deep, where a ^ nests what stands after
+ * it, 10 if a number's bits are a NaN's. Then its nodes are made by the store
+ * calls, operands first, left before right, and each name is interned just before
+ * its variable, whose symbol is the name's number. Refusals: 20 (the store or the
+ * name list), 1, 11, 12, 10; nothing is changed. 24, 21, 22: the reading stops,
+ * and the names and nodes made before stay.
+ */
+uint64_t curvalique_read_text(
+    const uint8_t *text, size_t text_length,
+    uint64_t *nodes, size_t node_words, uint32_t *slots, size_t slot_count,
+    uint64_t *count, size_t *size,
+    uint8_t *entries, size_t entry_bytes, size_t *name_count, uint64_t *id);
 
 /*
  * ---- Sheets and listings ----

@@ -2,12 +2,13 @@
 
 use std::fmt;
 
-/// The number of a refusal of document 01.
+/// The number of a refusal of document 01 or 02.
 #[derive(Clone, Copy, PartialEq, Eq, Debug)]
 pub struct Refusal(pub u64);
 
 impl Refusal {
     pub const BAD_SHEET: Self = Self(1);
+    pub const BAD_TEXT: Self = Self(1);
     pub const BAD_RECORD: Self = Self(2);
     pub const TOO_MANY_RECORDS: Self = Self(3);
     pub const BAD_OPERAND: Self = Self(4);
@@ -16,6 +17,11 @@ impl Refusal {
     pub const BAD_THRESHOLD: Self = Self(7);
     pub const BAD_SETTING: Self = Self(8);
     pub const BAD_NAME_LENGTH: Self = Self(9);
+    pub const NOT_A_NUMBER: Self = Self(10);
+    pub const OUTSIDE_LANGUAGE: Self = Self(11);
+    pub const NESTED_TOO_DEEP: Self = Self(12);
+    pub const NO_TEXT: Self = Self(13);
+    pub const TEXT_TOO_LONG: Self = Self(14);
     pub const NOT_SOUND: Self = Self(20);
     pub const NO_NODE_PLACE: Self = Self(21);
     pub const NO_SLOT_PLACE: Self = Self(22);
