@@ -26,7 +26,8 @@
  * pointers at the end of its list of arguments. Else it returns the number of a
  * refusal, and leaves what is behind those pointers as it was. The numbers are
  * below. Of several that apply the first in this order is returned: 20, 5, 6,
- * 4, 7 or 8, 23, 21, 22; for names 20, 9, 24. What a refusal leaves in the store
+ * 4, 7 or 8, 23, 21, 22; for names 20, 9, 24; for texts 20, 1, 11, 12, 10, and
+ * then the first of 24, 21, 22 that is met. What a refusal leaves in the store
  * is said at each function. Of sheets and listings, what is returned and what
  * stays is said there.
  *
@@ -43,9 +44,9 @@
  * stores and name lists that are not sound are refused, with 20; damage that
  * leaves a sound one, as another name in a list, is not noticed. No function
  * keeps a pointer, allocates, or touches other memory, but for its stack: as
- * compiled now, the listing of a sheet takes about 290 KB of it, a sheet 43 KB,
- * a prune 35 KB, a name call 17 KB, a simplify 13 KB and any other call under
- * 1 KB.
+ * compiled now, the listing of a sheet takes about 290 KB of it, a text 61 KB, a
+ * sheet 43 KB, a prune 35 KB, a name call 17 KB, a simplify 13 KB and any other
+ * call under 1 KB.
  *
  * NOT PROVED, but read or measured: time, stack, how often a store is looked
  * over, and what the compiled code needs of C's library and its calls.
@@ -346,6 +347,36 @@ uint64_t curvalique_lookup_name(
 uint64_t curvalique_name(
     const uint8_t *entries, size_t entry_bytes, size_t count,
     uint32_t number, uint64_t *known, size_t *length, uint8_t bytes[CURVALIQUE_LONGEST_NAME]);
+
+/*
+ * ---- Formulas typed as text ----
+ *
+ * A TEXT is bytes such as 2*(flow + 3) - t1^2, 1 to 8,192 of them. A sum is
+ * products joined by + or -, a product is powers joined by * or /, a power is a
+ * factor with an optional ^ and power, and a factor is a number, a name, a minus
+ * factor or a sum in brackets. A name is a letter, then letters or digits, 32 at
+ * most. A number is 1 to 9 decimal digits, or # and the 16 hexadecimal digits of
+ * binary64 bits. Letters and hexadecimal digits are of either case. Blanks (the
+ * byte 32, and no other) may stand anywhere but inside a name or number. Sums and
+ * products group left, ^ groups right, and -x^2 is (-x)^2.
+ */
+
+/*
+ * Reads a text into a store and a name list, and answers the id of its formula.
+ * The text is checked whole before anything is made: 1 if it is empty or over
+ * 8,192 bytes, 11 if it is not of the language, 12 if brackets, minus factors and
+ * powers, counted together, nest over 64 deep, where a ^ nests what stands after
+ * it, 10 if a number's bits are a NaN's. Then its nodes are made by the store
+ * calls, operands first, left before right, and each name is interned just before
+ * its variable, whose symbol is the name's number. Refusals: 20 (the store or the
+ * name list), 1, 11, 12, 10; nothing is changed. 24, 21, 22: the reading stops,
+ * and the names and nodes made before stay.
+ */
+uint64_t curvalique_read_text(
+    const uint8_t *text, size_t text_length,
+    uint64_t *nodes, size_t node_words, uint32_t *slots, size_t slot_count,
+    uint64_t *count, size_t *size,
+    uint8_t *entries, size_t entry_bytes, size_t *name_count, uint64_t *id);
 
 /*
  * ---- Sheets and listings ----

@@ -318,6 +318,17 @@ static inline uint64_t curvalique_store_name(
     return curvalique_name(CURVALIQUE_NAMES_(store), store->name_count, number, known, length, bytes);
 }
 
+/* ---- Texts ---- */
+
+/* Reads a formula typed as text into the store and its names. */
+static inline uint64_t curvalique_store_read_text(
+    struct curvalique_store *store, const uint8_t *text, size_t text_length, uint32_t *id) {
+    uint64_t answer = 0;
+    uint64_t refusal = curvalique_read_text(
+        text, text_length, CURVALIQUE_STORE_(store), CURVALIQUE_NAMES_(store), &store->name_count, &answer);
+    return curvalique_answered_(refusal, answer, id);
+}
+
 /* ---- Sheets and listings ---- */
 
 /* Runs a sheet on the store. */

@@ -2,7 +2,7 @@
 use Prim.Native.Nat.{ℕ, zero, suc, _+_, _-_, _*_, _/_, _%_, _^_, _<_, _≤_, zero-le, compare, Ordering, Ordering·lt, Ordering·eq, Ordering·gt}
 use mathlib.Core.Path.{_≡_, refl, sym, ap, _∙_, subst, subst₂}
 use mathlib.Core.Bool.{Bool, true, false, cond, _||_, _&&_, not, false≢true, true≢false}
-use mathlib.Core.List.{List, [], _∷_, _++_, map, append-assoc}
+use mathlib.Core.List.{List, [], _∷_, _++_, map, append-assoc, append-nil}
 use mathlib.Core.Option.{Option, none, some}
 use lib.ListN.{length, getD, take, drop, length-append, take-append-drop, length-take, length-drop}
 use native.Mathlib.Omega.{arith}
@@ -141,11 +141,12 @@ flat-terms : (t : Tree) → isAdd t ≡ false → terms t ≡ t ∷ []
 unfolding terms
 flat-terms (tree k p f c) e = ap (λ b. cond b (termsAll c) (tree k p f c ∷ [])) e
 
-flat-up : (ns ms : List Node) → Step ns ms → (ts : List ℕ) → Flat ns ts → Flat ms ts
+-- terms stay terms, with their formulas, in a store that has grown
+pub flat-up : (ns ms : List Node) → Step ns ms → (ts : List ℕ) → Flat ns ts → Flat ms ts
 flat-up ns ms st [] f = tt
 flat-up ns ms st (x ∷ ts) f = ((omega (arith, f .0 .0, st .longer), ap isAdd (st .kept x (f .0 .0)) ∙ f .0 .1), flat-up ns ms st ts (f .1))
 
-map-up : (ns ms : List Node) → Step ns ms → (ts : List ℕ) → Flat ns ts → map (formula ms) ts ≡ map (formula ns) ts
+pub map-up : (ns ms : List Node) → Step ns ms → (ts : List ℕ) → Flat ns ts → map (formula ms) ts ≡ map (formula ns) ts
 map-up ns ms st [] f = refl
 map-up ns ms st (x ∷ ts) f = let a = st .kept x (f .0 .0) in let b = map-up ns ms st ts (f .1) in cc
 
@@ -156,10 +157,6 @@ flat-left ns (x ∷ xs) ys f = (f .0, flat-left ns xs ys (f .1))
 flat-right : (ns : List Node) (xs ys : List ℕ) → Flat ns (xs ++ ys) → Flat ns ys
 flat-right ns [] ys f = f
 flat-right ns (x ∷ xs) ys f = flat-right ns xs ys (f .1)
-
-append-nil : {A : Type 0} (xs : List A) → xs ++ [] ≡ xs
-append-nil [] = refl
-append-nil (x ∷ xs) = ap (λ l. x ∷ l) (append-nil xs)
 
 sum-two : (a b : Tree) → terms (binary 2 0 3 a b) ≡ terms a ++ terms b
 unfolding terms

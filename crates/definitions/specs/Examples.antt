@@ -1,4 +1,4 @@
--- 01's list under "Proved examples", settled together: calls, answers and nodes, each computed.
+-- 01's list under "Proved examples", settled together, with cases of 02: calls, answers and nodes, each computed.
 use Prim.Native.Nat.{ℕ, zero, suc}
 use mathlib.Core.Path.{_≡_, refl}
 use mathlib.Core.Bool.{Bool, true, false}
@@ -14,7 +14,7 @@ use Rattle.definitions.specs.Listing.{listing}
 use Rattle.definitions.specs.Machine.{Store, variable, constant, add, sub, mul, div, operator, Call, store, simplify, prune, Answer, stored, simplified, pruned, refused, State, state, empty, answers, run}
 
 -- the listing program's store
-abbrev lent : Lent
+abbrev pub lent : Lent
 lent = record { nodes = 512; slots = 1024 }
 
 -- a store whose table cannot double
@@ -28,13 +28,13 @@ plusZero = 0
 abbrev minusZero : ℕ
 minusZero = 0x8000000000000000
 
-abbrev half : ℕ
+abbrev pub half : ℕ
 half = 0x3FE0000000000000
 
-abbrev one : ℕ
+abbrev pub one : ℕ
 one = 0x3FF0000000000000
 
-abbrev two : ℕ
+abbrev pub two : ℕ
 two = 0x4000000000000000
 
 abbrev three : ℕ
@@ -43,7 +43,7 @@ three = 0x4008000000000000
 abbrev five : ℕ
 five = 0x4014000000000000
 
-abbrev hundredth : ℕ
+abbrev pub hundredth : ℕ
 hundredth = 0x3F847AE147AE147B
 
 abbrev twoHundredths : ℕ
@@ -52,7 +52,7 @@ twoHundredths = 0x3F947AE147AE147B
 abbrev twentieth : ℕ
 twentieth = 0x3FA999999999999A
 
-abbrev tenth : ℕ
+abbrev pub tenth : ℕ
 tenth = 0x3FB999999999999A
 
 abbrev fifth : ℕ
@@ -145,6 +145,16 @@ examples =
     -- four kept of one Add: the left half has the lower ids
     ∷ example (variables 4 1 ++ store (operator 0 3 (0 ∷ 1 ∷ 2 ∷ 3 ∷ [])) ∷ prune 4 tenth ∷ plus 0 1 ∷ plus 2 3 ∷ plus 5 6 ∷ [])
     (stored 0 ∷ stored 1 ∷ stored 2 ∷ stored 3 ∷ stored 4 ∷ pruned 7 4 0 ∷ stored 5 ∷ stored 6 ∷ stored 7 ∷ [])
+    -- 02 (n), two kept: (x+0.5)+0.01 at 0.1 leaves x+0.5, and so it does again; at 1.0 both that and the original become x
+    ∷ example (x ∷ number half ∷ number hundredth ∷ plus 0 1 ∷ plus 3 2 ∷ prune 4 tenth ∷ prune 3 tenth ∷ prune 3 one ∷ prune 4 one ∷ [])
+    (stored 0 ∷ stored 1 ∷ stored 2 ∷ stored 3 ∷ stored 4 ∷ pruned 3 2 1 ∷ pruned 3 2 0 ∷ pruned 0 1 1 ∷ pruned 0 1 2 ∷ [])
+    -- "With one term of a chain kept this fails for a constant between t and u": 0.5+0.01 at 0.1 leaves 0.5, which stays at 1.0, where the original
+    -- becomes 0.0
+    ∷ example (number half ∷ number hundredth ∷ plus 0 1 ∷ prune 2 tenth ∷ prune 0 one ∷ prune 2 one ∷ number plusZero ∷ [])
+    (stored 0 ∷ stored 1 ∷ stored 2 ∷ pruned 0 1 1 ∷ pruned 0 1 0 ∷ pruned 3 0 2 ∷ stored 3 ∷ [])
+    -- and for a term that is no constant, with t at most 1.0 and u above it: x+0.01 at 0.1, then at 2.0
+    ∷ example (x ∷ number hundredth ∷ plus 0 1 ∷ prune 2 tenth ∷ prune 0 two ∷ prune 2 two ∷ number plusZero ∷ [])
+    (stored 0 ∷ stored 1 ∷ stored 2 ∷ pruned 0 1 1 ∷ pruned 0 1 0 ∷ pruned 3 0 2 ∷ stored 3 ∷ [])
     ∷ []
 
 pub examples-hold : map (λ (e : Example). answers (e .given) empty (e .calls)) examples ≡ map (λ (e : Example). e .expected) examples

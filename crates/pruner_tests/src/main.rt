@@ -10,7 +10,9 @@
 // unary sums: a chain of one term under 60 sums.
 // at the ends, not numbers, settings: thresholds 0, 1, infinity, -0.0 and NaN; settings 10, 100, 9 and 101.
 // simplified: prunes of one formula before a walk, after walks that ran out, and after a whole one.
+// in a full store, at a higher threshold, without room, one kept: an answer pruned again, at the same threshold and at a higher one.
 // not sound, order, no node place, no slot place, node place first: 20, 4, 7, 8, 23, 21 and 22, each before the next.
+mod again;
 mod examples;
 mod limits;
 mod numbers;
@@ -37,6 +39,9 @@ fn main() {
     thresholds::not_numbers();
     thresholds::settings();
     simplified::before_and_after();
+    again::in_a_full_store();
+    again::at_a_higher_threshold();
+    again::one_kept();
     refusals::not_sound();
     refusals::order();
     refusals::no_node_place();

@@ -19,6 +19,8 @@ pub(crate) const HALF: u64 = 0x3fe0_0000_0000_0000;
 
 pub(crate) const ONE: u64 = 0x3ff0_0000_0000_0000;
 
+pub(crate) const TWO: u64 = 0x4000_0000_0000_0000;
+
 pub(crate) const MINUS_ONE: u64 = 0xbff0_0000_0000_0000;
 
 pub(crate) const INFINITY: u64 = 0x7ff0_0000_0000_0000;

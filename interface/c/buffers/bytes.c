@@ -16,13 +16,17 @@ struct bytes copy_of_bytes(const uint8_t *bytes, size_t length) {
     return copy;
 }
 
+void damage_byte(struct bytes *bytes) {
+    if (bytes->length != 0) {
+        size_t place = below(bytes->length);
+        bytes->bytes[place] ^= (uint8_t)(1 + below(UINT8_MAX));
+    }
+}
+
 struct bytes damaged_bytes(const uint8_t *bytes, size_t length) {
     struct bytes copy = copy_of_bytes(bytes, cut_length(length));
     for (uint64_t times = below(DAMAGES); times > 0; times--) {
-        if (copy.length != 0) {
-            size_t place = below(copy.length);
-            copy.bytes[place] ^= (uint8_t)(1 + below(UINT8_MAX));
-        }
+        damage_byte(&copy);
     }
     return copy;
 }

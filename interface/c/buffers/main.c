@@ -30,6 +30,7 @@ static void try_stores(int rounds, const uint8_t *sheet, size_t length) {
         struct store store = grown_store(node_words, SIZES[place].slots, SIZES[place].calls);
         try_damaged_stores(&store, rounds);
         try_sheets(&store, sheet, length, rounds);
+        try_texts(&store, rounds);
         release(&store);
     }
 }

@@ -11,16 +11,10 @@
 #define MOST_NUMBER_DRAWN 5000
 #define CALLS 80
 
-struct names {
-    uint8_t *entries;
-    size_t bytes;
-    size_t count;
-};
-
 static uint64_t one_call(struct names *names) {
-    uint8_t *entries = names->entries, drawn[MOST_NAME_DRAWN], spelled[CURVALIQUE_LONGEST_NAME];
+    uint8_t *entries = names->entries.bytes, drawn[MOST_NAME_DRAWN], spelled[CURVALIQUE_LONGEST_NAME];
     uint64_t known = UNTOUCHED, number = UNTOUCHED, returned;
-    size_t bytes = names->bytes, length = UNTOUCHED, before = names->count, size = below(MOST_NAME_DRAWN);
+    size_t bytes = names->entries.length, length = UNTOUCHED, before = names->count, size = below(MOST_NAME_DRAWN);
     for (size_t place = 0; place < size; place++) {
         drawn[place] = (uint8_t)below(3);
     }
@@ -39,25 +33,17 @@ static uint64_t one_call(struct names *names) {
     return returned;
 }
 
-static void damage_byte(struct names *names) {
-    if (names->bytes != 0) {
-        size_t place = below(names->bytes);
-        names->entries[place] ^= (uint8_t)(1 + below(UINT8_MAX));
-    }
-}
-
 /* Most lengths are no multiple of an entry's bytes. */
 void try_names(int rounds) {
     for (int round = 0; round < rounds; round++) {
-        size_t bytes = below(MOST_ENTRIES * CURVALIQUE_ENTRY_BYTES);
-        struct names names = {untouched_block(bytes), bytes, 0};
+        struct names names = {untouched_bytes(below(MOST_ENTRIES * CURVALIQUE_ENTRY_BYTES)), 0};
         for (int call = 0; call < CALLS; call++) {
             check(one_call(&names) != CURVALIQUE_NOT_SOUND, "a sound name list stays sound");
         }
-        damage_byte(&names);
+        damage_byte(&names.entries);
         one_call(&names);
         names.count = any_word();
         one_call(&names);
-        free(names.entries);
+        release_bytes(&names.entries);
     }
 }

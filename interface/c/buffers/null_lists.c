@@ -54,6 +54,21 @@ static void try_null_names(void) {
     check(count == 0 && number == UNTOUCHED && size == sizeof NAME, "nothing else is answered");
 }
 
+static void try_null_texts(void) {
+    static const uint8_t TEXT[] = {'x'};
+    struct store store = fresh_store(CURVALIQUE_NODE_WORDS, FEWEST_SLOTS);
+    size_t names = 0;
+    uint64_t id = UNTOUCHED;
+    uint64_t returned = curvalique_read_text(NULL, 0, STORE(&store), NULL, 0, &names, &id);
+    check(returned == CURVALIQUE_BAD_TEXT, "an empty text");
+    returned = curvalique_read_text(TEXT, sizeof TEXT, STORE(&store), NULL, 0, &names, &id);
+    check(returned == CURVALIQUE_NO_NAME_PLACE, "no place for a text's name");
+    returned = curvalique_read_text(TEXT, sizeof TEXT, NULL, 0, NULL, 0, &store.count, &store.size, NULL, 0, &names, &id);
+    check(returned == CURVALIQUE_NOT_SOUND, "no store for a text");
+    check(id == UNTOUCHED && names == 0 && store.count == 0, "a refused text answers nothing");
+    release(&store);
+}
+
 static void try_null_sheets(void) {
     struct store store = fresh_store(CURVALIQUE_NODE_WORDS, FEWEST_SLOTS);
     struct sheet_answer answer = NO_SHEET_ANSWER;
@@ -88,6 +103,7 @@ void try_null_lists(void) {
     try_null_nodes();
     try_null_operands();
     try_null_names();
+    try_null_texts();
     try_null_sheets();
     try_null_listings();
 }

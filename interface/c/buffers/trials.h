@@ -26,6 +26,9 @@ void try_long_chains(void);
 /* Name lists, sound and damaged. */
 void try_names(int rounds);
 
+/* Texts, whole and damaged, on sound and damaged stores and name lists. */
+void try_texts(const struct store *store, int rounds);
+
 /* A damaged copy of a listing. */
 void try_listing(const struct bytes *listing);
 

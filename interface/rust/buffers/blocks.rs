@@ -1,6 +1,6 @@
 //! A store in blocks of exactly the lent lengths.
 
-use curvalique::{NODE_WORDS, Refusal, Store};
+use curvalique::{NODE_WORDS, Names, Refusal, Store};
 
 use crate::trial::{Trial, UNTOUCHED, UNTOUCHED_SLOT, block, check, filled_block};
 
@@ -61,8 +61,15 @@ impl Blocks {
 
     /// Calls the library on this store.
     pub fn call<T>(&mut self, call: impl FnOnce(&mut Store) -> T) -> T {
+        self.call_with_names(&mut Names::default(), call)
+    }
+
+    /// Calls the library on this store and a name list.
+    pub fn call_with_names<T>(&mut self, names: &mut Names, call: impl FnOnce(&mut Store) -> T) -> T {
         let mut store = Store::lent(&mut self.nodes, &mut self.slots, self.count, self.size);
+        store.names = Names::lent(&mut *names.entries, names.count);
         let answer = call(&mut store);
+        names.count = store.names.count;
         (self.count, self.size) = (store.count, store.size);
         answer
     }

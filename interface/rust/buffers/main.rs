@@ -12,6 +12,7 @@ mod name_calls;
 mod null_lists;
 mod sheet_calls;
 mod store_calls;
+mod text_calls;
 mod trial;
 
 use std::env::args;
@@ -39,6 +40,7 @@ fn try_all(rounds: u64, sheet: &[u8]) {
         let store = grown_store(&mut trial, nodes * NODE_WORDS, slots, calls);
         try_damaged_stores(&mut trial, &store, rounds);
         sheet_calls::try_sheets(&mut trial, &store, sheet, rounds);
+        text_calls::try_texts(&mut trial, &store, rounds);
     }
     name_calls::try_names(&mut trial, rounds / NAME_SHARE);
     trial.print_outcomes();

@@ -77,6 +77,25 @@ fn try_null_names() {
     check(count == 0 && number == UNTOUCHED && length == 0, "nothing else is answered");
 }
 
+fn try_null_texts() {
+    let (mut count, mut size, mut names, mut id, text) = (0, FEWEST_SLOTS, 0, UNTOUCHED, b"x");
+    let (mut nodes, mut slots) = ([UNTOUCHED; NODE_WORDS], [0; FEWEST_SLOTS]);
+    let (list, words, table, lent) = (nodes.as_mut_ptr(), nodes.len(), slots.as_mut_ptr(), slots.len());
+    let (from, length, counted, sized) = (text.as_ptr(), text.len(), &raw mut count, &raw mut size);
+    let (known, answer) = (&raw mut names, &raw mut id);
+    // SAFETY: as above; the text is borrowed for the calls.
+    let returned = unsafe {
+        [
+            curvalique_read_text(null(), 0, list, words, table, lent, counted, sized, null_mut(), 0, known, answer),
+            curvalique_read_text(from, length, list, words, table, lent, counted, sized, null_mut(), 0, known, answer),
+            curvalique_read_text(from, length, null_mut(), 0, null_mut(), 0, counted, sized, null_mut(), 0, known, answer),
+        ]
+    };
+    let expected = [Refusal::BAD_TEXT, Refusal::NO_NAME_PLACE, Refusal::NOT_SOUND];
+    check(returned.map(Refusal) == expected, "texts on empty lists");
+    check(id == UNTOUCHED && names == 0 && count == 0, "a refused text answers nothing");
+}
+
 fn try_null_sheets() {
     let (mut numbers, mut answers) = ((UNTOUCHED, 0), [UNTOUCHED; 3]);
     let (mut nodes, mut slots) = ([UNTOUCHED; NODE_WORDS], [UNTOUCHED_SLOT; FEWEST_SLOTS]);
@@ -118,6 +137,7 @@ pub fn try_null_lists() {
     try_null_nodes();
     try_null_operands();
     try_null_names();
+    try_null_texts();
     try_null_sheets();
     try_null_listings();
 }

@@ -9,6 +9,7 @@ pub mod raw;
 mod refusal;
 mod sheet;
 mod store;
+mod text;
 
 pub use listing::{Listing, Outcome, Unread, list_sheet, read_listing};
 pub use names::Names;

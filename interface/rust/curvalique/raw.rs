@@ -257,6 +257,20 @@ unsafe extern "C" {
         length: *mut usize,
         bytes: *mut [u8; LONGEST_NAME],
     ) -> u64;
+    pub fn curvalique_read_text(
+        text: *const u8,
+        text_length: usize,
+        nodes: *mut u64,
+        node_words: usize,
+        slots: *mut u32,
+        slot_count: usize,
+        count: *mut u64,
+        size: *mut usize,
+        entries: *mut u8,
+        entry_bytes: usize,
+        name_count: *mut usize,
+        id: *mut u64,
+    ) -> u64;
     pub fn curvalique_run_sheet(
         sheet: *const u8,
         sheet_length: usize,

@@ -1,0 +1,13 @@
+pub mod Regrown
+pub mod Order
+pub mod Fitting
+pub mod Chains
+pub mod Answered
+pub mod Left
+pub mod Same
+pub mod Higher
+pub mod OneKept
+pub mod SoundStores
+pub mod Stored
+pub mod Settings
+pub mod Failing

@@ -1,0 +1,1 @@
+// What is promised of a prune of a prune's answer (specs/), and its proof (proofs/): no code.
