@@ -35,6 +35,11 @@ impl LentNames {
         if name.is_empty() || name.len() > NAME_BYTES {
             return Err(Refusal::NameLength);
         }
+        self.number(name)
+    }
+
+    /// The number of a name of 1 to 32 bytes in a list that is sound.
+    pub fn number(&mut self, name: &[u8]) -> Result<u32, Refusal> {
         let entry = entry_of(name);
         if let Some(number) = self.used().iter().position(|old| *old == entry) {
             return Ok(number as u32);

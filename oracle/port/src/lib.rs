@@ -1,10 +1,12 @@
 //! The port's C interface, and calls on lent lists through it.
 
 pub mod calls;
+pub mod difference;
 mod interface;
 pub mod lists;
 pub mod names;
 pub mod sheets;
+pub mod texts;
 
 /// What the interface returns for a call that is not refused.
 const ANSWERED: u64 = 0;
