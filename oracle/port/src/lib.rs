@@ -1,6 +1,7 @@
 //! The port's C interface, and calls on lent lists through it.
 
 pub mod calls;
+pub mod damage;
 pub mod difference;
 mod interface;
 pub mod lists;

@@ -5,14 +5,13 @@
 //! usage: lent [SEED] [COUNT]
 
 mod asked;
-mod damage;
 
 use std::process::ExitCode;
 
 use asked::Asked;
 use checker::{LentNames, LentStore, NAME_BYTES, TextLists, sound};
-use damage::damage;
 use generator::Random;
+use port::damage::damage;
 use port::difference;
 
 /// Calls on one store, before and after damage.

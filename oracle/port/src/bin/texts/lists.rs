@@ -1,14 +1,17 @@
 //! Lists for a reading: fresh or with names and nodes in them, ample, just
-//! enough, one too few, or of any size.
+//! enough, one too few, or of any size; some damaged.
 
 use checker::{LentNames, LentStore, NAME_BYTES, Step, TextLists, WORDS_PER_NODE, read_text, steps_of};
 use generator::{Random, texts};
+use port::damage::damage;
 
 /// The flags word of a node, and the mark in it.
 const FLAGS_WORD: usize = 4;
 const MARK: u64 = 4;
 /// The least table.
 const SLOTS: usize = 64;
+/// One in this many lists is damaged.
+const DAMAGED: usize = 32;
 
 /// Sizes of lists.
 #[derive(Clone, Copy)]
@@ -53,6 +56,9 @@ pub fn any(random: &mut Random, text: &[u8]) -> TextLists {
         if random.once_in(3) {
             lists.store.words[id * WORDS_PER_NODE + FLAGS_WORD] |= MARK;
         }
+    }
+    if random.once_in(DAMAGED) {
+        damage(random, &mut lists);
     }
     lists
 }
