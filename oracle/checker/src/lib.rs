@@ -41,7 +41,7 @@ pub use settings::threshold_of_setting;
 pub use store::{Noticed, Store};
 pub use text::{
     Derivation, NESTING_MAXIMUM, Step, TEXT_BYTES_MAXIMUM, TextLists, derivations, read_text, read_text_by_definition,
-    steps_of,
+    rival_with_fewer_brackets, steps_of, write_text,
 };
 pub use walk::{Walked, simplify};
 

@@ -53,6 +53,12 @@ impl LentNames {
         Ok(number as u32)
     }
 
+    /// The name with this number in a list that is sound, if there is one.
+    pub fn name(&self, number: u64) -> Option<&[u8]> {
+        let entry = self.used().get(usize::try_from(number).ok()?)?;
+        Some(&entry[1..][..usize::from(entry[0])])
+    }
+
     fn used(&self) -> &[Entry] {
         &self.entries[..self.count as usize]
     }

@@ -1,5 +1,5 @@
 //! Refusal numbers (01, "Refusals from the input", "Refusals from the state";
-//! 10 to 12 are those of texts, 02).
+//! 10 to 14 are those of texts, 02).
 
 #[derive(Clone, Copy, Debug, PartialEq, Eq, PartialOrd, Ord)]
 #[repr(u8)]
@@ -28,6 +28,10 @@ pub enum Refusal {
     Language = 11,
     /// Brackets, minus factors and powers nested over 64 deep.
     Nesting = 12,
+    /// A node that has no text, or a symbol without a name of the text's form.
+    NoText = 13,
+    /// Text over 8,192 bytes, longer than the lent text buffer, or too deep for reading.
+    TextRoom = 14,
     /// Store or name list not sound, or its counts or sizes not as listed.
     NotSound = 20,
     /// No place for a new node.

@@ -128,6 +128,22 @@ unsafe extern "C" {
         name_count: *mut usize,
         id: *mut u64,
     ) -> u64;
+    #[cfg(feature = "writer")]
+    pub fn curvalique_write_text(
+        nodes: *const u64,
+        nodes_length: usize,
+        slots: *const u32,
+        slots_length: usize,
+        count: u64,
+        size: usize,
+        entries: *const u8,
+        entries_length: usize,
+        name_count: usize,
+        id: u32,
+        text: *mut u8,
+        text_length: usize,
+        length: *mut u64,
+    ) -> u64;
     pub fn curvalique_run_sheet_fresh(
         sheet: *const u8,
         sheet_length: usize,

@@ -7,7 +7,10 @@ mod interface;
 pub mod lists;
 pub mod names;
 pub mod sheets;
+pub mod text_lists;
 pub mod texts;
+#[cfg(feature = "writer")]
+pub mod writings;
 
 /// What the interface returns for a call that is not refused.
 const ANSWERED: u64 = 0;

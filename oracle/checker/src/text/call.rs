@@ -42,7 +42,8 @@ pub fn read_text_by_definition(lists: &mut TextLists, text: &[u8]) -> Result<u32
     make(lists, |store, names| reading.make(store, names))
 }
 
-fn check_sound(lists: &TextLists) -> Result<(), Refusal> {
+/// Refusal 20.
+pub fn check_sound(lists: &TextLists) -> Result<(), Refusal> {
     if sound(&lists.store) && lists.names.sound() { Ok(()) } else { Err(Refusal::NotSound) }
 }
 

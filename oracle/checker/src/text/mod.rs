@@ -1,17 +1,21 @@
 //! Formulas typed as text (document 02, request c), in two ways that share no
 //! code: a reader with a stack of what is open, and for short texts every
-//! derivation by the sentences of 02.
+//! derivation by the sentences of 02. And their writing back (request d).
 
 mod call;
 mod derivation;
 mod reader;
+mod rivals;
 mod splits;
 mod token;
+mod writer;
 
 pub use call::{TextLists, read_text, read_text_by_definition};
 pub use derivation::Derivation;
 pub use reader::{Step, steps_of};
+pub use rivals::rival_with_fewer_brackets;
 pub use splits::derivations;
+pub use writer::write_text;
 
 use crate::refusal::Refusal;
 

@@ -8,9 +8,10 @@ pub struct Family {
 }
 
 /// All signs with a letter, a digit and a blank; and longer texts over fewer bytes.
-pub const FAMILIES: [Family; 3] = [
+pub const FAMILIES: [Family; 4] = [
     Family { alphabet: b"x1()+-*^# ", longest: 6 },
     Family { alphabet: b"x()-^", longest: 8 },
+    Family { alphabet: b"x()-*^", longest: 7 },
     Family { alphabet: b"ab/-^ ", longest: 7 },
 ];
 

@@ -1,4 +1,5 @@
-//! What is asked in a history: calls on the store, names and readings.
+//! What is asked in a history: calls on the store, names, readings, and
+//! writings if the library has them.
 
 use checker::{Call, CallAnswer, TextLists, read_text};
 use generator::{Random, texts};
@@ -8,21 +9,33 @@ pub enum Asked {
     Store(Call),
     Name(Vec<u8>),
     Text(Vec<u8>),
+    #[cfg(feature = "writer")]
+    Writing {
+        id: u32,
+        buffer: usize,
+    },
 }
 
-#[derive(Clone, Copy, Debug, PartialEq, Eq)]
+#[derive(Clone, Debug, PartialEq, Eq)]
 pub enum Answer {
     Store(CallAnswer),
     Number(u32),
     Root(u64),
+    #[cfg(feature = "writer")]
+    Written(Vec<u8>),
 }
 
 impl Asked {
     /// Something to ask of lists with so many nodes.
     pub fn any(random: &mut Random, count: usize) -> Asked {
-        match random.below(8) {
+        match random.below(9) {
             0 | 1 => Asked::Text(text(random)),
             2 => Asked::Name(name(random)),
+            #[cfg(feature = "writer")]
+            3 => Asked::Writing {
+                id: operand(random, count.min(1 << 16)),
+                buffer: random.pick(&[0, 1, 3, 9, 40, 9_000]),
+            },
             _ => Asked::Store(store_call(random, count.min(1 << 16))),
         }
     }
@@ -32,6 +45,8 @@ impl Asked {
             Asked::Store(call) => port::calls::call(&mut lists.store, call).map(Answer::Store),
             Asked::Name(name) => port::names::intern(&mut lists.names, name).map(Answer::Number),
             Asked::Text(text) => port::texts::read(lists, text).map(Answer::Root),
+            #[cfg(feature = "writer")]
+            Asked::Writing { id, buffer } => port::writings::write(lists, *id, *buffer).map(Answer::Written),
         }
     }
 
@@ -40,6 +55,8 @@ impl Asked {
             Asked::Store(call) => checker::call(&mut lists.store, call).map(Answer::Store),
             Asked::Name(name) => lists.names.intern(name).map(Answer::Number),
             Asked::Text(text) => read_text(lists, text).map(|id| Answer::Root(u64::from(id))),
+            #[cfg(feature = "writer")]
+            Asked::Writing { id, buffer } => checker::write_text(lists, *id, *buffer).map(Answer::Written),
         };
         answer.map_err(|refusal| u64::from(refusal.number()))
     }

@@ -2,8 +2,7 @@
 
 use checker::{Children, Kind, NAMES_MAXIMUM, Node, Store, TextLists};
 use generator::Random;
-
-use crate::lists::{Sizes, fresh};
+use port::text_lists::{Sizes, fresh};
 
 const NODES_MAXIMUM: usize = 65_536;
 /// The table of so many nodes.

@@ -5,13 +5,12 @@
 //! usage: texts [SEED] [COUNT]
 
 mod largest;
-mod lists;
 mod readings;
 
 use std::process::ExitCode;
 
 use generator::{Random, texts};
-use lists::Sizes;
+use port::text_lists::{self, Sizes};
 use readings::Readings;
 
 /// One in this many generated texts that are not short is read by definition too.
@@ -38,7 +37,7 @@ fn generated(seed: u64, count: u64) -> Result<(), String> {
     for number in 0..count {
         let text = texts::text(seed, number);
         let mut random = Random::new(!seed, number);
-        let lists = lists::any(&mut random, &text);
+        let lists = text_lists::any(&mut random, &text);
         let by_definition = random.once_in(BY_DEFINITION);
         readings.compare(&lists, &text, by_definition).map_err(|what| format!("seed {seed} text {number}: {what}"))?;
     }
@@ -50,7 +49,7 @@ fn generated(seed: u64, count: u64) -> Result<(), String> {
 fn families() -> Result<(), String> {
     for family in texts::FAMILIES {
         let mut readings = Readings::default();
-        let lists = lists::fresh(&mut Random::new(0, 0), FAMILY_SIZES);
+        let lists = text_lists::fresh(&mut Random::new(0, 0), FAMILY_SIZES);
         for number in 0..family.count() {
             let text = family.text(number);
             readings.compare(&lists, &text, true)?;

@@ -3,7 +3,8 @@
 
 use checker::{LentNames, LentStore, NAME_BYTES, Step, TextLists, WORDS_PER_NODE, read_text, steps_of};
 use generator::{Random, texts};
-use port::damage::damage;
+
+use crate::damage::damage;
 
 /// The flags word of a node, and the mark in it.
 const FLAGS_WORD: usize = 4;
@@ -64,13 +65,13 @@ pub fn any(random: &mut Random, text: &[u8]) -> TextLists {
 }
 
 /// Sizes that every one of the texts fits in, one after another.
-fn ample<'a>(texts: impl Iterator<Item = &'a [u8]>) -> Sizes {
+pub fn ample<'a>(texts: impl Iterator<Item = &'a [u8]>) -> Sizes {
     let mut sizes = Sizes { nodes: 1, slots: SLOTS, names: 1 };
     for steps in texts.filter_map(|text| steps_of(text).ok()) {
         sizes.nodes += steps.len();
         sizes.names += steps.iter().filter(|step| matches!(step, Step::Variable(_))).count();
     }
-    // More than the least table that holds the nodes, by less than a doubling.
+    // A table that holds the nodes.
     sizes.slots = SLOTS.max((sizes.nodes * 10 / 7 + 1).next_power_of_two());
     sizes
 }
