@@ -295,8 +295,11 @@ uint64_t curvalique_simplify(
  * are summed again in order. Answers the sum's id (0.0 if no term is kept, the
  * term itself if one is) and how many terms are kept and dropped, a shared one
  * as often as it stands there. A root that is no Add is answered itself, with 1
- * kept and 0 dropped. Refusals: 20, 4, 7, 23; nothing is changed. 21, 22: the sum
- * is not finished, and what was built of it stays.
+ * kept and 0 dropped. The answer pruned again at the same threshold is answered
+ * itself, and nothing is changed. At a higher one it becomes what the root becomes
+ * there, if two or more terms were kept; a single kept term is no sum and stays.
+ * Refusals: 20, 4, 7, 23; nothing is changed. 21, 22: the sum is not finished, and
+ * what was built of it stays.
  */
 uint64_t curvalique_prune(
     uint64_t *nodes, size_t node_words, uint32_t *slots, size_t slot_count,
