@@ -6,3 +6,4 @@ pub mod ReadWords
 pub mod SheetRefusals
 pub mod SheetAnswering
 pub mod ListingAnswering
+pub mod WriteAnswering

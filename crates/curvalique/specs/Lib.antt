@@ -5,3 +5,4 @@ pub mod NameCalls
 pub mod Forms
 pub mod SheetCalls
 pub mod ListingCalls
+pub mod Writing

@@ -11,3 +11,4 @@ pub mod operators;
 pub mod reading;
 pub mod rewriting;
 pub mod sheets;
+pub mod writing;

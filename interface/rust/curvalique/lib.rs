@@ -6,6 +6,7 @@ pub mod raw;
 mod refusal;
 mod sheet;
 mod store;
+mod writing;
 
 pub use listing::{Listing, Outcome, Unread, list_sheet, read_listing};
 pub use names::Names;

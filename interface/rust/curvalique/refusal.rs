@@ -16,6 +16,8 @@ impl Refusal {
     pub const BAD_THRESHOLD: Self = Self(7);
     pub const BAD_SETTING: Self = Self(8);
     pub const BAD_NAME_LENGTH: Self = Self(9);
+    pub const NO_TEXT: Self = Self(13);
+    pub const TEXT_TOO_LONG: Self = Self(14);
     pub const NOT_SOUND: Self = Self(20);
     pub const NO_NODE_PLACE: Self = Self(21);
     pub const NO_SLOT_PLACE: Self = Self(22);
