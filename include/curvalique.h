@@ -27,7 +27,8 @@
  * refusal, and leaves what is behind those pointers as it was. The numbers are
  * below. Of several that apply the first in this order is returned: 20, 5, 6,
  * 4, 7 or 8, 23, 21, 22; for names 20, 9, 24; for texts 20, 1, 11, 12, 10, and
- * then the first of 24, 21, 22 that is met. What a refusal leaves in the store
+ * then the first of 24, 21, 22 that is met; for a text that is written 20, 4, 13,
+ * 14. What a refusal leaves in the store
  * is said at each function. Of sheets and listings, what is returned and what
  * stays is said there.
  *
@@ -97,8 +98,8 @@ extern "C" {
 #define CURVALIQUE_NOT_A_NUMBER 10    /* a constant whose bits are a NaN's */
 #define CURVALIQUE_OUTSIDE_LANGUAGE 11 /* a text that is not of the language */
 #define CURVALIQUE_NESTED_TOO_DEEP 12 /* a text that nests over 64 deep */
-#define CURVALIQUE_NO_TEXT 13         /* a node that has no text */
-#define CURVALIQUE_TEXT_TOO_LONG 14   /* a node whose text is too long or too deep */
+#define CURVALIQUE_NO_TEXT 13         /* a node that has no text, or a symbol without a name of the text's form */
+#define CURVALIQUE_TEXT_TOO_LONG 14   /* a text over 8,192 bytes, over the lent ones, or too deep for reading */
 #define CURVALIQUE_NOT_SOUND 20       /* the store or the name list is not sound */
 #define CURVALIQUE_NO_NODE_PLACE 21   /* no place for a new node */
 #define CURVALIQUE_NO_SLOT_PLACE 22   /* a new node needs a larger table than the lent slots */
@@ -295,8 +296,11 @@ uint64_t curvalique_simplify(
  * are summed again in order. Answers the sum's id (0.0 if no term is kept, the
  * term itself if one is) and how many terms are kept and dropped, a shared one
  * as often as it stands there. A root that is no Add is answered itself, with 1
- * kept and 0 dropped. Refusals: 20, 4, 7, 23; nothing is changed. 21, 22: the sum
- * is not finished, and what was built of it stays.
+ * kept and 0 dropped. The answer pruned again at the same threshold is answered
+ * itself, and nothing is changed. At a higher one it becomes what the root becomes
+ * there, if two or more terms were kept; a single kept term is no sum and stays.
+ * Refusals: 20, 4, 7, 23; nothing is changed. 21, 22: the sum is not finished, and
+ * what was built of it stays.
  */
 uint64_t curvalique_prune(
     uint64_t *nodes, size_t node_words, uint32_t *slots, size_t slot_count,
@@ -377,6 +381,23 @@ uint64_t curvalique_read_text(
     uint64_t *nodes, size_t node_words, uint32_t *slots, size_t slot_count,
     uint64_t *count, size_t *size,
     uint8_t *entries, size_t entry_bytes, size_t *name_count, uint64_t *id);
+
+/*
+ * Writes the text of a node as the first bytes of the lent `text`, and its length.
+ * It has no blanks, and no text that reads to that node with the same names has
+ * fewer bracket pairs. Whole constants from 0 to 999,999,999 are in fewest digits
+ * (not -0.0), others are # and 16 capital hex digits of their bits. Reading it
+ * with the same store and names gives the same id and adds nothing. It covers
+ * variables, constants, Neg and operators of two operands but Mod, with the flags
+ * that the constructors give; of marks nothing is asked. Each node under the id is
+ * looked at once for 13, and no more nodes are visited than the text has bytes.
+ * Bytes past the text stay. Refusals: 20 for the store or the name list, 4, 13,
+ * 14, in this order; nothing is changed, and no byte of `text`.
+ */
+uint64_t curvalique_write_text(
+    const uint64_t *nodes, size_t node_words, const uint32_t *slots, size_t slot_count,
+    uint64_t count, size_t size, const uint8_t *entries, size_t entry_bytes, size_t name_count,
+    uint32_t id, uint8_t *text, size_t text_length, uint64_t *length);
 
 /*
  * ---- Sheets and listings ----

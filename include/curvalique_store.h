@@ -329,6 +329,14 @@ static inline uint64_t curvalique_store_read_text(
     return curvalique_answered_(refusal, answer, id);
 }
 
+/* Writes the text of a node, with the store's names, to the lent bytes. */
+static inline uint64_t curvalique_store_write_text(
+    const struct curvalique_store *store, uint32_t id, uint8_t *text, size_t text_length, uint64_t *length) {
+    return curvalique_write_text(
+        CURVALIQUE_LENT_(store), store->count, store->size, CURVALIQUE_NAMES_(store), store->name_count, id, text,
+        text_length, length);
+}
+
 /* ---- Sheets and listings ---- */
 
 /* Runs a sheet on the store. */

@@ -7,3 +7,4 @@ pub mod SheetRefusals
 pub mod SheetAnswering
 pub mod ListingAnswering
 pub mod TextAnswering
+pub mod WriteAnswering

@@ -6,3 +6,4 @@ pub mod Forms
 pub mod SheetCalls
 pub mod ListingCalls
 pub mod TextCalls
+pub mod Writing

@@ -12,3 +12,4 @@ pub mod reading;
 pub mod rewriting;
 pub mod sheets;
 pub mod texts;
+pub mod writing;

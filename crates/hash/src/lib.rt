@@ -1,8 +1,9 @@
 // FNV-1a, 64 bits, modulo 2^64 (01: it stands in for the Rust's rapidhash): over the kind byte, the payload
 // (8 bytes) and each child (4 bytes), big-endian.
+ghost use Prim.Native.Nat.{_*_, _%_, _^_};
 ghost use mathlib.Core.Path.{_≡_};
 ghost use mathlib.Core.List.{[], _∷_};
-ghost use Rattle.hash.specs.Fnv.{timesPrime, fnvFrom, bytes32, bytes64, childrenBytes, nodeHashOf};
+ghost use Rattle.hash.specs.Fnv.{printed, fnvFrom, bytes32, bytes64, childrenBytes, nodeHashOf};
 use std::num::wrapping_add_u64;
 
 const OFFSET_BASIS: u64 = 14_695_981_039_346_656_037;
@@ -15,18 +16,24 @@ const TWO_TO_24: u64 = 16_777_216;
 
 const TWO_TO_32: u64 = 4_294_967_296;
 
-// h times the prime 1,099,511,628,211, modulo 2^64. The prime is 2^40 + 2^8 + 2^7 + 2^5 + 2^4 + 2 + 1, and each
-// product is added in turn.
-pub fn wrapping_mul_prime(h: u64) -> u64
-    ensures { λ r. ⌜ r ≡ timesPrime h ⌝ }
+// h times 179, modulo 2^64. Rattle has no product that wraps: 179 is 2^7 + 2^5 + 2^4 + 2 + 1, and each product is
+// added in turn.
+fn wrapping_mul_179(h: u64) -> u64
+    ensures { λ r. ⌜ r ≡ h * 179 % 2 ^ 64 ⌝ }
 {
-    let mut product = h << 40;
-    product = wrapping_add_u64(product, h << 8);
-    product = wrapping_add_u64(product, h << 7);
+    let mut product = h << 7;
     product = wrapping_add_u64(product, h << 5);
     product = wrapping_add_u64(product, h << 4);
     product = wrapping_add_u64(product, h << 1);
     wrapping_add_u64(product, h)
+}
+
+// h times the prime 1,099,511,628,211, modulo 2^64, as the FNV text builds it: 2^40 + 2^8 + 179 (02 f).
+pub fn wrapping_mul_prime(h: u64) -> u64
+    ensures { λ r. ⌜ r ≡ printed h ⌝ }
+{
+    let product = wrapping_add_u64(h << 40, h << 8);
+    wrapping_add_u64(product, wrapping_mul_179(h))
 }
 
 // One byte more.

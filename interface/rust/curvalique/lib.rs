@@ -10,6 +10,7 @@ mod refusal;
 mod sheet;
 mod store;
 mod text;
+mod writing;
 
 pub use listing::{Listing, Outcome, Unread, list_sheet, read_listing};
 pub use names::Names;

@@ -271,6 +271,21 @@ unsafe extern "C" {
         name_count: *mut usize,
         id: *mut u64,
     ) -> u64;
+    pub fn curvalique_write_text(
+        nodes: *const u64,
+        node_words: usize,
+        slots: *const u32,
+        slot_count: usize,
+        count: u64,
+        size: usize,
+        entries: *const u8,
+        entry_bytes: usize,
+        name_count: usize,
+        id: u32,
+        text: *mut u8,
+        text_length: usize,
+        length: *mut u64,
+    ) -> u64;
     pub fn curvalique_run_sheet(
         sheet: *const u8,
         sheet_length: usize,

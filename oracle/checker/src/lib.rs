@@ -1,7 +1,9 @@
 //! Document 01 as an independent program: the plain machine over a list of
-//! nodes, its sheets and listing, its refusals, and the audit of lent lists.
+//! nodes, its sheets and listing, its refusals, and the audit of lent lists;
+//! and the texts of document 02.
 //!
-//! "01" in the comments is the scope document of the port.
+//! "01" in the comments is the scope document of the port, "02" that of the
+//! later requests.
 
 mod arithmetic;
 mod audit;
@@ -20,6 +22,7 @@ mod refusal;
 mod run;
 mod settings;
 mod store;
+mod text;
 mod walk;
 
 pub use audit::sound;
@@ -36,6 +39,10 @@ pub use refusal::Refusal;
 pub use run::{Answer, Detail, End, Run, run};
 pub use settings::threshold_of_setting;
 pub use store::{Noticed, Store};
+pub use text::{
+    Derivation, NESTING_MAXIMUM, Step, TEXT_BYTES_MAXIMUM, TextLists, derivations, read_text, read_text_by_definition,
+    rival_with_fewer_brackets, steps_of, write_text,
+};
 pub use walk::{Walked, simplify};
 
 /// The answer of the command line: the listing, and the details if asked for.

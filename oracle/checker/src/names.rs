@@ -35,6 +35,11 @@ impl LentNames {
         if name.is_empty() || name.len() > NAME_BYTES {
             return Err(Refusal::NameLength);
         }
+        self.number(name)
+    }
+
+    /// The number of a name of 1 to 32 bytes in a list that is sound.
+    pub fn number(&mut self, name: &[u8]) -> Result<u32, Refusal> {
         let entry = entry_of(name);
         if let Some(number) = self.used().iter().position(|old| *old == entry) {
             return Ok(number as u32);
@@ -46,6 +51,12 @@ impl LentNames {
         self.entries[number] = entry;
         self.count += 1;
         Ok(number as u32)
+    }
+
+    /// The name with this number in a list that is sound, if there is one.
+    pub fn name(&self, number: u64) -> Option<&[u8]> {
+        let entry = self.used().get(usize::try_from(number).ok()?)?;
+        Some(&entry[1..][..usize::from(entry[0])])
     }
 
     fn used(&self) -> &[Entry] {

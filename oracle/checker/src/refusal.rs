@@ -1,9 +1,10 @@
-//! Refusal numbers (01, "Refusals from the input", "Refusals from the state").
+//! Refusal numbers (01, "Refusals from the input", "Refusals from the state";
+//! 10 to 14 are those of texts, 02).
 
 #[derive(Clone, Copy, Debug, PartialEq, Eq, PartialOrd, Ord)]
 #[repr(u8)]
 pub enum Refusal {
-    /// Sheet empty, over 16,384 bytes, or first byte not 1.
+    /// Sheet empty, over 16,384 bytes, or first byte not 1; a text of 0 or over 8,192 bytes.
     Sheet = 1,
     /// Record past the end, unknown, or wrong length.
     Record = 2,
@@ -21,6 +22,16 @@ pub enum Refusal {
     Setting = 8,
     /// Name length.
     NameLength = 9,
+    /// A constant whose bits are a NaN.
+    NotANumber = 10,
+    /// Text outside the language.
+    Language = 11,
+    /// Brackets, minus factors and powers nested over 64 deep.
+    Nesting = 12,
+    /// A node that has no text, or a symbol without a name of the text's form.
+    NoText = 13,
+    /// Text over 8,192 bytes, longer than the lent text buffer, or too deep for reading.
+    TextRoom = 14,
     /// Store or name list not sound, or its counts or sizes not as listed.
     NotSound = 20,
     /// No place for a new node.

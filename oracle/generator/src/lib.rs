@@ -1,5 +1,5 @@
-//! Sheets for the comparison. Each is a function of the mode, the seed and
-//! its number alone.
+//! Sheets and texts for the comparison. Each is a function of the mode, the
+//! seed and its number alone.
 
 mod budgets;
 mod constants;
@@ -13,8 +13,9 @@ mod palette;
 mod random;
 mod shapes;
 mod sheet;
+pub mod texts;
 
 pub use examples::examples;
 pub use exhaustive::COUNT as EXHAUSTIVE_COUNT;
-pub use random::Random;
 pub use mode::{Mode, sheet};
+pub use random::Random;

@@ -114,6 +114,36 @@ unsafe extern "C" {
         name_length: usize,
         number: *mut u64,
     ) -> u64;
+    pub fn curvalique_read_text(
+        text: *const u8,
+        text_length: usize,
+        nodes: *mut u64,
+        nodes_length: usize,
+        slots: *mut u32,
+        slots_length: usize,
+        count: *mut u64,
+        size: *mut usize,
+        entries: *mut u8,
+        entries_length: usize,
+        name_count: *mut usize,
+        id: *mut u64,
+    ) -> u64;
+    #[cfg(feature = "writer")]
+    pub fn curvalique_write_text(
+        nodes: *const u64,
+        nodes_length: usize,
+        slots: *const u32,
+        slots_length: usize,
+        count: u64,
+        size: usize,
+        entries: *const u8,
+        entries_length: usize,
+        name_count: usize,
+        id: u32,
+        text: *mut u8,
+        text_length: usize,
+        length: *mut u64,
+    ) -> u64;
     pub fn curvalique_run_sheet_fresh(
         sheet: *const u8,
         sheet_length: usize,

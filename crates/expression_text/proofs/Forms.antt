@@ -1,0 +1,139 @@
+-- The expressions of texts are the proper ones.
+use Prim.Native.Nat.{ℕ, zero, suc, _+_, _*_, _^_, _≤_, _<_}
+use mathlib.Core.Path.{_≡_, refl, sym, ap, ap₂, _∙_, subst}
+use mathlib.Core.Bool.{Bool, true, false, _&&_, not, cond, false≢true}
+use mathlib.Core.List.{List, [], _∷_, _++_}
+use lib.ListN.{length}
+use lib.Dec.{leb, ltb}
+use lib.IntN.{pos}
+use lib.Ieee.{binary64, nanBits, ofInt}
+use lib.Ieee.Bits.{toBits-lt}
+use lib.Ieee.Fits.{ofInt-fits}
+use native.Mathlib.Omega.{arith}
+use borrow.Author.Tests.{leb-true, leb-false, le-leb, lt-ltb, ltb-true}
+use Rattle.text_language.specs.Grammar.{Expr, constant, variable, negated, linked, raised, isDigit, isLetter, isWord, isHex, hexDigit, digits, hexadecimal, wholeBits, Run, Atom, Level, Reads, Text}
+use Rattle.text_language.specs.Program.{Token, number, name, negate, join, Join, joinOf, postfix}
+use Rattle.text_language.specs.Program as Program
+use Rattle.text_language.specs.Reading.{nanToken, anyNan}
+use Rattle.text_language.proofs.Sound.{absurd-bool, and-both}
+use Rattle.expression_text.specs.Proper.{allWords, isName, isNumber, Proper}
+use Rattle.expression_text.specs.Listed.{All, HasText, ProperHasText}
+use Rattle.expression_text.proofs.Bracketing.{Spelled}
+use Rattle.expression_text.proofs.Numerals.{numeral-atom, NameForm, name-atom}
+use Rattle.expression_text.proofs.Digits.{run-all, digits-low, hex-low}
+
+-- ---- a proper expression is spelled as the language has it
+
+pub all-words : (v : List ℕ) → allWords v ≡ true → All isWord v
+unfolding allWords
+all-words [] h = tt
+all-words (c ∷ v) h = let p = and-both (isWord c) (allWords v) h in (p .0, all-words v (p .1))
+
+pub name-form : (v : List ℕ) → isName v ≡ true → NameForm v
+unfolding isName
+name-form [] h = absurd (false≢true h)
+name-form (c ∷ v) h =
+    let p = and-both (isLetter c) (allWords v && leb (length v) 31) h in
+    let q = and-both (allWords v) (leb (length v) 31) (p .1) in
+    record { head = c; rest = v; is = refl; letter = p .0; words = all-words v (q .0); short = leb-true (length v) 31 (q .1) }
+
+pub not-false : (b : Bool) → not b ≡ true → b ≡ false
+not-false true h = absurd (false≢true h)
+not-false false h = refl
+
+pub record NumberForm (b : ℕ) : Type 0 where
+  pub low : b < 2 ^ 64
+  pub number : nanBits binary64 b ≡ false
+
+pub number-form : (b : ℕ) → isNumber b ≡ true → NumberForm b
+unfolding isNumber
+number-form b h = let p = and-both (ltb b (2 ^ 64)) (not (nanBits binary64 b)) h in record { low = ltb-true b (2 ^ 64) (p .0); number = not-false (nanBits binary64 b) (p .1) }
+
+pub is-number : (b : ℕ) → NumberForm b → isNumber b ≡ true
+unfolding isNumber
+is-number b f = ap₂ (λ (x y : Bool). x && not y) (lt-ltb b (2 ^ 64) (f .low)) (f .number)
+
+pub spelled : (e : Expr) → Proper e → Spelled e
+spelled (constant b) h = λ r. numeral-atom b (number-form b h .low) r
+spelled (variable w) h = λ r. name-atom w (name-form w h) r
+spelled (negated a) h = spelled a h
+spelled (linked k x a b) h = (spelled a (h .0), spelled b (h .1))
+spelled (raised a b) h = (spelled a (h .0), spelled b (h .1))
+
+-- ---- its constants are numbers
+
+any-first : (t : Token) (ts : List Token) → nanToken t ≡ false → anyNan ts ≡ false → anyNan (t ∷ ts) ≡ false
+unfolding anyNan
+any-first t ts h k = ap (λ (x : Bool). elim x as (λ y. Bool) [ true ↦ true | false ↦ anyNan ts ]) h ∙ k
+
+any-parts : (t : Token) (ts : List Token) → anyNan (t ∷ ts) ≡ false → (nanToken t ≡ false) × (anyNan ts ≡ false)
+unfolding anyNan
+any-parts t ts h = go (nanToken t) refl h
+  where
+    go : (b : Bool) → nanToken t ≡ b → (elim b as (λ y. Bool) [ true ↦ true | false ↦ anyNan ts ]) ≡ false → (nanToken t ≡ false) × (anyNan ts ≡ false)
+    go true e k = absurd (false≢true (sym k))
+    go false e k = (e, k)
+
+any-append : (s ts : List Token) → anyNan s ≡ false → anyNan ts ≡ false → anyNan (s ++ ts) ≡ false
+any-append [] ts h k = k
+any-append (t ∷ s) ts h k = let p = any-parts t s h in any-first t (s ++ ts) (p .0) (any-append s ts (p .1) k)
+
+any-both : (s ts : List Token) → anyNan (s ++ ts) ≡ false → (anyNan s ≡ false) × (anyNan ts ≡ false)
+unfolding anyNan
+any-both [] ts h = (refl, h)
+any-both (t ∷ s) ts h = let p = any-parts t (s ++ ts) h in let q = any-both s ts (p .1) in (any-first t s (p .0) (q .0), q .1)
+
+pub numbers : (e : Expr) → Proper e → anyNan (postfix e) ≡ false
+unfolding postfix anyNan
+numbers (constant b) h = any-first (number b) [] (number-form b h .number) refl
+numbers (variable w) h = refl
+numbers (negated a) h = any-append (postfix a) (negate ∷ []) (numbers a h) refl
+numbers (linked k x a b) h = any-append (postfix a) _ (numbers a (h .0)) (any-append (postfix b) (join (joinOf k x) ∷ []) (numbers b (h .1)) refl)
+numbers (raised a b) h = any-append (postfix a) _ (numbers a (h .0)) (any-append (postfix b) (join Program.raise ∷ []) (numbers b (h .1)) refl)
+
+-- ---- what a text reads to is proper
+
+run-words : {s v r : List ℕ} → Run isWord s v r → allWords v ≡ true
+unfolding allWords
+run-words Run.stop = refl
+run-words (Run.more {c} {s} {w} {r} h q) = ap₂ (λ (x y : Bool). x && y) h (run-words q)
+
+-- # and 16 hex digits, and the bits of a whole number, are below 2^64
+hex-bits : (w : List ℕ) → All isHex w → length w ≡ 16 → hexadecimal w < 2 ^ 64
+unfolding hexadecimal
+hex-bits w h l =
+    let z = digits-low 16 hexDigit isHex hex-low 0 w h in
+    let y : 16 ^ length w ≡ 18446744073709551616 = ap (λ (k : ℕ). 16 ^ k) l in
+    omega arith
+
+pub whole-bits : (n : ℕ) → wholeBits n < 2 ^ 64
+unfolding wholeBits
+whole-bits n = toBits-lt binary64 (ofInt binary64 (pos n)) (ofInt-fits binary64 (pos n))
+
+proper-number : (b : ℕ) → b < 2 ^ 64 → anyNan (postfix (constant b)) ≡ false → Proper (constant b)
+unfolding postfix
+proper-number b l n = is-number b (record { low = l; number = any-parts (number b) [] n .0 })
+
+proper-atom : {s r : List ℕ} {e : Expr} → Atom s e r → anyNan (postfix e) ≡ false → Proper e
+unfolding isName
+proper-atom (Atom.blank h a) n = proper-atom a n
+proper-atom (Atom.whole h q l) n = proper-number _ (whole-bits _) n
+proper-atom (Atom.bits h q l) n = proper-number _ (hex-bits _ (run-all q) l) n
+proper-atom (Atom.name {c} {s} {w} {r} h q l) n = ap₂ (λ (x y : Bool). x && y) h (ap₂ (λ (x y : Bool). x && y) (run-words q) (le-leb (length w) 31 l))
+
+-- the constants of each operand
+both-numbers : (a b : Expr) (o : Join) → anyNan (postfix a ++ (postfix b ++ join o ∷ [])) ≡ false → (anyNan (postfix a) ≡ false) × (anyNan (postfix b) ≡ false)
+both-numbers a b o h = let p = any-both (postfix a) _ h in (p .0, any-both (postfix b) _ (p .1) .0)
+
+proper-reads : {l : Level} {s r : List ℕ} {e : Expr} {d : ℕ} → Reads l s e d r → anyNan (postfix e) ≡ false → Proper e
+unfolding postfix
+proper-reads (Reads.one v) n = proper-reads v n
+proper-reads (Reads.next {k} {a = a} {b = b} x v p u) n = let q = both-numbers a b (joinOf k x) n in (proper-reads v (q .0), proper-reads u (q .1))
+proper-reads (Reads.base v) n = proper-reads v n
+proper-reads (Reads.raise {a = a} {b = b} v p u) n = let q = both-numbers a b Program.raise n in (proper-reads v (q .0), proper-reads u (q .1))
+proper-reads (Reads.atom a) n = proper-atom a n
+proper-reads (Reads.minus {e = e} p v) n = proper-reads v (any-both (postfix e) _ n .0)
+proper-reads (Reads.bracket p v q) n = proper-reads v n
+
+pub has-text : ProperHasText
+has-text e t = proper-reads (t .reads .reads) (t .numbers)

@@ -1,0 +1,5 @@
+pub mod Numeral
+pub mod Written
+pub mod Proper
+pub mod Listed
+pub mod Examples

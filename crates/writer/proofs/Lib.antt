@@ -1,0 +1,14 @@
+pub mod Pieces
+pub mod Parts
+pub mod Walking
+pub mod Steps
+pub mod InFront
+pub mod Joining
+pub mod Wholes
+pub mod Leaves
+pub mod Reached
+pub mod Finishing
+pub mod Spelling
+pub mod ReadsBack
+pub mod Answering
+pub mod Once

@@ -1,0 +1,4 @@
+pub mod Expression
+pub mod Writing
+pub mod Placing
+pub mod Sweeping

@@ -1,0 +1,94 @@
+-- What a write says (02 d): of the lent store and the lent name list, an id, the lent text buffer, the answer and the buffer after it.
+use Prim.Native.Nat.{ℕ, _≤_, _<_}
+use mathlib.Core.Path.{_≡_}
+use mathlib.Core.Bool.{false}
+use mathlib.Core.Logic.{_⊎_}
+use mathlib.Core.List.{List, [], _∷_, _++_}
+use lib.ListN.{length, drop}
+use Rattle.text_language.specs.Grammar.{Expr, Text}
+use Rattle.text_language.specs.Program.{postfix}
+use Rattle.text_language.specs.Reading.{mostBytes, mostNested, anyNan}
+use Rattle.definitions.specs.Refusals.{notSound, badOperand, noText, textTooLong}
+use Rattle.definitions.specs.Formula.{formula}
+use Rattle.definitions.specs.Controller.{LentLists, Controller, AfterCall, reading, stored, controllerCall}
+use Rattle.definitions.specs.Promise.{Spells}
+use Rattle.definitions.specs.Beside.{Beside, beside, controllerModel}
+use Rattle.arena.specs.declared.DagArena.{DagArena}
+use Rattle.store.specs.Memory.{memory, model}
+use Rattle.names.specs.Memory.{nameMemory, nameModel}
+use Rattle.expression_text.specs.Written.{textOf, bracketPairs, blanks}
+use Rattle.writer.specs.declared.Answer.{Answer}
+use Rattle.writer.specs.declared.Answer.the-variants.{Length, Refused}
+
+-- ---- the lent lists
+
+-- a store, and beside it a name list
+abbrev pub Lists : Type 0
+Lists = Beside model nameModel
+
+abbrev pub lists : List ℕ → List ℕ → DagArena → List ℕ → ℕ → Lists
+lists words slots arena entries named = beside model nameModel (memory words slots arena) (nameMemory entries named)
+
+pub record SoundLists (m : Lists) : Type 0 where
+  pub store : model .Sound (m .store)
+  pub names : nameModel .Sound (m .names)
+
+-- what the plain machine has in them, and how much is lent
+abbrev pub plain : Lists → Controller
+plain m = controllerModel model nameModel .view m
+
+abbrev pub lent : Lists → LentLists
+lent m = controllerModel model nameModel .lent m
+
+-- ---- the texts of a node
+
+-- "text that reads to that node": a text of the language, however long, deep and spaced, whose expression denotes the node's formula under the
+-- names as they are. No constant of it is a NaN: such a text is refused with 10.
+pub record NodeText (s : Controller) (id : ℕ) (t : List ℕ) : Type 0 where
+  pub expr : Expr
+  pub depth : ℕ
+  pub text : Text t expr depth
+  pub numbers : anyNan (postfix expr) ≡ false
+  pub spells : Spells (s .names) expr (formula (s .nodes) id)
+
+-- the text that is written
+pub record WrittenText (s : Controller) (id : ℕ) (t : List ℕ) : Type 0 where
+  pub of : NodeText s id t
+  -- signs, names and numerals, and brackets only where an operand does not fit without (specs Written and Numeral of expression_text)
+  pub is : t ≡ textOf (of .expr)
+  -- "without blanks"
+  pub no-blanks : blanks t ≡ 0
+  -- "no text that reads to that node has fewer bracket pairs"
+  pub fewest : (u : List ℕ) → NodeText s id u → bracketPairs t ≤ bracketPairs u
+  -- nor does any nest less deep, so that a node whose text is too deep for reading has no other that is not
+  pub shallowest : (u : List ℕ) (n : NodeText s id u) → of .depth ≤ n .depth
+
+-- "14, text over 8,192 bytes, longer than the lent text buffer, or too deep for reading"
+abbrev pub TooLong : {s : Controller} {id : ℕ} {t : List ℕ} → WrittenText s id t → List ℕ → Type 0
+TooLong {s} {id} {t} w buffer = (mostBytes < length t) ⊎ ((length buffer < length t) ⊎ (mostNested < w .of .depth))
+
+-- the text at the start of the lent buffer: "Bytes past the text .. stay"
+abbrev pub inBuffer : List ℕ → List ℕ → List ℕ
+inBuffer t buffer = t ++ drop (length t) buffer
+
+-- "Reading it with the same store and names gives the same id", and nothing is added
+abbrev pub ReadsBack : LentLists → Controller → ℕ → List ℕ → Type 0
+ReadsBack l s id t = controllerCall l s (reading t) ≡ record { answer = stored id; left = s }
+
+-- ---- the call
+
+-- 20, 4, 13 and 14, in this order: "on a refusal all [bytes] stay"; or the text and its length
+pub data Writes (m : Lists) (id : ℕ) (buffer : List ℕ) : Answer → List ℕ → Type 0 where
+  unsound : (SoundLists m → ⊥) → Writes m id buffer (Refused notSound) buffer
+  unknown : SoundLists m → length (plain m .nodes) ≤ id → Writes m id buffer (Refused badOperand) buffer
+  textless : SoundLists m → id < length (plain m .nodes) → ((t : List ℕ) → NodeText (plain m) id t → ⊥)
+      → Writes m id buffer (Refused noText) buffer
+  tooLong : {t : List ℕ} → SoundLists m → id < length (plain m .nodes) → (w : WrittenText (plain m) id t) → TooLong w buffer
+      → Writes m id buffer (Refused textTooLong) buffer
+  written : {t : List ℕ} → SoundLists m → id < length (plain m .nodes) → (w : WrittenText (plain m) id t) → (TooLong w buffer → ⊥)
+      → ReadsBack (lent m) (plain m) id t → Writes m id buffer (Length (length t)) (inBuffer t buffer)
+
+-- no two of the five apply: each refusal is answered exactly in its case (proofs Once)
+abbrev pub WritesOnce : Type 0
+WritesOnce = (m : Lists) (id : ℕ) (buffer : List ℕ) (r r′ : Answer) (buffer′ buffer″ : List ℕ)
+    → Writes m id buffer r buffer′ → Writes m id buffer r′ buffer″ → (r ≡ r′) × (buffer′ ≡ buffer″)
