@@ -428,9 +428,9 @@ uint64_t curvalique_run_sheet(
 
 /*
  * The same on a fresh store in the lent lists: what `count` and `size` hold is
- * not read. Refusals: 22 at record 0 if fewer than 64 slots are lent; `count`
- * and `size` are then 0, which is no sound store, and nodes and slots stay.
- * Else as there but for 20; a sheet refused with 1 leaves the fresh store.
+ * not looked at. Refusals: 1, then 22 if fewer than 64 slots are lent, both at
+ * record 0; no store is opened then, and nothing else is changed. Else as there
+ * but for 20.
  */
 uint64_t curvalique_run_sheet_fresh(
     const uint8_t *sheet, size_t sheet_length,
@@ -441,7 +441,7 @@ uint64_t curvalique_run_sheet_fresh(
 /*
  * Writes the listing of a sheet on a fresh store of 512 nodes and 1,024 slots of
  * its own, as the program `listing` prints it: the first `length` bytes of
- * `listing`. What the bytes past them hold is not said. Refusals: none; the
+ * `listing`. The bytes past them stay as they were. Refusals: none; the
  * listing's first line has a refusal of the sheet.
  */
 void curvalique_list_sheet(

@@ -45,8 +45,8 @@ module _ (o : Outcome) (count size : ℕ) (arena : DagArena) (r form′ id′ at
       (subst (λ (x : DagArena). Runs s m (sheetOutcome r form′ id′ at′) (memory words slots x)) (sym a) (subst (λ (x : Outcome). Runs s m x (memory words slots arena)) (sym (says never)) h), leaves never)
 
   -- a sheet on a fresh store, in numbers
-  pub fresh-in-numbers : (s words slots : List ℕ) (ran : Ran) (words′ slots′ : List ℕ) → ran .outcome ≡ o → ran .arena ≡ arena → RunsFresh s words slots ran words′ slots′
-      → RunsFresh s words slots (sheetRan (sheetOutcome r form′ id′ at′) count size) words′ slots′ × (r ∷ form′ ∷ id′ ∷ at′ ∷ [] ≡ sheetOutputs (sheetOutcome r form′ id′ at′) form id at)
-  fresh-in-numbers s words slots ran words′ slots′ eo ea h =
-      let never : (n : ℕ) → o ≡ Refused 0 n → ⊥ = λ n z. fresh-never-0 s words slots ran words′ slots′ h n (eo ∙ z) in
-      (subst (λ (x : Ran). RunsFresh s words slots x words′ slots′) (ap₂ (λ (x : Outcome) (y : DagArena). record { outcome = x; arena = y }) (eo ∙ sym (says never)) (ea ∙ sym a)) h, leaves never)
+  pub fresh-in-numbers : (s words slots : List ℕ) (before : DagArena) (ran : Ran) (words′ slots′ : List ℕ) → ran .outcome ≡ o → ran .arena ≡ arena → RunsFresh s words slots before ran words′ slots′
+      → RunsFresh s words slots before (sheetRan (sheetOutcome r form′ id′ at′) count size) words′ slots′ × (r ∷ form′ ∷ id′ ∷ at′ ∷ [] ≡ sheetOutputs (sheetOutcome r form′ id′ at′) form id at)
+  fresh-in-numbers s words slots before ran words′ slots′ eo ea h =
+      let never : (n : ℕ) → o ≡ Refused 0 n → ⊥ = λ n z. fresh-never-0 s words slots before ran words′ slots′ h n (eo ∙ z) in
+      (subst (λ (x : Ran). RunsFresh s words slots before x words′ slots′) (ap₂ (λ (x : Outcome) (y : DagArena). record { outcome = x; arena = y }) (eo ∙ sym (says never)) (ea ∙ sym a)) h, leaves never)

@@ -1,6 +1,6 @@
 -- No refusal of a sheet has the number 0, which says that every record was answered.
 use Prim.Native.Nat.{ℕ, zero, suc}
-use mathlib.Core.Path.{_≡_, refl, sym, ap, _∙_, subst}
+use mathlib.Core.Path.{_≡_, refl, sym, ap, ap₂, _∙_, subst}
 use mathlib.Core.Bool.{Bool, true, false, _&&_, cond}
 use mathlib.Core.Option.{Option, none, some}
 use mathlib.Core.List.{List, [], _∷_, _++_}
@@ -14,13 +14,15 @@ use Rattle.definitions.specs.Machine as M
 use Rattle.definitions.specs.Machine.{freshRefused}
 use Rattle.definitions.specs.Sheet as Sheet
 use Rattle.definitions.specs.Listing.{lastOf}
+use Rattle.arena.specs.declared.DagArena.{DagArena}
 use Rattle.store.specs.View.{lent}
 use Rattle.store.specs.Memory.{Memory, model}
 use Rattle.listing_lines.specs.declared.Outcome.{Outcome}
 use Rattle.listing_lines.specs.declared.Outcome.the-variants.{Ok, Empty, Spent, Refused}
 use Rattle.listing_lines.specs.Outcome.{answeredAs, outcomeOf}
 use Rattle.sheet.specs.declared.Ran.{Ran}
-use Rattle.sheet.specs.Sheets.{Runs, RunsFresh}
+use Rattle.records.specs.Reading.{isSheet}
+use Rattle.sheet.specs.Sheets.{Runs, notOpened, RunsFresh}
 use Rattle.curvalique.proofs.Refusals.{Numbered, plain-numbered}
 
 -- ---- the plain machine's sheet
@@ -100,13 +102,17 @@ runs-never-0 s m o m′ h at e =
     λ sound. subst OutcomeNumbered (sym (h .outcome sound) ∙ e) (outcome-numbered (ran .refusal) (ran .answers) (sheet-numbered (model .lent m) (model .view m) s)) refl in
     numbers-differ at (sym e ∙ h .unsound not-sound .0)
 
--- a sheet on a fresh store: where there is none, the number is 22
-pub fresh-never-0 : (s words slots : List ℕ) (r : Ran) (words′ slots′ : List ℕ) → RunsFresh s words slots r words′ slots′ → (at : ℕ) → r .outcome ≡ Refused 0 at → ⊥
-fresh-never-0 s words slots r words′ slots′ h at e = by (freshRefused (lent words slots)) refl
+-- a sheet on a fresh store: where none is opened, the number is 1 or 22
+pub fresh-never-0 : (s words slots : List ℕ) (before : DagArena) (r : Ran) (words′ slots′ : List ℕ) → RunsFresh s words slots before r words′ slots′ → (at : ℕ) → r .outcome ≡ Refused 0 at → ⊥
+fresh-never-0 s words slots before r words′ slots′ h at e = by (isSheet s) (freshRefused (lent words slots)) refl refl
   where
-    no-slots : Refused 0 at ≡ Refused noSlotPlace 0 → ⊥
-    no-slots d = let z : _≡_ {A = ℕ} 0 22 = cc in omega arith
+    reason : {a b : Bool} → isSheet s ≡ a → freshRefused (lent words slots) ≡ b → notOpened s (lent words slots) ≡ cond a (cond b (some noSlotPlace) none) (some badSheet)
+    reason f g = ap₂ (λ (a b : Bool). cond a (cond b (some noSlotPlace) none) (some badSheet)) f g
 
-    by : (b : Bool) → freshRefused (lent words slots) ≡ b → ⊥
-    by true f = no-slots (sym e ∙ ap (λ (x : Ran). x .outcome) (h .refused f .0))
-    by false f = runs-never-0 _ _ _ _ (h .runs f) at e
+    refused-at : (number : ℕ) → notOpened s (lent words slots) ≡ some number → Refused 0 at ≡ Refused number 0
+    refused-at number n = sym e ∙ ap (λ (x : Ran). x .outcome) (h .refused number n .0)
+
+    by : (a b : Bool) → isSheet s ≡ a → freshRefused (lent words slots) ≡ b → ⊥
+    by false b f g = let d = refused-at badSheet (reason f g) in let z : _≡_ {A = ℕ} 0 1 = cc in omega arith
+    by true true f g = let d = refused-at noSlotPlace (reason f g) in let z : _≡_ {A = ℕ} 0 22 = cc in omega arith
+    by true false f g = runs-never-0 _ _ _ _ (h .runs (reason f g)) at e

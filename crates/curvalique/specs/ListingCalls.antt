@@ -5,14 +5,9 @@ use mathlib.Core.List.{List, [], _∷_, _++_}
 use lib.Dec.{eqb}
 use Rattle.listing_lines.specs.declared.Outcome.{Outcome}
 use Rattle.listing_lines.specs.declared.Outcome.the-variants.{Ok, Empty, Spent, Refused}
-use Rattle.listing_bytes.specs.declared.Listing.{Listing}
 use Rattle.listing_reader.specs.declared.Answer.{Answer}
 use Rattle.listing_reader.specs.declared.Answer.the-variants.{Read, Refused as RefusedLine, Full}
 use Rattle.curvalique.specs.Forms.{okForm, emptyForm, spentForm, refusedForm}
-
--- a listing in an array, and its length behind a pointer
-abbrev pub listingOf : List ℕ → ℕ → Listing
-listingOf bytes size = record { bytes = bytes; length = size }
 
 -- ---- the first line
 

@@ -3,7 +3,7 @@ ghost use mathlib.Core.Path.{_≡_};
 ghost use mathlib.Core.List.{[], _∷_};
 ghost use Rattle.listing_bytes.specs.Listed.{Listed};
 ghost use Rattle.listing_reader.specs.Listing.{Reading};
-ghost use Rattle.curvalique.specs.ListingCalls.{listingOf, firstLineOutputs, readAnswer, readOutputs};
+ghost use Rattle.curvalique.specs.ListingCalls.{firstLineOutputs, readAnswer, readOutputs};
 use crate::forms::EMPTY;
 use crate::forms::OK;
 use crate::forms::REFUSED;
@@ -18,19 +18,16 @@ pub const WRONG_LINE: u64 = 1;
 
 pub const TOO_FEW_WORDS: u64 = 2;
 
-// The listing program's listing of a sheet.
+// The listing program's listing of a sheet; the other bytes of the array stay.
 #[no_mangle]
 pub extern "C" fn curvalique_list_sheet(
     sheet: &[u8],
     listing: &mut [u8; LISTING_BYTES],
     length: &mut usize,
 )
-    ensures { λ _. ⌜ Listed (now (sheet .entry)) (listingOf (now (listing .exit)) (now (length .exit))) ⌝ }
+    ensures { λ _. ⌜ Listed (now (sheet .entry)) (now (listing .entry)) (now (length .exit)) (now (listing .exit)) ⌝ }
 {
-    let listed = listing_bytes::list(sheet);
-    let bytes = listed.bytes;
-    *listing = bytes;
-    *length = listed.length;
+    *length = listing_bytes::list(sheet, listing);
 }
 
 // The first line of a listing: its form, and the numbers that stand in it.

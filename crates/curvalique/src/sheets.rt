@@ -2,7 +2,7 @@
 ghost use mathlib.Core.Path.{_≡_};
 ghost use mathlib.Core.List.{[], _∷_};
 ghost use Rattle.sheet.specs.Sheets.{Runs, RunsFresh};
-ghost use Rattle.curvalique.specs.Calls.{lentMemory};
+ghost use Rattle.curvalique.specs.Calls.{arenaOf, lentMemory};
 ghost use Rattle.curvalique.specs.SheetCalls.{sheetOutcome, sheetOutputs, sheetRan};
 use crate::forms::EMPTY;
 use crate::forms::OK;
@@ -64,7 +64,7 @@ pub extern "C" fn curvalique_run_sheet(
     leave_outcome(outcome, form, id, record)
 }
 
-// A sheet on a fresh store in the lent words and slots.
+// A sheet on a fresh store in the lent words and slots. The counts stay where none is opened.
 #[no_mangle]
 pub extern "C" fn curvalique_run_sheet_fresh(
     sheet: &[u8],
@@ -76,10 +76,14 @@ pub extern "C" fn curvalique_run_sheet_fresh(
     id: &mut u64,
     record: &mut u64,
 ) -> u64
-    ensures { λ r. ⌜ RunsFresh (now (sheet .entry)) (now (nodes .entry)) (now (slots .entry)) (sheetRan (sheetOutcome r (now (form .exit)) (now (id .exit)) (now («record» .exit))) (now (count .exit)) (now (size .exit))) (now (nodes .exit)) (now (slots .exit)) ⌝ }
+    ensures { λ r. ⌜ RunsFresh (now (sheet .entry)) (now (nodes .entry)) (now (slots .entry)) (arenaOf (now (count .entry)) (now (size .entry))) (sheetRan (sheetOutcome r (now (form .exit)) (now (id .exit)) (now («record» .exit))) (now (count .exit)) (now (size .exit))) (now (nodes .exit)) (now (slots .exit)) ⌝ }
     ensures { λ r. ⌜ r ∷ now (form .exit) ∷ now (id .exit) ∷ now («record» .exit) ∷ [] ≡ sheetOutputs (sheetOutcome r (now (form .exit)) (now (id .exit)) (now («record» .exit))) (now (form .entry)) (now (id .entry)) (now («record» .entry)) ⌝ }
 {
-    let ran = sheet::run_fresh(sheet, nodes, slots);
+    let before = DagArena {
+        count: *count,
+        size: *size,
+    };
+    let ran = sheet::run_fresh(sheet, nodes, slots, before);
     let after = ran.arena;
     leave_arena(after, count, size);
     let outcome = ran.outcome;

@@ -3,6 +3,7 @@
 use libc::STDERR_FILENO;
 use libc::STDIN_FILENO;
 use libc::STDOUT_FILENO;
+use listing_bytes::LISTING_BYTES;
 use records::MOST_SHEET_BYTES;
 
 // One byte more than the longest sheet, so that a longer one is refused too.
@@ -16,9 +17,8 @@ fn at_end() -> bool {
 
 // Whether the listing was written.
 fn print(sheet: &[u8]) -> bool {
-    let listing = listing_bytes::list(sheet);
-    let bytes = listing.bytes;
-    let length = listing.length;
+    let mut bytes = [0; LISTING_BYTES];
+    let length = listing_bytes::list(sheet, &mut bytes);
     io::write_all(STDOUT_FILENO, &bytes[..length])
 }
 

@@ -3,6 +3,7 @@
 ghost use Prim.Native.Nat.{_<_};
 use libc::STDIN_FILENO;
 use libc::STDOUT_FILENO;
+use listing_bytes::LISTING_BYTES;
 
 const LENGTH_BYTES: usize = 4;
 
@@ -37,9 +38,8 @@ fn next_frame() -> Frame {
 
 // Writes a frame with the listing of a sheet; false where the output took no more.
 fn answer(sheet: &[u8]) -> bool {
-    let listing = listing_bytes::list(sheet);
-    let bytes = listing.bytes;
-    let length = listing.length;
+    let mut bytes = [0; LISTING_BYTES];
+    let length = listing_bytes::list(sheet, &mut bytes);
     let head = [
         (length / HALF_BASE / BYTE_BASE % BYTE_BASE) as u8,
         (length / HALF_BASE % BYTE_BASE) as u8,

@@ -2,12 +2,13 @@
 use Prim.Native.Nat.{ℕ, _+_, _*_, _/_, _≤_}
 use mathlib.Core.Path.{_≡_, refl, ap, ap₂, _∙_}
 use mathlib.Core.Bool.{false}
-use mathlib.Core.List.{List}
-use lib.ListN.{length}
+use mathlib.Core.List.{List, _++_}
+use lib.ListN.{length, drop, length-append}
 use lib.Dec.{ltb}
 use native.Mathlib.Omega.{arith}
 use Rattle.arena.specs.Layout.{nodeWords}
 use Rattle.arena.specs.Nodes.{Nodes}
+use Rattle.arena.specs.declared.DagArena.{DagArena}
 use Rattle.definitions.specs.Intern.{Lent}
 use Rattle.definitions.specs.Machine.{empty, freshRefused}
 use Rattle.definitions.specs.Sheet.{sheet}
@@ -24,11 +25,13 @@ use Rattle.listing_bytes.specs.Listed.{listingLent, Listed}
 pub room : (words : List ℕ) (count long : ℕ) → Nodes words count → length words ≡ 5120 → long ≡ 98496 → (count + 1) * lineBytes ≤ long
 room words count long n w b = let f = n .formed .fits in omega arith
 
-pub listed : (s words slots : List ℕ) (r : Ran) (words′ slots′ bytes : List ℕ) (n : ℕ) → length words ≡ 5120 → length slots ≡ 1024 → RunsFresh s words slots r words′ slots′ → Fills (allLines (r .outcome) words′ (r .arena .count)) n bytes → Listed s (record { bytes = bytes; length = n })
-listed s words slots r words′ slots′ bytes n w l p f =
+pub listed : (s words slots : List ℕ) (none : DagArena) (r : Ran) (words′ slots′ before after : List ℕ) (n : ℕ) → none .count ≡ 0 → length words ≡ 5120 → length slots ≡ 1024 → RunsFresh s words slots none r words′ slots′ → Fills (allLines (r .outcome) words′ (r .arena .count)) n before after → Listed s before n after
+listed s words slots none r words′ slots′ before after n z w l p f =
     let opened : freshRefused (lent words slots) ≡ false = ap (λ (k : ℕ). ltb k 64) l in
     let same : lent words slots ≡ listingLent = ap₂ (λ (a b : ℕ). record { nodes = a / nodeWords; slots = b }) w l in
+    let text : allLines (r .outcome) words′ (r .arena .count) ≡ listing (sheet listingLent empty s) = p .listing opened z ∙ ap (λ (x : Lent). listing (sheet x empty s)) same in
     record {
-      is = f .is ∙ p .listing opened ∙ ap (λ (x : Lent). listing (sheet x empty s)) same;
-      within = f .within;
+      is = f .is ∙ ap (λ (t : List ℕ). t ++ drop n before) text;
+      long = f .long ∙ ap length text;
+      within = let whole : length after ≡ length (allLines (r .outcome) words′ (r .arena .count)) + length (drop n before) = ap length (f .is) ∙ length-append (allLines (r .outcome) words′ (r .arena .count)) (drop n before) in let k = f .long in omega arith;
     }

@@ -5,7 +5,7 @@ use mathlib.Core.Bool.{Bool, true, false}
 use mathlib.Core.Option.{Option, none, some}
 use mathlib.Core.List.{List, [], _∷_, _++_, append-assoc, append-nil}
 use lib.ListN.{length, getD, take, drop, set, length-drop, length-append, length-set}
-use lib.Seq.{take-suc, take-suc-set, take-all, take-length, getD-at}
+use lib.Seq.{take-suc, take-suc-set, take-all, take-length, drop-set-lt, drop-drop, getD-at}
 use lib.Dec.{lit≤}
 use native.Mathlib.Omega.{arith}
 use native.Mathlib.Numerals.{add-one}
@@ -23,19 +23,26 @@ use Rattle.listing_lines.specs.Outcome.{answeredAs, outcomeOf, firstLine
 
 -- ---- one byte more
 
--- so many bytes of a text copied into an array of a given length, behind what it holds up to a place
-pub record Copied (room : ℕ) (base more bytes : List ℕ) (start i : ℕ) : Type 0 where
+-- so many bytes of a text copied into an array of a given length, from a place on; the bytes past them are as they were
+pub record Copied (room : ℕ) (before more bytes : List ℕ) (start i : ℕ) : Type 0 where
   pub within : i ≤ length more
   pub long : length bytes ≡ room
-  pub is : take (start + i) bytes ≡ base ++ take i more
+  pub is : take (start + i) bytes ≡ take start before ++ take i more
+  pub rest : drop (start + i) bytes ≡ drop (start + i) before
 
-pub copied-none : (room : ℕ) (more bytes : List ℕ) (start : ℕ) → length bytes ≡ room → Copied room (take start bytes) more bytes start 0
+pub copied-none : (room : ℕ) (more bytes : List ℕ) (start : ℕ) → length bytes ≡ room → Copied room bytes more bytes start 0
 copied-none room more bytes start l =
     let e : start + 0 ≡ start = omega arith in
-    record { within = omega arith; long = l; is = ap (λ (k : ℕ). take k bytes) e ∙ sym (append-nil (take start bytes)) }
+    record { within = omega arith; long = l; is = ap (λ (k : ℕ). take k bytes) e ∙ sym (append-nil (take start bytes)); rest = refl }
 
-module _ (room : ℕ) (base more bytes : List ℕ) (start i : ℕ) (c : Copied room base more bytes start i) where
-  pub copied-more : i < length more → start + length more ≤ room → Copied room base more (set bytes (start + i) (getD more i 0)) start (i + 1)
+-- what stays from a place on stays from every later one
+pub later-rest : (m n : ℕ) (a b : List ℕ) → m ≤ n → drop m a ≡ drop m b → drop n a ≡ drop n b
+later-rest m n a b h e =
+    let s : m + (n - m) ≡ n = omega arith in
+    sym (ap (λ (k : ℕ). drop k a) s) ∙ sym (drop-drop (n - m) m a) ∙ ap (drop (n - m)) e ∙ drop-drop (n - m) m b ∙ ap (λ (k : ℕ). drop k b) s
+
+module _ (room : ℕ) (before more bytes : List ℕ) (start i : ℕ) (c : Copied room before more bytes start i) where
+  pub copied-more : i < length more → start + length more ≤ room → Copied room before more (set bytes (start + i) (getD more i 0)) start (i + 1)
   copied-more l h =
       let s : start + (i + 1) ≡ suc (start + i) = omega arith in
       let long : length bytes ≡ room = c .long in
@@ -46,18 +53,23 @@ module _ (room : ℕ) (base more bytes : List ℕ) (start i : ℕ) (c : Copied r
             ap (λ (k : ℕ). take k (set bytes (start + i) (getD more i 0))) s
             ∙ take-suc-set bytes (start + i) (getD more i 0) (omega arith)
             ∙ ap (λ (x : List ℕ). x ++ (getD more i 0 ∷ [])) (c .is)
-            ∙ append-assoc base (take i more) (getD more i 0 ∷ [])
-            ∙ ap (λ (x : List ℕ). base ++ x) (sym (ap (λ (k : ℕ). take k more) (add-one i) ∙ take-suc more i 0 l));
+            ∙ append-assoc (take start before) (take i more) (getD more i 0 ∷ [])
+            ∙ ap (λ (x : List ℕ). take start before ++ x) (sym (ap (λ (k : ℕ). take k more) (add-one i) ∙ take-suc more i 0 l));
+        rest =
+            drop-set-lt (start + (i + 1)) bytes (start + i) (getD more i 0) (omega arith)
+            ∙ later-rest (start + i) (start + (i + 1)) bytes before (omega arith) (c .rest);
       }
 
-  pub copied-all : i ≡ length more → take (start + i) bytes ≡ base ++ more
-  copied-all l = c .is ∙ ap (λ (x : List ℕ). base ++ x) (ap (λ (k : ℕ). take k more) l ∙ take-length more)
+  pub copied-all : i ≡ length more → take (start + i) bytes ≡ take start before ++ more
+  copied-all l = c .is ∙ ap (λ (x : List ℕ). take start before ++ x) (ap (λ (k : ℕ). take k more) l ∙ take-length more)
 
 -- ---- text after text
 pub extends-trans : {a b c : Line} {x y : List ℕ} {m n : ℕ} → Extends a x m b → Extends b y n c → Extends a (x ++ y) (m + n) c
 extends-trans {a} {b} {c} {x} {y} p q = record {
   is = q .is ∙ ap (λ (t : List ℕ). t ++ y) (p .is) ∙ append-assoc (text a) x y;
+  longer = let h = p .longer in let k = q .longer in omega arith;
   long = let h = p .long in let k = q .long in omega arith;
+  rest = q .rest ∙ later-rest (b .length) (c .length) (b .bytes) (a .bytes) (q .longer) (p .rest);
 }
 
 -- text that is the end of an array of 20 bytes
@@ -67,16 +79,23 @@ extends-part {a} {b} bytes f l p =
     let e : take (20 - f) (drop f bytes) ≡ drop f bytes = take-all (20 - f) (drop f bytes) (omega arith) in
     let m : length (take (20 - f) (drop f bytes)) ≡ length (drop f bytes) = ap length e in
     let h = p .long in
-    record { is = p .is ∙ ap (λ (t : List ℕ). text a ++ t) e; long = omega arith }
+    record { is = p .is ∙ ap (λ (t : List ℕ). text a ++ t) e; longer = p .longer; long = omega arith; rest = p .rest }
 
 pub extends-more : {a b : Line} {x : List ℕ} {m : ℕ} (n : ℕ) → m ≤ n → Extends a x m b → Extends a x n b
-extends-more n h p = record { is = p .is; long = let l = p .long in omega arith }
+extends-more n h p = record { is = p .is; longer = p .longer; long = let l = p .long in omega arith; rest = p .rest }
 
 pub extends-as : {a b : Line} {m : ℕ} (x y : List ℕ) → x ≡ y → Extends a x m b → Extends a y m b
 extends-as {a} {b} {m} x y e p = subst (λ (t : List ℕ). Extends a t m b) e p
 
 pub from-empty : {a b : Line} {x : List ℕ} {m : ℕ} → EmptyLine a → Extends a x m b → m ≤ lineBytes → Holds x b
-from-empty {a} {b} {x} e p l = let z = e .long in let h = p .long in record { is = p .is ∙ ap (λ (t : List ℕ). t ++ x) (e .is); within = omega arith }
+from-empty {a} {b} {x} e p l =
+    let z = e .long in
+    let h = p .long in
+    record {
+      is = p .is ∙ ap (λ (k : ℕ). take k (a .bytes) ++ x) z;
+      within = omega arith;
+      rest = p .rest ∙ ap (drop (b .length)) (e .zeros);
+    }
 
 -- ---- children, one at a time
 
@@ -93,7 +112,7 @@ children-snoc (d ∷ l) c = ap (λ (t : List ℕ). space ∷ (decimal d ++ t)) (
 
 pub listed-none : (base : Line) (children : List ℕ) → length children ≤ 4 → Listed base children base 0
 unfolding childrenPart
-listed-none base children h = record { within = omega arith; few = h; extends = record { is = sym (append-nil (text base)); long = omega arith } }
+listed-none base children h = record { within = omega arith; few = h; extends = record { is = sym (append-nil (text base)); longer = omega arith; long = omega arith; rest = refl } }
 
 module _ (base : Line) (children : List ℕ) (r : Line) (place : ℕ) (d : Listed base children r place) where
   pub listed-more : place < length children → (n : ℕ) → n ≡ getD children place 0 → (r′ : Line) → Extends r (space ∷ decimal n) numberBytes r′ → Listed base children r′ (place + 1)
@@ -106,7 +125,9 @@ module _ (base : Line) (children : List ℕ) (r : Line) (place : ℕ) (d : Liste
         let one : take (place + 1) children ≡ take place children ++ (n ∷ []) = ap (λ (k : ℕ). take k children) (add-one place) ∙ take-suc children place 0 l ∙ ap (λ (x : ℕ). take place children ++ (x ∷ [])) (sym e) in
         record {
           is = t .is ∙ ap (λ (x : List ℕ). text base ++ x) (sym (ap childrenPart one ∙ children-snoc (take place children) n));
+          longer = t .longer;
           long = omega arith;
+          rest = t .rest;
         };
   }
 
@@ -116,7 +137,9 @@ module _ (base : Line) (children : List ℕ) (r : Line) (place : ℕ) (d : Liste
       let h : r .length ≤ base .length + place * numberBytes = d .extends .long in
       record {
         is = d .extends .is ∙ ap (λ (x : List ℕ). text base ++ childrenPart x) (ap (λ (k : ℕ). take k children) e ∙ take-length children);
+        longer = d .extends .longer;
         long = omega arith;
+        rest = d .extends .rest;
       }
 
 -- ---- whole lines

@@ -2,14 +2,16 @@
 use Prim.Native.Nat.{ℕ, _+_, _≤_}
 use mathlib.Core.Path.{_≡_}
 use mathlib.Core.List.{List, _++_}
-use lib.ListN.{length, take}
+use lib.ListN.{length, take, drop}
 
--- text put into an array from a place on, and the place after it
+-- text put into an array from a place on, and the place after it; the bytes from there on stay
 pub record Puts (text : List ℕ) (at : ℕ) (out : List ℕ) (r : ℕ) (out′ : List ℕ) : Type 0 where
   pub is : take r out′ ≡ take at out ++ text
   pub place : r ≡ at + length text
+  pub rest : drop r out′ ≡ drop r out
 
--- so many bytes at the start of an array are this text
-pub record Fills (text : List ℕ) (r : ℕ) (out : List ℕ) : Type 0 where
-  pub is : take r out ≡ text
+-- an array starts with this text, of so many bytes, and the bytes past it stay
+pub record Fills (text : List ℕ) (r : ℕ) (out out′ : List ℕ) : Type 0 where
+  pub is : out′ ≡ text ++ drop r out
+  pub long : r ≡ length text
   pub within : r ≤ length out

@@ -2,7 +2,7 @@
 use Prim.Native.Nat.{ℕ, _+_, _≤_}
 use mathlib.Core.Path.{_≡_}
 use mathlib.Core.List.{List, [], _++_}
-use lib.ListN.{length, take, drop}
+use lib.ListN.{length, take, drop, replicate}
 use Rattle.listing_lines.specs.declared.line.Line.{Line}
 use Rattle.listing_lines.specs.declared.digits.Digits.{Digits}
 
@@ -25,20 +25,23 @@ childrenBytes = 84
 abbrev pub text : Line → List ℕ
 text l = take (l .length) (l .bytes)
 
--- a line without text
+-- a line without text: its bytes are 0
 pub record EmptyLine (l : Line) : Type 0 where
-  pub is : text l ≡ []
+  pub zeros : l .bytes ≡ replicate lineBytes 0
   pub long : l .length ≡ 0
 
--- a line with more text, at most so many bytes longer
+-- a line with more text, at most so many bytes longer; the bytes past it stay
 pub record Extends (l : Line) (more : List ℕ) (most : ℕ) (r : Line) : Type 0 where
   pub is : text r ≡ text l ++ more
+  pub longer : l .length ≤ r .length
   pub long : r .length ≤ l .length + most
+  pub rest : drop (r .length) (r .bytes) ≡ drop (r .length) (l .bytes)
 
--- a line with this text, which its bytes have room for
+-- a line with this text, which its bytes have room for; the bytes past it are 0
 pub record Holds (t : List ℕ) (r : Line) : Type 0 where
   pub is : text r ≡ t
   pub within : r .length ≤ lineBytes
+  pub rest : drop (r .length) (r .bytes) ≡ drop (r .length) (replicate lineBytes 0)
 
 -- the digits of a number stand at the end of an array
 pub record Spells (digits : List ℕ) (r : Digits) : Type 0 where

@@ -33,11 +33,11 @@ fn put_line(out: &mut [u8], at: usize, line: Line) -> usize
     put(out, at, &bytes[..length])
 }
 
-// The first line and the line of each id by rising id, in an array with room for so many of the longest lines; the number of bytes
-// that they take.
+// The first line and the line of each id by rising id, at the start of an array with room for so many of the longest lines; the number
+// of bytes that they take. The bytes past them stay.
 pub fn all_lines(outcome: Outcome, nodes: &[u64], count: u64, out: &mut [u8]) -> usize
     requires { ⌜ Nodes (now nodes) count × ((count + 1) * lineBytes ≤ length (now out)) ⌝ }
-    ensures { λ r. ⌜ Fills (allLines outcome (now (nodes .entry)) count) r (now (out .exit)) ⌝ }
+    ensures { λ r. ⌜ Fills (allLines outcome (now (nodes .entry)) count) r (now (out .entry)) (now (out .exit)) ⌝ }
 {
     let mut at = put_line(out, 0, first_line(outcome));
     let mut id: u64 = 0;

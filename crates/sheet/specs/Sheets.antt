@@ -1,7 +1,8 @@
 -- What running a sheet says of the memory before it, its outcome and the memory after it.
 use Prim.Native.Nat.{ℕ, _*_}
 use mathlib.Core.Path.{_≡_}
-use mathlib.Core.Bool.{true, false}
+use mathlib.Core.Bool.{true, false, cond}
+use mathlib.Core.Option.{Option, none, some}
 use mathlib.Core.List.{List}
 use lib.ListN.{drop}
 use Rattle.arena.specs.Layout.{nodeWords}
@@ -9,8 +10,8 @@ use Rattle.arena.specs.Nodes.{Nodes}
 use Rattle.arena.specs.declared.DagArena.{DagArena}
 use Rattle.dedup.specs.Table.{UsedStay}
 use Rattle.definitions.specs.Limits.{mostDoublings}
-use Rattle.definitions.specs.Refusals.{notSound, noSlotPlace}
-use Rattle.definitions.specs.Intern.{tableSizeFrom}
+use Rattle.definitions.specs.Refusals.{badSheet, notSound, noSlotPlace}
+use Rattle.definitions.specs.Intern.{Lent, tableSizeFrom}
 use Rattle.definitions.specs.Machine.{empty, freshRefused}
 use Rattle.definitions.specs.Sheet.{sheet}
 use Rattle.definitions.specs.Listing as Listing
@@ -49,14 +50,14 @@ pub record Runs (s : List ℕ) (m : Memory) (o : Outcome) (m′ : Memory) : Type
 
 -- ---- on a fresh store
 
--- the counts beside a refusal to open a store
-abbrev pub noStore : DagArena
-noStore = record { count = 0; size = 0 }
+-- why no store is opened: 1, then 22 "also a fresh store with under 64"
+abbrev pub notOpened : List ℕ → Lent → Option ℕ
+notOpened s l = cond (isSheet s) (cond (freshRefused l) (some noSlotPlace) none) (some badSheet)
 
--- 22 "also a fresh store with under 64", and nothing changed; else the sheet on the fresh store, and the listing that 01 asks for
-pub record RunsFresh (s words slots : List ℕ) (r : Ran) (words′ slots′ : List ℕ) : Type 0 where
-  pub refused : freshRefused (lent words slots) ≡ true → (r ≡ refusedAtStart noSlotPlace noStore) × (words′ ≡ words) × (slots′ ≡ slots)
-  pub runs : freshRefused (lent words slots) ≡ false → Runs s (freshMemory words slots) (r .outcome) (memory words′ slots′ (r .arena))
-  pub listing : freshRefused (lent words slots) ≡ false → allLines (r .outcome) words′ (r .arena .count) ≡ Listing.listing (sheet (lent words slots) empty s)
-  -- the nodes are such that their lines can be asked for
-  pub nodes : Nodes words′ (r .arena .count)
+-- 1 and 22 change nothing, and the counts are those handed in; else the sheet on the fresh store, and the listing that 01 asks for
+pub record RunsFresh (s words slots : List ℕ) (before : DagArena) (r : Ran) (words′ slots′ : List ℕ) : Type 0 where
+  pub refused : (number : ℕ) → notOpened s (lent words slots) ≡ some number → (r ≡ refusedAtStart number before) × (words′ ≡ words) × (slots′ ≡ slots)
+  pub runs : notOpened s (lent words slots) ≡ none → Runs s (freshMemory words slots) (r .outcome) (memory words′ slots′ (r .arena))
+  -- where the counts handed in are those of no nodes: the lines of all nodes are the listing, and can be asked for
+  pub listing : freshRefused (lent words slots) ≡ false → before .count ≡ 0 → allLines (r .outcome) words′ (r .arena .count) ≡ Listing.listing (sheet (lent words slots) empty s)
+  pub nodes : before .count ≡ 0 → Nodes words′ (r .arena .count)

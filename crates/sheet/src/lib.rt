@@ -49,16 +49,19 @@ pub fn run(sheet: &[u8], nodes: &mut [u64], slots: &mut [u32], arena: DagArena) 
     }
 }
 
-// A sheet on a fresh store in the lent words and slots.
-pub fn run_fresh(sheet: &[u8], nodes: &mut [u64], slots: &mut [u32]) -> Ran
-    ensures { λ r. ⌜ RunsFresh (now (sheet .entry)) (now (nodes .entry)) (now (slots .entry)) r (now (nodes .exit)) (now (slots .exit)) ⌝ }
+// A sheet on a fresh store in the lent words and slots. Where none is opened, for 1 or 22, nothing changes, and the counts are those handed in.
+pub fn run_fresh(sheet: &[u8], nodes: &mut [u64], slots: &mut [u32], before: DagArena) -> Ran
+    ensures { λ r. ⌜ RunsFresh (now (sheet .entry)) (now (nodes .entry)) (now (slots .entry)) before r (now (nodes .exit)) (now (slots .exit)) ⌝ }
 {
-    let fresh = builder::fresh(nodes, slots);
-    match fresh {
-        FreshStore::Refused(number) => {
-            let none = DagArena { count: 0, size: 0 };
-            refused(number, none)
+    let opened = records::open(sheet);
+    match opened {
+        Opened::Refused => refused(BAD_SHEET, before),
+        Opened::Records(_) => {
+            let fresh = builder::fresh(nodes, slots);
+            match fresh {
+                FreshStore::Refused(number) => refused(number, before),
+                FreshStore::Store(arena) => run(sheet, nodes, slots, arena),
+            }
         }
-        FreshStore::Store(arena) => run(sheet, nodes, slots, arena),
     }
 }

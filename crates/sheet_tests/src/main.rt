@@ -83,9 +83,8 @@ fn compare_with(file: i32, expected: &mut [u8], sheet: &[u8]) -> Compared {
     if io::read_full(file, expected) < expected.len() {
         return Compared::End;
     }
-    let listing = listing_bytes::list(sheet);
-    let bytes = listing.bytes;
-    let length = listing.length;
+    let mut bytes = [0; LISTING_BYTES];
+    let length = listing_bytes::list(sheet, &mut bytes);
     if is_same(&bytes[..length], expected) {
         return Compared::Same;
     }

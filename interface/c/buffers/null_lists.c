@@ -8,8 +8,6 @@
 #include <stdlib.h>
 #include <string.h>
 
-#define FEWEST_SLOTS 64
-
 static void try_null_stores(void) {
     uint64_t count = UNTOUCHED, id = UNTOUCHED, words[CURVALIQUE_NODE_WORDS];
     size_t size = UNTOUCHED;
@@ -70,6 +68,7 @@ static void try_null_texts(void) {
 }
 
 static void try_null_sheets(void) {
+    static const uint8_t SHEET[] = {1};
     struct store store = fresh_store(CURVALIQUE_NODE_WORDS, FEWEST_SLOTS);
     struct sheet_answer answer = NO_SHEET_ANSWER;
     uint64_t returned = curvalique_run_sheet(NULL, 0, STORE(&store), SHEET_ANSWER(&answer));
@@ -77,7 +76,12 @@ static void try_null_sheets(void) {
     returned = curvalique_run_sheet_fresh(NULL, 0, STORE(&store), SHEET_ANSWER(&answer));
     check(returned == CURVALIQUE_BAD_SHEET, "an empty sheet on a fresh store");
     returned = curvalique_run_sheet_fresh(NULL, 0, NULL, 0, NULL, 0, &store.count, &store.size, SHEET_ANSWER(&answer));
+    check(returned == CURVALIQUE_BAD_SHEET, "an empty sheet and no slots");
+    store.count = UNTOUCHED;
+    returned = curvalique_run_sheet_fresh(
+        SHEET, sizeof SHEET, NULL, 0, NULL, 0, &store.count, &store.size, SHEET_ANSWER(&answer));
     check(returned == CURVALIQUE_NO_SLOT_PLACE, "no slots for a sheet");
+    check(store.count == UNTOUCHED && store.size == FEWEST_SLOTS, "no store is opened without slots");
     check(answer.form == UNTOUCHED && answer.id == UNTOUCHED, "a refused sheet answers its record only");
     release(&store);
 }

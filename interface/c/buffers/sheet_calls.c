@@ -72,15 +72,23 @@ static struct reading reading_of(const struct store *store, uint64_t returned, c
 static struct bytes listing_of(const struct bytes *sheet) {
     struct store store = fresh_store(NODES * CURVALIQUE_NODE_WORDS, SLOTS);
     struct sheet_answer answer = NO_SHEET_ANSWER;
-    store.count = any_word();
-    store.size = any_word();
+    uint64_t count = store.count = any_word();
+    size_t size = store.size = any_word();
     uint64_t returned = curvalique_run_sheet_fresh(sheet->bytes, sheet->length, STORE(&store), SHEET_ANSWER(&answer));
     check_answer(&store, returned, &answer);
+    if (returned == CURVALIQUE_BAD_SHEET) {
+        check(store.count == count && store.size == size, "bytes that are no sheet open no store");
+        store.count = 0;
+        store.size = FEWEST_SLOTS;
+    }
     check(sound(&store), "a fresh store is sound after any sheet");
     struct bytes room = untouched_bytes(CURVALIQUE_LISTING_BYTES);
     size_t length = UNTOUCHED;
     curvalique_list_sheet(sheet->bytes, sheet->length, room.bytes, &length);
     check(length <= CURVALIQUE_LISTING_BYTES, "the length of a listing");
+    for (size_t past = length; past < CURVALIQUE_LISTING_BYTES; past++) {
+        check(room.bytes[past] == UNTOUCHED_BYTE, "the bytes past a listing stay");
+    }
     struct bytes listing = copy_of_bytes(room.bytes, length);
     struct reading expected = reading_of(&store, returned, &answer);
     check_listing(&listing, &store, &expected);

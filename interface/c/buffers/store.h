@@ -18,6 +18,9 @@ struct store {
 #define LENT(store) (store)->nodes, (store)->node_words, (store)->slots, (store)->slot_count
 #define STORE(store) LENT(store), &(store)->count, &(store)->size
 
+/* The slots of a fresh store's table. */
+#define FEWEST_SLOTS 64
+
 /* A fresh store, in untouched memory. */
 struct store fresh_store(size_t node_words, size_t slot_count);
 

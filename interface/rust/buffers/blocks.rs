@@ -4,7 +4,7 @@ use curvalique::{NODE_WORDS, Names, Refusal, Store};
 
 use crate::trial::{Trial, UNTOUCHED, UNTOUCHED_SLOT, block, check, filled_block};
 
-const FIRST_SIZE: usize = 64;
+pub const FIRST_SIZE: usize = 64;
 
 #[derive(PartialEq, Eq)]
 pub struct Blocks {

@@ -98,7 +98,7 @@ fn try_null_texts() {
 
 fn try_null_sheets() {
     let (mut numbers, mut answers) = ((UNTOUCHED, 0), [UNTOUCHED; 3]);
-    let (mut nodes, mut slots) = ([UNTOUCHED; NODE_WORDS], [UNTOUCHED_SLOT; FEWEST_SLOTS]);
+    let (mut nodes, mut slots, sheet) = ([UNTOUCHED; NODE_WORDS], [UNTOUCHED_SLOT; FEWEST_SLOTS], [1]);
     let (list, words, table, lent) = (nodes.as_mut_ptr(), nodes.len(), slots.as_mut_ptr(), slots.len());
     let (count, size) = (&raw mut numbers.0, &raw mut numbers.1);
     let [form, id, record] = answers.each_mut().map(|answer| &raw mut *answer);
@@ -108,11 +108,13 @@ fn try_null_sheets() {
             curvalique_run_sheet_fresh(null(), 0, list, words, table, lent, count, size, form, id, record),
             curvalique_run_sheet(null(), 0, list, words, table, lent, count, size, form, id, record),
             curvalique_run_sheet_fresh(null(), 0, null_mut(), 0, null_mut(), 0, count, size, form, id, record),
+            curvalique_run_sheet_fresh(sheet.as_ptr(), 1, null_mut(), 0, null_mut(), 0, count, size, form, id, record),
         ]
     };
-    let expected = [Refusal::BAD_SHEET, Refusal::BAD_SHEET, Refusal::NO_SLOT_PLACE];
-    check(returned.map(Refusal) == expected, "an empty sheet");
-    check(numbers == (0, 0) && answers == [UNTOUCHED, UNTOUCHED, 0], "a refused sheet answers its record only");
+    let expected = [Refusal::BAD_SHEET, Refusal::NOT_SOUND, Refusal::BAD_SHEET, Refusal::NO_SLOT_PLACE];
+    check(returned.map(Refusal) == expected, "an empty sheet, and one without slots");
+    check(numbers == (UNTOUCHED, 0), "no store is opened for bytes that are no sheet or without slots");
+    check(answers == [UNTOUCHED, UNTOUCHED, 0], "a refused sheet answers its record only");
 }
 
 fn try_null_listings() {

@@ -2,7 +2,7 @@
 
 use curvalique::{LISTING_BYTES, NODE_WORDS, Outcome, Refusal, RefusedSheet, SheetAnswer, list_sheet, read_listing};
 
-use crate::blocks::Blocks;
+use crate::blocks::{Blocks, FIRST_SIZE};
 use crate::listing_calls::try_listing;
 use crate::trial::{Group, Trial, UNTOUCHED, UNTOUCHED_BYTE, block, check, filled_block};
 
@@ -58,13 +58,18 @@ fn check_listing(trial: &mut Trial, blocks: &Blocks, answer: &Answer, listing: &
 /// A sheet on a fresh store, as the listing program runs it, and its listing.
 fn listing_of(trial: &mut Trial, sheet: &[u8]) -> Box<[u8]> {
     let mut blocks = Blocks::fresh(NODES * NODE_WORDS, SLOTS);
-    blocks.count = trial.any_word();
-    blocks.size = trial.any_word() as usize;
+    let counts = (trial.any_word(), trial.any_word() as usize);
+    (blocks.count, blocks.size) = counts;
     let answer = blocks.call(|store| store.run_sheet_fresh(sheet));
     check_answer(trial, &blocks, &answer);
+    if answer == Err(RefusedSheet { refusal: Refusal::BAD_SHEET, record: 0 }) {
+        check((blocks.count, blocks.size) == counts, "bytes that are no sheet open no store");
+        (blocks.count, blocks.size) = (0, FIRST_SIZE);
+    }
     check(blocks.is_sound(), "a fresh store is sound after any sheet");
     let mut room = Box::new([UNTOUCHED_BYTE; LISTING_BYTES]);
     let listing = block(list_sheet(sheet, &mut room));
+    check(room[listing.len()..].iter().all(|&byte| byte == UNTOUCHED_BYTE), "the bytes past a listing stay");
     check_listing(trial, &blocks, &answer, &listing);
     listing
 }

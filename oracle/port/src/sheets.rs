@@ -64,7 +64,8 @@ impl FirstLine {
     }
 }
 
-/// Runs a sheet on a fresh store in these lists; the store, and what its first line says.
+/// Runs a sheet on a fresh store in these lists; the store, with counts 0 where none was opened, and what its first line
+/// says.
 pub fn run_fresh(sheet: &[u8], words: Vec<u64>, slots: Vec<u32>) -> (LentStore, FirstLine) {
     let mut store = LentStore { words, slots, node_count: 0, table_size: 0 };
     let mut counts = Counts { count: u64::MAX, size: usize::MAX };
@@ -84,7 +85,10 @@ pub fn run_fresh(sheet: &[u8], words: Vec<u64>, slots: Vec<u32>) -> (LentStore, 
             &mut record,
         )
     };
-    counts.put(&mut store);
+    // 1 and 22 before a store is opened leave the counts as they were.
+    if counts.count != u64::MAX {
+        counts.put(&mut store);
+    }
     let first = match unless_refused(refused, form) {
         Ok(form) => FirstLine::of_form(form, id, 0, 0),
         Err(number) => FirstLine::Refused { number, record },

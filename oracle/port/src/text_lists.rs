@@ -53,15 +53,20 @@ pub fn any(random: &mut Random, text: &[u8]) -> TextLists {
     for earlier in &before {
         let _ = read_text(&mut lists, earlier);
     }
+    mark_some(random, &mut lists);
+    if random.once_in(DAMAGED) {
+        damage(random, &mut lists);
+    }
+    lists
+}
+
+/// Marks about a third of the nodes.
+pub fn mark_some(random: &mut Random, lists: &mut TextLists) {
     for id in 0..lists.store.node_count as usize {
         if random.once_in(3) {
             lists.store.words[id * WORDS_PER_NODE + FLAGS_WORD] |= MARK;
         }
     }
-    if random.once_in(DAMAGED) {
-        damage(random, &mut lists);
-    }
-    lists
 }
 
 /// Sizes that every one of the texts fits in, one after another.

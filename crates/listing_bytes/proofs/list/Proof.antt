@@ -1,3 +1,4 @@
+use mathlib.Core.Path.{refl}
 use Rattle.listing_bytes.proofs.Bytes.{room, listed}
 use borrow.Author.Needs.{needs}
 use Rattle.listing_bytes.proofs.list.Statement.{statement}
@@ -19,14 +20,11 @@ run-fresh-requires c κs = search needs
 slice-aggregate-all-lines : tie.Need-slice-aggregate-all-lines
 slice-aggregate-all-lines c = search needs
 
-slice-aggregate-all-lines-2 : tie.Need-slice-aggregate-all-lines-2
-slice-aggregate-all-lines-2 c = search needs
-
 all-lines-requires : tie.Need-all-lines-requires
-all-lines-requires c κs = (c .before .before .before .before .before .run-fresh .ensures .nodes, room _ _ _ (c .before .before .before .before .before .run-fresh .ensures .nodes) (search needs) (search needs))
+all-lines-requires c κs = (c .before .before .before .before .before .run-fresh .ensures .nodes refl, room _ _ _ (c .before .before .before .before .before .run-fresh .ensures .nodes refl) (search needs) (search needs))
 
 returns : tie.Need-returns
-returns c = listed _ _ _ _ _ _ _ _ (search needs) (search needs) (c .before .before .before .before .before .before .before .run-fresh .ensures) (c .before .all-lines .ensures)
+returns c = listed _ _ _ _ _ _ _ _ _ _ refl (search needs) (search needs) (c .before .before .before .before .before .before .run-fresh .ensures) (c .all-lines .ensures)
 
 pub list-spec : {M : Type 1} → statement M
 list-spec =
@@ -36,6 +34,5 @@ list-spec =
     slice-aggregate-run-fresh-2
     run-fresh-requires
     slice-aggregate-all-lines
-    slice-aggregate-all-lines-2
     all-lines-requires
     returns)

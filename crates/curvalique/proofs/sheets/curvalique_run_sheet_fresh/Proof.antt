@@ -21,8 +21,8 @@ same-length-2 c = search needs
 
 returns : tie.Need-returns
 returns c =
-    let args = c .before .before .before .before .before .before .before .before .before .before .before .before .before .before .before .before .before .before .args in
-    fresh-in-numbers _ _ _ _ _ _ _ _ (args .form .now) (args .id .now) (args .«record» .now) (c .before .before .before .before .leave-arena .ensures) (c .leave-outcome .ensures) _ _ _ _ _ _ refl refl (c .before .before .before .before .before .before .before .before .before .before .before .before .run-fresh .ensures)
+    let args = c .before .before .before .before .before .before .before .before .before .before .before .before .before .before .before .before .before .before .before .before .args in
+    fresh-in-numbers _ _ _ _ _ _ _ _ (args .form .now) (args .id .now) (args .«record» .now) (c .before .before .before .before .leave-arena .ensures) (c .leave-outcome .ensures) _ _ _ _ _ _ _ refl refl (c .before .before .before .before .before .before .before .before .before .before .before .before .run-fresh .ensures)
 
 pub curvalique-run-sheet-fresh-spec : {M : Type 1} → statement M
 curvalique-run-sheet-fresh-spec =

@@ -14,7 +14,7 @@ use Rattle.listing_lines.proofs.first_line.Reads as first-line-reads
 use Rattle.listing_lines.proofs.node.node_line_sound.Reads as node-line-sound-reads
 
 abbrev Inv-loop : tie.InvT-loop
-Inv-loop nodes count out₀ at₀ id₀ out at id = (length out ≡ length out₀) × ((count + 1) * lineBytes ≤ length out) × Gathered (take at₀ out₀) nodes count out at id
+Inv-loop nodes count out₀ at₀ id₀ out at id = (length out ≡ length out₀) × ((count + 1) * lineBytes ≤ length out) × Gathered at₀ (take at₀ out₀) nodes count out₀ out at id
 
 abbrev μ-loop : tie.MeasureT-loop
 μ-loop nodes count out₀ at₀ id₀ out at id = count - id
@@ -41,13 +41,13 @@ loop-less : tie.Need-loop-less Inv-loop μ-loop
 loop-less c = search needs
 
 loop-again : tie.Need-loop-again Inv-loop μ-loop
-loop-again c = (search needs, search needs, gathered-more _ _ _ _ _ _ (c .before .before .before .before .before .before .loop .inv .2) (omega arith) _ (c .before .before .before .node-line-sound .ensures) _ _ (c .before .before .put-line2 .ensures))
+loop-again c = (search needs, search needs, gathered-more _ _ _ _ _ _ _ _ (c .before .before .before .before .before .before .loop .inv .2) (omega arith) _ (c .before .before .before .node-line-sound .ensures) _ _ (c .before .before .put-line2 .ensures))
 
 same-length : tie.Need-same-length Inv-loop μ-loop
 same-length c = let l = c .before .loop .inv .0 in search needs
 
 returns : tie.Need-returns Inv-loop μ-loop
-returns c = gathered-all _ _ _ _ _ _ (c .before .loop .inv .2) (omega arith) (c .before .loop .inv .1) _ (first-is _ _ (c .before .before .before .before .before .first-line .ensures) _ _ _ (c .before .before .before .before .put-line .ensures))
+returns c = gathered-all _ _ _ _ _ _ _ _ _ (c .before .loop .inv .2) (search needs) (c .before .before .before .before .put-line .ensures .rest) (omega arith) (c .before .loop .inv .1) _ (first-is _ _ (c .before .before .before .before .before .first-line .ensures) _ _ _ (c .before .before .before .before .put-line .ensures))
 
 pub all-lines-spec : {M : Type 1} → statement M
 all-lines-spec =

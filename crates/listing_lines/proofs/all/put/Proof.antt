@@ -1,6 +1,6 @@
 use Prim.Native.Nat.{ℕ, _-_}
 use mathlib.Core.Path.{_≡_, refl}
-use lib.ListN.{length, take}
+use lib.ListN.{length}
 use native.Mathlib.Omega.{arith}
 use borrow.Author.Needs.{needs}
 use Rattle.listing_lines.proofs.Lines.{Copied, copied-none, copied-more, copied-all}
@@ -10,7 +10,7 @@ use Rattle.listing_lines.proofs.all.put.Reads as reads
 use Rattle.listing_lines.proofs.all.put.Lts as lts
 
 abbrev Inv-loop : tie.InvT-loop
-Inv-loop out₀ at more i₀ out i = Copied (length out₀) (take at out₀) more out at i
+Inv-loop out₀ at more i₀ out i = Copied (length out₀) out₀ more out at i
 
 abbrev μ-loop : tie.MeasureT-loop
 μ-loop out₀ at more i₀ out i = length more - i
@@ -46,7 +46,7 @@ returns : tie.Need-returns Inv-loop μ-loop
 returns c =
     let v = c .before .loop .inv in
     let w = v .within in
-    record { is = copied-all _ _ _ _ _ _ v (omega arith); place = omega arith }
+    record { is = copied-all _ _ _ _ _ _ v (omega arith); place = omega arith; rest = v .rest }
 
 pub put-spec : {M : Type 1} → statement M
 put-spec =

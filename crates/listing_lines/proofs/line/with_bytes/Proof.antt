@@ -1,6 +1,6 @@
 use Prim.Native.Nat.{ℕ, _-_}
 use mathlib.Core.Path.{_≡_}
-use lib.ListN.{length, take}
+use lib.ListN.{length}
 use native.Mathlib.Omega.{arith}
 use borrow.Author.Needs.{needs}
 use Rattle.listing_lines.specs.Line.{lineBytes}
@@ -11,7 +11,7 @@ use Rattle.listing_lines.proofs.line.with_bytes.Reads as reads
 use Rattle.listing_lines.proofs.line.with_bytes.Lts as lts
 
 abbrev Inv-loop : tie.InvT-loop
-Inv-loop more bytes₀ start i₀ bytes i = Copied lineBytes (take start bytes₀) more bytes start i
+Inv-loop more bytes₀ start i₀ bytes i = Copied lineBytes bytes₀ more bytes start i
 
 abbrev μ-loop : tie.MeasureT-loop
 μ-loop more bytes₀ start i₀ bytes i = length more - i
@@ -44,7 +44,7 @@ returns : tie.Need-returns Inv-loop μ-loop
 returns c =
     let v = c .before .loop .inv in
     let w = v .within in
-    record { is = copied-all _ _ _ _ _ _ v (omega arith); long = omega arith }
+    record { is = copied-all _ _ _ _ _ _ v (omega arith); longer = omega arith; long = omega arith; rest = v .rest }
 
 pub with-bytes-spec : {M : Type 1} → statement M
 with-bytes-spec =

@@ -28,35 +28,41 @@ fn main() -> ExitCode {
             return ExitCode::FAILURE;
         }
     }
-    let Tally { calls, names, texts, damaged, .. } = tally;
-    println!(
-        "{count} cases, {calls} calls ({names} of names, {texts} readings), {damaged} on lists just damaged, no difference"
-    );
-    for (number, [others, texts]) in tally.refusals.iter().enumerate().filter(|(_, times)| **times != [0, 0]) {
-        println!("refusal {number}: {others}, of readings {texts}");
+    let Tally { calls, names, readings, writings, damaged, .. } = tally;
+    println!("{count} cases, {calls} calls: {names} of names, {readings} readings, {writings} writings");
+    println!("{damaged} of them on lists just damaged, no difference");
+    for (number, times) in tally.refusals.iter().enumerate().filter(|(_, times)| **times > 0) {
+        println!("refusal {number}: {times}, of readings {}", tally.refused_readings[number]);
     }
     ExitCode::SUCCESS
 }
 
-/// How many calls were compared, how many of them were of names, readings, or
-/// on lists just damaged, and how many met each refusal, readings apart.
+/// How many calls were compared, how many of each kind, how many on lists just
+/// damaged, and how many calls and readings met each refusal.
 #[derive(Default)]
 struct Tally {
     calls: u64,
     names: u64,
-    texts: u64,
+    readings: u64,
+    writings: u64,
     damaged: u64,
-    refusals: [[u64; 2]; 25],
+    refusals: [u64; 25],
+    refused_readings: [u64; 25],
 }
 
 impl Tally {
     fn note<T>(&mut self, asked: Option<&Asked>, answer: &Result<T, u64>) {
-        let is_text = matches!(asked, Some(Asked::Text(_)));
         self.calls += 1;
-        self.texts += u64::from(is_text);
-        self.names += u64::from(matches!(asked, Some(Asked::Name(_))));
+        match asked {
+            Some(Asked::Name(_)) => self.names += 1,
+            Some(Asked::Text(_)) => self.readings += 1,
+            #[cfg(feature = "writer")]
+            Some(Asked::Writing { .. }) => self.writings += 1,
+            Some(Asked::Store(_)) | None => {}
+        }
         if let Err(number) = answer {
-            self.refusals[*number as usize][usize::from(is_text)] += 1;
+            self.refusals[*number as usize] += 1;
+            self.refused_readings[*number as usize] += u64::from(matches!(asked, Some(Asked::Text(_))));
         }
     }
 }

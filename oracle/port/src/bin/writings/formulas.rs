@@ -1,9 +1,9 @@
-//! Stores with formulas made by calls: shared towers, chains near the deepest
-//! nesting, names of other forms, and nodes that have no text.
+//! Stores with formulas made by calls, some nodes marked: shared towers, chains
+//! near the deepest nesting, names of other forms, and nodes that have no text.
 
 use checker::{Call, LentNames, TextLists, call};
 use generator::Random;
-use port::text_lists::{Sizes, fresh};
+use port::text_lists::{Sizes, fresh, mark_some};
 
 const SIZES: Sizes = Sizes { nodes: 300, slots: 512, names: 12 };
 /// Codes of the calls: Add, Sub, Mul, Div, Pow, Neg.
@@ -34,6 +34,7 @@ pub fn lists(random: &mut Random) -> TextLists {
             operator(random, &mut lists);
         }
     }
+    mark_some(random, &mut lists);
     lists
 }
 
@@ -49,7 +50,7 @@ fn name_some(random: &mut Random, names: &mut LentNames) {
     }
 }
 
-/// The id of what a call gives, or that of node 0.
+/// Does a store call.
 fn build(lists: &mut TextLists, asked: &Call) {
     call(&mut lists.store, asked).expect("a place for the node");
 }
