@@ -39,16 +39,6 @@ impl Derivation {
         }
     }
 
-    /// How many pairs of brackets stand in it.
-    pub fn bracket_pairs(&self) -> usize {
-        match self {
-            Derivation::Number(_) | Derivation::Name(_) => 0,
-            Derivation::Minus(inner) => inner.bracket_pairs(),
-            Derivation::Brackets(inner) => 1 + inner.bracket_pairs(),
-            Derivation::Joined(_, left, right) => left.bracket_pairs() + right.bracket_pairs(),
-        }
-    }
-
     /// Makes its nodes with the builder's constructors, operands first, left
     /// before right, each name just before its node.
     pub fn make(&self, store: &mut Store, names: &mut LentNames) -> Result<u32, Refusal> {

@@ -1,6 +1,7 @@
-//! Formulas typed as text (document 02, request c), in two ways that share no
-//! code: a reader with a stack of what is open, and for short texts every
-//! derivation by the sentences of 02. And their writing back (request d).
+//! Formulas typed as text (document 02, request c), read in two ways that share
+//! no more than 02's numbers: a reader with a stack of what is open, and for
+//! short texts every derivation by the sentences of 02. And nodes written as
+//! text (request d).
 
 mod call;
 mod derivation;
