@@ -24,7 +24,7 @@ all-lines-requires : tie.Need-all-lines-requires
 all-lines-requires c κs = (c .before .before .before .before .before .run-fresh .ensures .nodes refl, room _ _ _ (c .before .before .before .before .before .run-fresh .ensures .nodes refl) (search needs) (search needs))
 
 returns : tie.Need-returns
-returns c = listed _ _ _ _ _ _ _ _ _ _ refl (search needs) (search needs) (c .before .before .before .before .before .before .run-fresh .ensures) (c .all-lines .ensures)
+returns c = listed _ _ _ _ _ _ _ _ _ _ refl (search needs) (search needs) (c .before .before .before .before .before .before .run-fresh .ensures) (c .all-lines .ensures .0)
 
 pub list-spec : {M : Type 1} → statement M
 list-spec =
