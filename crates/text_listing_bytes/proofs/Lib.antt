@@ -1,4 +1,3 @@
-pub mod Zeros
 pub mod NameLines
 pub mod FreshReading
 pub mod Whole

@@ -3,7 +3,7 @@ use Prim.Native.Nat.{ℕ, zero, suc, _+_, _*_, _≤_, _<_, min}
 use mathlib.Core.Path.{_≡_, refl, sym, ap, _∙_, subst}
 use mathlib.Core.Bool.{Bool, true, false, cond, false≢true}
 use mathlib.Core.List.{List, [], _∷_, _++_, append-assoc, append-nil}
-use lib.ListN.{length, take, getD, length-append, length-take}
+use lib.ListN.{length, take, drop, getD, length-append, length-take}
 use native.Mathlib.Omega.{arith}
 use native.Mathlib.Nat.{min-le-left}
 use borrow.Author.Tests.{lt-ltb}
@@ -19,7 +19,7 @@ use Rattle.listing_lines.specs.declared.line.Line.{Line}
 use Rattle.listing_lines.specs.Line.{lineBytes, numberBytes, text, EmptyLine, Extends, Holds}
 use Rattle.listing_lines.specs.Outcome.{joined}
 use Rattle.listing_lines.specs.Filling.{Puts}
-use Rattle.listing_lines.proofs.Lines.{extends-trans, extends-as, from-empty}
+use Rattle.listing_lines.proofs.Lines.{later-rest, extends-trans, extends-as, from-empty}
 use Rattle.listing_lines.proofs.Gathering.{joined-more, text-within}
 use Rattle.text_listing_bytes.specs.Names.{nameWord, nameLine, nameLines, nameLength}
 
@@ -92,10 +92,11 @@ pub record Written (line : ℕ → List ℕ) (count : ℕ) (out₀ : List ℕ) (
   pub place-is : place ≡ at + length (joined line i 0)
   pub low : place ≤ at + i * lineBytes
   pub some : i ≤ count
+  pub rest : drop place out ≡ drop place out₀
 
 pub written-none : (line : ℕ → List ℕ) (count : ℕ) (out : List ℕ) (at : ℕ) → Written line count out at out at 0
 unfolding joined
-written-none line count out at = record { is = sym (append-nil (take at out)); place-is = omega arith; low = omega arith; some = omega arith }
+written-none line count out at = record { is = sym (append-nil (take at out)); place-is = omega arith; low = omega arith; some = omega arith; rest = refl }
 
 module _ (line : ℕ → List ℕ) (count : ℕ) (out₀ : List ℕ) (at : ℕ) (out : List ℕ) (place i : ℕ) (w : Written line count out₀ at out place i) where
   one-more : joined line (i + 1) 0 ≡ joined line i 0 ++ line i
@@ -118,6 +119,7 @@ module _ (line : ℕ → List ℕ) (count : ℕ) (out₀ : List ℕ) (at : ℕ) 
         place-is = omega (arith, longer);
         low = omega arith;
         some = omega arith;
+        rest = p .rest ∙ later-rest place r out out₀ (omega arith) (w .rest);
       }
 
 pub written-all : (names : List (List ℕ)) (count : ℕ) (out₀ : List ℕ) (at : ℕ) (out : List ℕ) (place i : ℕ) → length names ≡ count
@@ -128,4 +130,5 @@ written-all names count out₀ at out place i n w l =
     record {
       is = w .is ∙ ap (λ (k : ℕ). take at out₀ ++ joined (nameLine names) k 0) e;
       place = w .place-is ∙ ap (λ (k : ℕ). at + length (joined (nameLine names) k 0)) e;
+      rest = w .rest;
     }

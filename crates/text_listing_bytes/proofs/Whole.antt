@@ -2,7 +2,8 @@
 use Prim.Native.Nat.{ℕ, _+_, _*_, _/_, _≤_}
 use mathlib.Core.Path.{_≡_, refl, sym, ap, ap₂, _∙_, subst}
 use mathlib.Core.List.{List, _++_}
-use lib.ListN.{length, take}
+use lib.ListN.{length, take, drop, replicate}
+use lib.Seq.{take-at, drop-at}
 use native.Mathlib.Omega.{arith}
 use Rattle.arena.specs.declared.DagArena.{DagArena}
 use Rattle.arena.specs.Nodes.{Nodes}
@@ -19,14 +20,13 @@ use Rattle.listing_lines.specs.Line.{lineBytes}
 use Rattle.listing_lines.specs.Outcome as Shown
 use Rattle.listing_lines.specs.Outcome.{allLines}
 use Rattle.listing_lines.specs.Filling.{Puts, Fills}
-use Rattle.listing_lines.proofs.Lines.{listing-of-memory}
+use Rattle.listing_lines.proofs.Lines.{later-rest, listing-of-memory}
 use Rattle.text.specs.Making.{Desk, desk}
 use Rattle.text_listing_bytes.specs.Names.{nameLines}
-use Rattle.text_listing_bytes.specs.Clearing.{Clears}
 use Rattle.listing_lines.specs.declared.Outcome as Outcome
 use Rattle.text.specs.Calling.{answered}
 use Rattle.text_listing_bytes.specs.declared.TextListing.{TextListing}
-use Rattle.text_listing_bytes.specs.Listed.{textLent, lentLists, readText, ReadsFresh, PlaceOf, outcomeOf, ranOf, textListing, Lines, ListedText}
+use Rattle.text_listing_bytes.specs.Listed.{textLent, textListingBytes, lentLists, readText, ReadsFresh, PlaceOf, outcomeOf, ranOf, textListing, Lines, ListedText}
 
 -- how much the program lends
 lent-is : (words slots entries : List ℕ) → length words ≡ 5120 → length slots ≡ 1024 → length entries ≡ 4224 → lentLists words slots entries ≡ textLent
@@ -83,17 +83,21 @@ module _ (s words slots entries : List ℕ) (a : Answer) (words′ slots′ : Li
           q .is ∙ ap₂ (λ (x y : List ℕ). x ++ y) lines-are (ap nameLines names-are)
           ∙ sym (ap₂ (λ (x : Answer) (y : ℕ). textListing x y (readText textLent s .left)) (q .answer) (q .place));
       within = q .within;
-      zero = q .zero;
+      rest = q .rest;
     }
 
 -- the lines in one array
-pub lines-in : (a : Answer) (place : ℕ) (words : List ℕ) (count : ℕ) (entries : List ℕ) (names : ℕ) (b₁ b₂ b₃ : List ℕ) (n r : ℕ) (o : Outcome.Outcome) → o ≡ outcomeOf a place
-    → Fills (allLines o words count) n b₁ → Puts (nameLines (namesOf entries names)) n b₁ r b₂ → r ≤ length b₂ → Clears b₂ r b₃
-    → Lines a place words count entries names (record { bytes = b₃; length = r; answer = a; place = place })
-lines-in a place words count entries names b₁ b₂ b₃ n r o e f q k z = record {
-  answer = refl;
-  place = refl;
-  is = z .before ∙ q .is ∙ ap (λ (x : List ℕ). x ++ nameLines (namesOf entries names)) (f .is ∙ ap (λ (x : Outcome.Outcome). allLines x words count) e);
-  within = subst (λ (m : ℕ). r ≤ m) (sym (z .long)) k;
-  zero = z .zero;
-}
+pub lines-in : (a : Answer) (place : ℕ) (words : List ℕ) (count : ℕ) (entries : List ℕ) (names : ℕ) (b₁ b₂ : List ℕ) (n r : ℕ) (o : Outcome.Outcome) → o ≡ outcomeOf a place
+    → Fills (allLines o words count) n (replicate textListingBytes 0) b₁ → Puts (nameLines (namesOf entries names)) n b₁ r b₂ → r ≤ length b₂
+    → Lines a place words count entries names (record { bytes = b₂; length = r; answer = a; place = place })
+lines-in a place words count entries names b₁ b₂ n r o e f q k =
+    let zeros : List ℕ = replicate textListingBytes 0 in
+    let start : take n b₁ ≡ allLines o words count = ap (take n) (f .is) ∙ take-at (allLines o words count) (drop n zeros) n (sym (f .long)) in
+    let past : drop n b₁ ≡ drop n zeros = ap (drop n) (f .is) ∙ drop-at (allLines o words count) (drop n zeros) n (sym (f .long)) in
+    record {
+      answer = refl;
+      place = refl;
+      is = q .is ∙ ap (λ (x : List ℕ). x ++ nameLines (namesOf entries names)) (start ∙ ap (λ (x : Outcome.Outcome). allLines x words count) e);
+      within = k;
+      rest = q .rest ∙ later-rest n r b₁ zeros (let p = q .place in omega arith) past;
+    }

@@ -1,10 +1,10 @@
 -- The listing of a formula typed as text: 01's listing of the reading's answer and nodes, and after it a line a name.
-use Prim.Native.Nat.{ℕ, _≤_, _<_}
+use Prim.Native.Nat.{ℕ, _+_, _*_, _≤_}
 use mathlib.Core.Path.{_≡_}
 use mathlib.Core.Bool.{cond}
 use mathlib.Core.Option.{Option, none, some}
 use mathlib.Core.List.{List, [], _∷_, _++_}
-use lib.ListN.{length, take, getD}
+use lib.ListN.{length, take, drop, replicate}
 use lib.Dec.{eqb}
 use Rattle.definitions.specs.Node.{Node}
 use Rattle.definitions.specs.Machine as M
@@ -19,6 +19,7 @@ use Rattle.store.specs.View.{lent}
 use Rattle.names.specs.Sound.{namesOf, lentEntries}
 use Rattle.listing_lines.specs.declared.Outcome as Outcome
 use Rattle.listing_lines.specs.declared.Outcome.the-variants as outcome
+use Rattle.listing_lines.specs.Line.{lineBytes}
 use Rattle.listing_lines.specs.Outcome.{allLines}
 use Rattle.text.specs.Making.{Desk, Held, viewed}
 use Rattle.text.specs.Calling.{answered}
@@ -29,6 +30,10 @@ use Rattle.text_listing_bytes.specs.Names.{nameLines}
 -- a fresh store of 512 nodes and 1,024 slots, as 01's listing program has it, and an empty list of 128 names
 abbrev pub textLent : LentLists
 textLent = record { store = record { nodes = 512; slots = 1024 }; names = 128 }
+
+-- room for the first line, the line of each node and that of each name
+abbrev pub textListingBytes : ℕ
+textListingBytes = (textLent .store .nodes + textLent .names + 1) * lineBytes
 
 -- how much is lent by words, slots and entries
 unfoldable pub lentLists : List ℕ → List ℕ → List ℕ → LentLists
@@ -68,7 +73,7 @@ pub record Lines (a : Answer) (at : ℕ) (words : List ℕ) (count : ℕ) (entri
   pub place : r .place ≡ at
   pub is : take (r .length) (r .bytes) ≡ allLines (outcomeOf a at) words count ++ nameLines (namesOf entries names)
   pub within : r .length ≤ length (r .bytes)
-  pub zero : (j : ℕ) → r .length ≤ j → getD (r .bytes) j 0 ≡ 0
+  pub rest : drop (r .length) (r .bytes) ≡ drop (r .length) (replicate textListingBytes 0)
 
 pub record ListedText (s : List ℕ) (r : TextListing) : Type 0 where
   pub answer : answered (r .answer) ≡ readText textLent s .answer
@@ -76,4 +81,4 @@ pub record ListedText (s : List ℕ) (r : TextListing) : Type 0 where
   pub is : take (r .length) (r .bytes) ≡ textListing (r .answer) (r .place) (readText textLent s .left)
   pub within : r .length ≤ length (r .bytes)
   -- the bytes past the listing are 0
-  pub zero : (j : ℕ) → r .length ≤ j → getD (r .bytes) j 0 ≡ 0
+  pub rest : drop (r .length) (r .bytes) ≡ drop (r .length) (replicate textListingBytes 0)

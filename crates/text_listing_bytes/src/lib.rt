@@ -1,5 +1,4 @@
 // A formula typed as text, read into a fresh store and an empty name list: its listing as bytes, 01's lines and after them a line a name.
-mod clearing;
 mod naming;
 mod reading;
 
@@ -8,7 +7,6 @@ ghost use Rattle.arena.specs.Nodes.{Nodes};
 ghost use Rattle.names.specs.Sound.{Sound};
 ghost use Rattle.text_listing_bytes.specs.Listed.{textLent, Lines, ListedText};
 use arena::NODE_WORDS;
-use clearing::clear;
 use listing_lines::LINE_BYTES;
 use listing_lines::all_lines;
 use naming::put_names;
@@ -50,10 +48,9 @@ fn lines(
     requires { ⌜ Nodes (now nodes) count × Sound (now entries) names × (count ≤ textLent .store .nodes) × (names ≤ textLent .names) ⌝ }
     ensures { λ r. ⌜ Lines answer place (now (nodes .entry)) count (now (entries .entry)) names r ⌝ }
 {
-    let mut bytes = [0u8; TEXT_LISTING_BYTES];
+    let mut bytes = [0; TEXT_LISTING_BYTES];
     let nodes_end = all_lines(outcome_of(answer, place), nodes, count, &mut bytes);
     let length = put_names(entries, names, &mut bytes, nodes_end);
-    clear(&mut bytes, length);
     TextListing {
         bytes,
         length,

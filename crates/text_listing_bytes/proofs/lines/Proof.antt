@@ -18,14 +18,8 @@ slice-aggregate-put-names c = search needs
 put-names-requires : tie.Need-put-names-requires
 put-names-requires c κs = (c .before .before .before .before .before .before .before .pre .1, room-for-names _ _ _ _ (c .before .before .all-lines .ensures .1) (c .before .before .before .before .before .before .before .pre .2) (c .before .before .before .before .before .before .before .pre .3) (search needs))
 
-slice-aggregate-clear : tie.Need-slice-aggregate-clear
-slice-aggregate-clear c = search needs
-
-clear-requires : tie.Need-clear-requires
-clear-requires c κs = c .before .before .put-names .ensures .1
-
 returns : tie.Need-returns
-returns c = lines-in _ _ _ _ _ _ _ _ _ _ _ _ (c .before .before .before .before .before .before .before .before .before .outcome-of .ensures) (c .before .before .before .before .before .before .before .all-lines .ensures .0) (c .before .before .before .before .put-names .ensures .0) (c .before .before .before .before .put-names .ensures .1) (c .before .clear .ensures)
+returns c = lines-in _ _ _ _ _ _ _ _ _ _ _ (c .before .before .before .before .before .before .outcome-of .ensures) (c .before .before .before .before .all-lines .ensures .0) (c .before .put-names .ensures .0) (c .before .put-names .ensures .1)
 
 pub lines-spec : {M : Type 1} → statement M
 lines-spec =
@@ -36,6 +30,4 @@ lines-spec =
     all-lines-requires
     slice-aggregate-put-names
     put-names-requires
-    slice-aggregate-clear
-    clear-requires
     returns)
