@@ -18,7 +18,7 @@ ghost use Rattle.history.specs.Replaying.{after, RunsAll, Replays};
 use arena::DagArena;
 use builder::FreshStore;
 use builder::fresh;
-use calling::call;
+pub use calling::call;
 use finding::HEADER_WORDS;
 use finding::Next;
 use finding::next_call;

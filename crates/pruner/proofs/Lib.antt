@@ -1,17 +1,2 @@
-pub mod Below
-pub mod Chains
-pub mod Weights
-pub mod Reading
-pub mod Pushing
-pub mod Filtering
-pub mod Closing
-pub mod Flattening
-pub mod Halving
-pub mod Parts
-pub mod Resuming
-pub mod Splitting
-pub mod Adding
-pub mod Joining
-pub mod Summing
 pub mod Pruning
 pub mod Calling

@@ -28,20 +28,20 @@ use Rattle.store.specs.View.{nodesIn, lent, Sound, plainBuilt}
 use Rattle.store.specs.Memory.{Memory, memory, keepsInterned}
 use Rattle.store.proofs.Keeping.{kept-refl}
 use Rattle.store.proofs.Viewing.{plain-length}
-use Rattle.pruner.specs.Terms.{Flattens, Holds}
-use Rattle.pruner.specs.Sums.{part, Summable, Sums}
+use Rattle.chains.specs.Terms.{Flattens, Holds}
+use Rattle.sums.specs.Sums.{part, Summable, Sums}
 use Rattle.pruner.specs.Answers.{meaning, thresholdOf, Prunes, PrunesChain, PrunesRoot, PrunesCall}
 use Rattle.pruner.specs.declared.threshold.Threshold.{Threshold}
 use Rattle.pruner.specs.declared.threshold.Threshold.the-variants.{Bits, Refusing}
-use Rattle.pruner.specs.declared.chain.Flattened.{Flattened}
-use Rattle.pruner.specs.declared.chain.Flattened.the-variants.{Terms, TooMany}
+use Rattle.chains.specs.declared.chain.Flattened.{Flattened}
+use Rattle.chains.specs.declared.chain.Flattened.the-variants.{Terms, TooMany}
 use Rattle.pruner.specs.declared.Answer.{Answer}
 use Rattle.pruner.specs.declared.Answer.the-variants.{Pruned, Refused}
-use Rattle.pruner.proofs.Below.{below-of, lower-filter}
-use Rattle.pruner.proofs.Chains.{chain-low}
-use Rattle.pruner.proofs.Reading.{readable, layered}
+use Rattle.chains.proofs.Below.{below-of, lower-filter}
+use Rattle.chains.proofs.Chains.{chain-low}
+use Rattle.chains.proofs.Reading.{readable, layered}
 use Rattle.definitions.proofs.Stopping.{NoPlace, StopsForPlace}
-use Rattle.pruner.proofs.Halving.{sum-stops}
+use Rattle.sums.proofs.Halving.{sum-stops}
 
 -- 21 and 22 keep what was interned
 for-place : (number : ℕ) → NoPlace number → keepsInterned number ≡ true

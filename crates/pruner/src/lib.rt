@@ -1,7 +1,4 @@
 // Pruning (01, "simplifier: pruning"): an additive chain without the terms whose magnitude is below a threshold.
-pub mod chain;
-pub mod keeping;
-pub mod sum;
 pub mod threshold;
 
 ghost use Prim.Native.Nat.{_<_};
@@ -11,8 +8,8 @@ ghost use Rattle.store.specs.Memory.{memory, Leaves};
 ghost use Rattle.pruner.specs.Answers.{meaning, PrunesChain, PrunesRoot, PrunesCall};
 use arena::DagArena;
 use arena::kind::ADD;
-use chain::Flattened;
-use chain::MOST_TERMS;
+use chains::Flattened;
+use chains::MOST_TERMS;
 use definitions::refusals::BAD_OPERAND;
 use definitions::refusals::NOT_SOUND;
 use definitions::refusals::TOO_MANY_TERMS;
@@ -44,13 +41,13 @@ fn prune_chain(
 {
     let mut terms = [0u32; MOST_TERMS];
     let count = arena.count;
-    match chain::flatten(nodes, count, root, threshold, &mut terms) {
+    match chains::flatten(nodes, count, root, threshold, &mut terms) {
         Flattened::TooMany => Outcome {
             answer: Answer::Refused(TOO_MANY_TERMS),
             arena,
         },
         Flattened::Terms { from, found, kept } => {
-            let built = sum::balanced_add(nodes, slots, arena, &terms, from, kept);
+            let built = sums::balanced_add(nodes, slots, arena, &terms, from, kept);
             let after = built.arena;
             let answer = built.answer;
             match answer {

@@ -3,7 +3,7 @@ use Prim.Native.Nat.{ℕ}
 use lib.ListN.{length-replicate}
 use native.Mathlib.Omega.{arith}
 use borrow.Author.Needs.{needs}
-use Rattle.pruner.proofs.Reading.{readable}
+use Rattle.chains.proofs.Reading.{readable}
 use Rattle.pruner.proofs.Pruning as Q
 use Rattle.pruner.proofs.prune_chain.Statement.{statement}
 use Rattle.pruner.proofs.prune_chain.Tie as tie
