@@ -22,7 +22,7 @@ use Rattle.definitions.specs.Promise.{Called}
 use Rattle.definitions.proofs.Stopping.{NoPlace, StopsForPlace, intern-stops}
 use Rattle.store.specs.Memory.{Memory, model}
 use Rattle.walk.proofs.Refusing.{refused-full}
-use Rattle.pruner.proofs.Halving.{sum-stops}
+use Rattle.sums.proofs.Halving.{sum-stops}
 
 -- an answer, or a refusal with a number from 1 on
 abbrev pub Numbered : Answer → Type 0
