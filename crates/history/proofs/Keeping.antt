@@ -9,7 +9,7 @@ use Rattle.store.specs.Memory.{memory, model}
 use Rattle.names.specs.Memory.{nameMemory, nameModel}
 use Rattle.names.proofs.Modelled.{names-called, no-names}
 use Rattle.text.proofs.Calling.{read-called}
-use Rattle.history.specs.Memory.{Memory, held, lentController, Left, by-store, by-names, by-text, LeftInTurn, done, next, KeepsPromise}
+use Rattle.calls.specs.Memory.{Memory, held, lentController, Left, by-store, by-names, by-text, LeftInTurn, done, next, KeepsPromise}
 
 pub called : {c : ControllerCall} {m : Memory} {a : ControllerAnswer} {m′ : Memory} → Left c m a m′ → ControllerCalled lentController c m a m′
 called (by-store {c = c} {s = s} {s′ = s′} {a = a} {n = n} h) = lift-store model nameModel c s s′ a n (h .called)

@@ -1,10 +1,6 @@
 pub mod Keeping
 pub mod Turns
 pub mod Decoding
-pub mod CodeCalls
-pub mod Spelling
-pub mod SpelledNames
-pub mod TypedTexts
 pub mod EncodedCalls
 pub mod FirstCalls
 pub mod Replaying

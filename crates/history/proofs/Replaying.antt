@@ -26,15 +26,16 @@ use Rattle.builder.specs.Opens.{freshAnswer, freshSlots, freshMemory, Opens}
 use Rattle.names.specs.Sound.{lentEntries}
 use Rattle.names.specs.Memory.{nameMemory, nameModel}
 use Rattle.names.proofs.Modelled.{no-names}
-use Rattle.history.specs.declared.handing.Handed.{Handed}
-use Rattle.history.specs.declared.handing.LastReply.the-variants as Last
-use Rattle.history.specs.declared.reply.Reply.the-variants.{Nothing}
-use Rattle.history.specs.Memory.{Memory, held, freshHeld, lentController, Left, done}
+use Rattle.calls.specs.declared.handing.Handed.{Handed}
+use Rattle.calls.specs.declared.handing.LastReply.the-variants as Last
+use Rattle.calls.specs.declared.reply.Reply.the-variants.{Nothing}
+use Rattle.calls.specs.Memory.{Memory, held, freshHeld, lentController, Left, done}
 use Rattle.history.specs.declared.Run.{Run}
 use Rattle.history.specs.declared.Replayed.{Replayed}
 use Rattle.history.specs.declared.Opening.the-variants.{Opened, Refused}
-use Rattle.history.specs.Encoding.{firstCall, decode, unread, readWords}
-use Rattle.history.specs.Calling.{lastReplyOf, RunsCallAt, WholeCall}
+use Rattle.calls.specs.Encoding.{firstCall, decode, unread, readWords}
+use Rattle.calls.specs.Calling.{lastReplyOf}
+use Rattle.history.specs.Finding.{RunsCallAt, WholeCall}
 use Rattle.history.specs.Replaying.{after, Continues, RunsAll, Promised, Replays}
 use Rattle.history.proofs.Keeping.{history-of}
 use Rattle.history.proofs.Turns.{turns-more, stays-in-turn, NamesStay, names-in-turn, last-is}

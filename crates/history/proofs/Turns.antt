@@ -17,7 +17,7 @@ use Rattle.names.specs.Sound.{namesOf, lentEntries}
 use Rattle.names.specs.Memory.{NameMemory, nameMemory, nameModel}
 use Rattle.names.proofs.Listing.{names-length}
 use Rattle.text.specs.Reading as Text
-use Rattle.history.specs.Memory.{Memory, Left, by-store, by-names, by-text, LeftInTurn, done, next}
+use Rattle.calls.specs.Memory.{Memory, Left, by-store, by-names, by-text, LeftInTurn, done, next}
 use Rattle.history.specs.Replaying.{last}
 
 pub turns-more : {m : Memory} {cs : List ControllerCall} {al : List ControllerAnswer} {ms : List Memory} {c : ControllerCall} {a : ControllerAnswer} {m′ : Memory}

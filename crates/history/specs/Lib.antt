@@ -1,4 +1,2 @@
-pub mod Memory
-pub mod Encoding
-pub mod Calling
+pub mod Finding
 pub mod Replaying

@@ -17,13 +17,13 @@ use Rattle.store.specs.View.{lent}
 use Rattle.store.specs.Memory.{memory}
 use Rattle.names.specs.Sound.{lentEntries}
 use Rattle.names.specs.Memory.{nameMemory}
-use Rattle.history.specs.declared.handing.Handed.{Handed}
+use Rattle.calls.specs.declared.handing.Handed.{Handed}
 use Rattle.history.specs.declared.Run.{Run}
 use Rattle.history.specs.declared.Replayed.{Replayed}
 use Rattle.history.specs.declared.Opening.the-variants.{Opened, Refused}
-use Rattle.history.specs.Memory.{Memory, held, freshHeld, lentController, LeftInTurn}
-use Rattle.history.specs.Encoding.{firstCall, decode, readWords}
-use Rattle.history.specs.Calling.{lastReplyOf}
+use Rattle.calls.specs.Memory.{Memory, held, freshHeld, lentController, LeftInTurn}
+use Rattle.calls.specs.Encoding.{firstCall, decode, readWords}
+use Rattle.calls.specs.Calling.{lastReplyOf}
 
 -- the last of a list, if there is one
 abbrev pub last : {A : Type 0} → List A → Option A

@@ -2,9 +2,9 @@
 ghost use mathlib.Core.Path.{_≡_};
 ghost use Prim.Native.Nat.{_≤_};
 ghost use lib.ListN.{length};
-ghost use Rattle.history.specs.Encoding.{known};
-ghost use Rattle.history.specs.Calling.{FindsCall};
-use crate::codes::READ;
+ghost use Rattle.calls.specs.Encoding.{known};
+ghost use Rattle.history.specs.Finding.{FindsCall};
+use calls::codes::READ;
 
 // Code, a, b, high, low, number of operands.
 pub(crate) const HEADER_WORDS: usize = 6;

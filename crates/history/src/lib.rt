@@ -1,31 +1,23 @@
 // A list of calls, run on one store and one name list: the request's demand 3 as the contract of code. Calls are words, as specs/Encoding.antt says.
-mod calling;
-pub mod codes;
 mod finding;
-mod handing;
-mod naming;
-mod reading;
-mod reply;
 
 ghost use Prim.Native.Nat.{_+_, _≤_};
 ghost use lib.ListN.{length, getD};
 ghost use Rattle.store.specs.Memory.{memory};
 ghost use Rattle.names.specs.Memory.{nameMemory};
-ghost use Rattle.history.specs.Memory.{held};
-ghost use Rattle.history.specs.Encoding.{headerWords, lastCode};
-ghost use Rattle.history.specs.Calling.{RunsCallAt};
+ghost use Rattle.calls.specs.Memory.{held};
+ghost use Rattle.calls.specs.Encoding.{headerWords, lastCode};
+ghost use Rattle.history.specs.Finding.{RunsCallAt};
 ghost use Rattle.history.specs.Replaying.{after, RunsAll, Replays};
 use arena::DagArena;
 use builder::FreshStore;
 use builder::fresh;
-pub use calling::call;
+use calls::Handed;
+use calls::at_first;
+use calls::call;
 use finding::HEADER_WORDS;
 use finding::Next;
 use finding::next_call;
-pub use handing::Handed;
-pub use handing::LastReply;
-use handing::at_first;
-pub use reply::Reply;
 
 pub struct Run {
     // The reply of the last call, and the store's count and size and the number of names after it.

@@ -4,7 +4,7 @@ use crate::filling::rehash;
 use crate::lines;
 use crate::lines::MOST_VALUES;
 use crate::memory::WORDS;
-use crate::showing::number;
+use crate::printing::number;
 use crate::tokens::narrow;
 
 // How many values a byte has.
@@ -60,7 +60,7 @@ fn show_slot(slots: &[u32], at: usize) {
 }
 
 // A word, slot or byte set, or all of them; hashes and slots made anew; a word or slot shown.
-pub(crate) fn change(
+pub fn change(
     nodes: &mut [u64],
     slots: &mut [u32],
     entries: &mut [u8],

@@ -6,48 +6,48 @@ use crate::tokens;
 const BLANK: u8 = 32;
 
 // The first commands are the calls, by their codes.
-pub(crate) const REPEAT: u32 = 22;
+pub const REPEAT: u32 = 22;
 
-pub(crate) const FRESH: u32 = 23;
+pub const FRESH: u32 = 23;
 
-pub(crate) const APPLY: u32 = 24;
+pub const APPLY: u32 = 24;
 
-pub(crate) const WRITE: u32 = 25;
+pub const REPLAY: u32 = 25;
 
-pub(crate) const LEND: u32 = 26;
+pub const LEND: u32 = 26;
 
-pub(crate) const COUNTS: u32 = 27;
+pub const COUNTS: u32 = 27;
 
-pub(crate) const LIST: u32 = 28;
+pub const LIST: u32 = 28;
 
-pub(crate) const SET_WORD: u32 = 29;
+pub const SET_WORD: u32 = 29;
 
-pub(crate) const SET_SLOT: u32 = 30;
+pub const SET_SLOT: u32 = 30;
 
-pub(crate) const SET_BYTE: u32 = 31;
+pub const SET_BYTE: u32 = 31;
 
-pub(crate) const FILL: u32 = 32;
+pub const FILL: u32 = 32;
 
-pub(crate) const REHASH: u32 = 33;
+pub const REHASH: u32 = 33;
 
-pub(crate) const REFILL: u32 = 34;
+pub const REFILL: u32 = 34;
 
-pub(crate) const WORD: u32 = 35;
+pub const WORD: u32 = 35;
 
 // What is no command.
-pub(crate) const UNKNOWN: u32 = 37;
+pub const UNKNOWN: u32 = 37;
 
 // The numbers of a line at most, or the bytes of a text: one more than a text may have, and what stands before it.
-pub(crate) const MOST_VALUES: usize = 8_194;
+pub const MOST_VALUES: usize = 8_194;
 
 // A line's numbers, or the bytes of its text, from 1 on: what has place 0 is no number.
-pub(crate) struct Values {
+pub struct Values {
     pub list: [u64; MOST_VALUES],
     pub count: usize,
 }
 
 // The place of the first byte of a kind from a place on, or the end.
-pub(crate) fn find(bytes: &[u8], from: usize, kind: u8) -> usize
+pub fn find(bytes: &[u8], from: usize, kind: u8) -> usize
     requires { ⌜ from ≤ length (now bytes) ⌝ }
     ensures { λ r. ⌜ (from ≤ r) × (r ≤ length (now (bytes .entry))) ⌝ }
 {
@@ -103,15 +103,15 @@ fn word_number(text: &[u8], line: &[u8]) -> u32 {
 }
 
 // The command of a line.
-pub(crate) fn command(line: &[u8]) -> u32 {
+pub fn command(line: &[u8]) -> u32 {
     word_number(
-        b" variable constant add sub mul div pow modulo neg operator function select if_else for_loop control simplify prune prune_by_setting intern lookup name_of read repeat fresh apply write lend counts list set_word set_slot set_byte fill rehash refill word slot ",
+        b" variable constant add sub mul div pow modulo neg operator function select if_else for_loop control simplify prune prune_by_setting intern lookup name_of read repeat fresh apply replay lend counts list set_word set_slot set_byte fill rehash refill word slot ",
         line,
     )
 }
 
 // The numbers of a line behind its first blank.
-pub(crate) fn numbers(line: &[u8], turn: u32) -> Values
+pub fn numbers(line: &[u8], turn: u32) -> Values
     ensures { λ r. ⌜ r .count ≤ 8194 ⌝ }
 {
     let mut list = [0u64; MOST_VALUES];
@@ -143,7 +143,7 @@ fn wide(byte: u8) -> u64 {
 }
 
 // The bytes of a line from its second blank on.
-pub(crate) fn bytes(line: &[u8]) -> Values
+pub fn bytes(line: &[u8]) -> Values
     ensures { λ r. ⌜ r .count ≤ 8194 ⌝ }
 {
     let mut list = [0u64; MOST_VALUES];

@@ -12,7 +12,7 @@ const MOST_BEFORE: u64 = 0x0fff_ffff_ffff_ffff;
 const WORD_VALUES: u64 = 4_294_967_296;
 
 // A number as far as it was read.
-pub(crate) struct Token {
+pub struct Token {
     // The digits since the last sign.
     pub value: u64,
     pub is_hex: bool,
@@ -22,7 +22,7 @@ pub(crate) struct Token {
     pub signs: u64,
 }
 
-pub(crate) fn none() -> Token {
+pub fn none() -> Token {
     Token {
         value: 0,
         is_hex: false,
@@ -33,14 +33,14 @@ pub(crate) fn none() -> Token {
 }
 
 // The lowest 32 bits.
-pub(crate) fn narrow(number: u64) -> u32
+pub fn narrow(number: u64) -> u32
     ensures { λ r. ⌜ r ≤ 4294967295 ⌝ }
 {
     (number % WORD_VALUES) as u32
 }
 
 // The highest 32 bits.
-pub(crate) fn high(number: u64) -> u32 {
+pub fn high(number: u64) -> u32 {
     (number / WORD_VALUES) as u32
 }
 
@@ -69,7 +69,7 @@ fn longer(value: u64, is_hex: bool, digit: u64) -> u64 {
 }
 
 // A token with one byte more.
-pub(crate) fn with(token: Token, byte: u8) -> Token {
+pub fn with(token: Token, byte: u8) -> Token {
     match byte {
         b'x' => Token {
             value: 0,
@@ -108,7 +108,7 @@ fn moved(start: u64, step: u64, turn: u32) -> u64 {
 }
 
 // What a token is at a turn.
-pub(crate) fn at_turn(token: Token, turn: u32) -> u64 {
+pub fn at_turn(token: Token, turn: u32) -> u64 {
     if token.signs == 0 {
         return token.value;
     }

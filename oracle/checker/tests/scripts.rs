@@ -1,12 +1,12 @@
-//! The scripts of crates/scripts, run on the checker: it must write what the port writes. What the checker has no part for
-//! (`apply`, `write` and `read`) is passed over, with what follows up to the next `fresh`.
+//! The scripts of crates/call_tests, run on the checker: it must write what the port writes. What the checker has no part for
+//! (`apply`, `replay` and `read`) is passed over, with what follows up to the next `fresh`.
 
 use std::fmt::Write;
 use std::fs::read_to_string;
 
 use checker::{Call, CallAnswer, LentNames, LentStore, NAME_BYTES, Refusal, WORDS_PER_NODE, call, fnv_1a, sound};
 
-const FOLDER: &str = concat!(env!("CARGO_MANIFEST_DIR"), "/../../crates/scripts");
+const FOLDER: &str = concat!(env!("CARGO_MANIFEST_DIR"), "/../../crates/call_tests");
 const WORDS: usize = 16_384;
 const SLOTS: usize = 4_096;
 const BYTES: usize = 4_096;
@@ -246,7 +246,7 @@ impl Memory {
             "set_byte" => self.bytes[places()[0]] = numbers()[1] as u8,
             "rehash" => self.rehash(places()[0]),
             "refill" => self.refill(places()[0], places()[1]),
-            "apply" | "write" | "read" => self.is_known = false,
+            "apply" | "replay" | "read" => self.is_known = false,
             _ => return self.call(command, rest),
         }
         String::new()

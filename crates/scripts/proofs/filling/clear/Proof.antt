@@ -1,9 +1,8 @@
 -- `scripts::filling::clear` is safe and ends.
-use Prim.Native.Nat.{_*_, _/_, _-_, _≤_, _<_}
-use mathlib.Core.Path.{_≡_, refl, _∙_}
+use Prim.Native.Nat.{_-_, _≤_}
+use mathlib.Core.Path.{_≡_, _∙_}
 use lib.ListN.{length, length-set}
 use native.Mathlib.Omega.{arith}
-use native.Mathlib.Nat.{mod-lt}
 use borrow.Author.Needs.{needs}
 use Rattle.scripts.proofs.filling.clear.Statement.{statement}
 use Rattle.scripts.proofs.filling.clear.Tie as tie

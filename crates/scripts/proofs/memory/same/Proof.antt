@@ -1,8 +1,4 @@
-use Prim.Native.Nat.{_+_, _-_, _*_, _/_, _%_, _≤_, _<_}
-use mathlib.Core.Path.{_≡_, refl, sym, ap, _∙_}
-use lib.ListN.{length, length-set, length-take}
-use lib.Seq.{length-take-le}
-use native.Mathlib.Omega.{arith}
+use Prim.Native.Nat.{_-_}
 use borrow.Author.Needs.{needs}
 use Rattle.scripts.proofs.memory.same.Statement.{statement}
 use Rattle.scripts.proofs.memory.same.Tie as tie

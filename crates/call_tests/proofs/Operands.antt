@@ -1,0 +1,19 @@
+-- The operands that the tests hand to try_apply.
+use Prim.Native.Nat.{ℕ, zero, suc, _≤_, _<_}
+use mathlib.Core.List.{List, [], _∷_}
+use lib.ListN.{getD}
+use native.Mathlib.Omega.{arith}
+use Rattle.arena.specs.declared.DagArena.{DagArena}
+use Rattle.patterns.specs.Applied.{Operands}
+use Rattle.call_tests.specs.Ready.{Ready}
+
+module _ {w slots : List ℕ} {s : DagArena} {lhs rhs : ℕ} (r : Ready w slots s lhs rhs) where
+  lower : (j : ℕ) → j < 4 → getD (lhs ∷ rhs ∷ rhs ∷ rhs ∷ []) j 0 < s .count
+  lower zero h = r .left
+  lower (suc zero) h = r .right
+  lower (suc (suc zero)) h = r .right
+  lower (suc (suc (suc zero))) h = r .right
+  lower (suc (suc (suc (suc j)))) h = absurd (omega arith)
+
+  pub operands : (arity : ℕ) → arity ≤ 4 → Operands (s .count) arity (lhs ∷ rhs ∷ rhs ∷ rhs ∷ [])
+  operands arity h = record { few = omega arith; low = λ j l. lower j (omega arith) }

@@ -1,0 +1,66 @@
+// The patterns, by themselves.
+ghost use mathlib.Core.Path.{_≡_};
+ghost use mathlib.Core.Bool.{true};
+ghost use Rattle.call_tests.specs.Ready.{Ready};
+use crate::listing::between;
+use crate::state::Now;
+use arena::DagArena;
+use arena::MOST_CHILDREN;
+use patterns::Matched;
+use scripts::lines::MOST_VALUES;
+use scripts::printing::number;
+use scripts::printing::refused;
+use scripts::printing::text;
+
+// Whether the store is sound and two ids are below its count.
+fn ready(nodes: &[u64], slots: &[u32], arena: DagArena, lhs: u64, rhs: u64) -> bool
+    ensures { λ r. ⌜ (r ≡ true → Ready (now (nodes .entry)) (now (slots .entry)) arena lhs rhs) ⌝ }
+{
+    if !store::audit(nodes, slots, arena) {
+        return false;
+    }
+    if lhs < arena.count {
+        rhs < arena.count
+    } else {
+        false
+    }
+}
+
+fn show(matched: Matched) {
+    match matched {
+        Matched::Declined => text(b" none"),
+        Matched::Id(id) => number(id),
+        Matched::Refused(refusal) => refused(refusal),
+    }
+}
+
+// What `patterns::try_apply` answers for a kind, two ids and a number of children, of which the third and fourth are the second again; and the nodes
+// that it added.
+pub(crate) fn apply(
+    nodes: &mut [u64],
+    slots: &mut [u32],
+    now: Now,
+    list: [u64; MOST_VALUES],
+) -> Now {
+    let kind = list[1];
+    let lhs = list[2];
+    let rhs = list[3];
+    let arity = list[4];
+    let arena = now.arena;
+    let mut after = now;
+    if !ready(nodes, slots, arena, lhs, rhs) {
+        text(b" not ready");
+        return after;
+    }
+    if (MOST_CHILDREN as u64) < arity {
+        text(b" too many");
+        return after;
+    }
+    let applied = patterns::try_apply(nodes, slots, arena, kind, [lhs, rhs, rhs, rhs], arity);
+    let matched = applied.matched;
+    show(matched);
+    let left = applied.arena;
+    between(nodes, slots, left, arena.count, left.count);
+    after.arena = left;
+    after
+}

@@ -1,0 +1,188 @@
+-- Codes and their calls: each known code has its call, and what the function of that call leaves is what its code says.
+use Prim.Native.Nat.{ℕ, suc, _≤_, _<_}
+use mathlib.Core.Path.{_≡_, refl, sym, ap, _∙_, subst}
+use mathlib.Core.Bool.{Bool, true, false, cond}
+use mathlib.Core.Option.{Option, none, some}
+use mathlib.Core.List.{List}
+use lib.Dec.{eqb}
+use native.Mathlib.Omega.{arith}
+use borrow.Author.Tests.{eqb-false, leb-true, leb-false, ne-eqb}
+use Rattle.arena.specs.declared.DagArena.{DagArena}
+use Rattle.definitions.specs.Machine.{Call, Answer}
+use Rattle.definitions.specs.Names.{NameCall}
+use Rattle.definitions.specs.Controller.{ControllerCall, naming, reading, fromStore, fromNames, asked}
+use Rattle.store.specs.Memory.{Memory, memory, Leaves}
+use Rattle.names.specs.Calls.{answerOf, Called}
+use Rattle.names.specs.Memory.{nameMemory}
+use Rattle.text.specs.declared.making.Made.{Made}
+use Rattle.text.specs.Making.{Desk, desk}
+use Rattle.text.specs.Reading.{Reads}
+use Rattle.text.specs.Calling as Text
+use Rattle.calls.specs.declared.reply.Answered.{Answered}
+use Rattle.calls.specs.declared.handing.Handed.{Handed}
+use Rattle.calls.specs.declared.handing.LastReply.the-variants as Last
+use Rattle.calls.specs.declared.naming.Named.{Named}
+use Rattle.calls.specs.Memory.{held, Left, by-store, by-names, by-text}
+use Rattle.calls.specs.Calling.{replyOf, maybeFromStore, lastReplyOf, RunsStoreCall, RunsNameCall, RunsCall}
+use Rattle.calls.specs.Encoding.{firstWithOperands, firstRewriting, firstNaming, firstReading, lastCode, bytesOf, callOfCode, known}
+
+-- a function's answer and counts, handed on as the reply of its code
+pub runs : (code k a b high low : ℕ) (operands : List ℕ) (x : Call) (m : Memory) (words slots : List ℕ) (answer : Answer) (r : Answered) (arena : DagArena)
+    → code ≡ k → Leaves x m answer (memory words slots arena) → (replyOf (r .reply) ≡ some answer) × (r .arena ≡ arena) → callOfCode k a b high low operands ≡ some (asked x)
+    → RunsStoreCall (callOfCode code a b high low operands) m r (memory words slots (r .arena))
+runs code k a b high low operands x m words slots answer r arena e h (same, kept) table = record {
+  ran = x;
+  is = ap (λ n. callOfCode n a b high low operands) e ∙ table;
+  answer = answer;
+  reply = same;
+  leaves = subst (λ y. Leaves x m answer (memory words slots y)) (sym kept) h;
+}
+
+pub runs-names : (code k a : ℕ) (operands : List ℕ) (x : NameCall) (bytes bytes′ : List ℕ) (count : ℕ) (r : Named)
+    → code ≡ k → Called bytes count x (answerOf (r .answer) (r .bytes)) bytes′ (r .count) → ((b high low : ℕ) → callOfCode k a b high low operands ≡ some (naming x))
+    → (b high low : ℕ) → RunsNameCall (callOfCode code a b high low operands) bytes count r bytes′
+runs-names code k a operands x bytes bytes′ count r e h table b high low = record {
+  ran = x;
+  is = ap (λ n. callOfCode n a b high low operands) e ∙ table b high low;
+  called = h;
+}
+
+-- the same of the whole memory: what is not lent to a call stays
+pub runs-store : (call : Option ControllerCall) (m : Memory) (words slots bytes : List ℕ) (count : ℕ) (r : Answered) (h : Handed)
+    → RunsStoreCall call m r (memory words slots (r .arena)) → (h .reply ≡ Last.Store (r .reply)) × (h .arena ≡ r .arena) × (h .names ≡ count)
+    → RunsCall call (held m (nameMemory bytes count)) h (held (memory words slots (h .arena)) (nameMemory bytes (h .names)))
+runs-store call m words slots bytes count r h f (same, kept, many) = record {
+  ran = asked (f .ran);
+  is = f .is;
+  answer = fromStore (f .answer);
+  reply = ap (λ x. lastReplyOf x (h .name)) same ∙ ap maybeFromStore (f .reply);
+  left = subst (λ (n : ℕ). Left (asked (f .ran)) (held m (nameMemory bytes count)) (fromStore (f .answer)) (held (memory words slots (h .arena)) (nameMemory bytes n))) (sym many)
+      (by-store (subst (λ y. Leaves (f .ran) m (f .answer) (memory words slots y)) (sym kept) (f .leaves)));
+}
+
+pub runs-naming : (call : Option ControllerCall) (m : Memory) (words slots bytes bytes′ : List ℕ) (arena : DagArena) (count : ℕ) (r : Named) (h : Handed)
+    → m ≡ memory words slots arena → RunsNameCall call bytes count r bytes′
+    → (h .reply ≡ Last.Names (r .answer)) × (h .name ≡ r .bytes) × (h .arena ≡ arena) × (h .names ≡ r .count)
+    → RunsCall call (held m (nameMemory bytes count)) h (held (memory words slots (h .arena)) (nameMemory bytes′ (h .names)))
+runs-naming call m words slots bytes bytes′ arena count r h at f (same, beside, kept, many) = record {
+  ran = naming (f .ran);
+  is = f .is;
+  answer = fromNames (answerOf (r .answer) (r .bytes));
+  reply = λ i. lastReplyOf (same i) (beside i);
+  left = subst (λ s. Left (naming (f .ran)) (held m (nameMemory bytes count)) (fromNames (answerOf (r .answer) (r .bytes))) (held s (nameMemory bytes′ (h .names))))
+      (at ∙ ap (memory words slots) (sym kept))
+      (subst (λ (n : ℕ). Left (naming (f .ran)) (held m (nameMemory bytes count)) (fromNames (answerOf (r .answer) (r .bytes))) (held m (nameMemory bytes′ n))) (sym many) (by-names (f .called)));
+}
+
+-- a reading, by what it was lent
+pub runs-reading : (code a b high low : ℕ) (operands : List ℕ) (d : Desk) (words slots bytes : List ℕ) (r : Made) (h : Handed)
+    → code ≡ 21 → Reads (bytesOf operands) d (r .answer) (desk words slots (r .arena) bytes (r .names))
+    → (lastReplyOf (h .reply) (h .name) ≡ some (Text.answered (r .answer))) × (h .arena ≡ r .arena) × (h .names ≡ r .names)
+    → RunsCall (callOfCode code a b high low operands) (Text.memoryOf d) h (held (memory words slots (h .arena)) (nameMemory bytes (h .names)))
+unfolding callOfCode
+runs-reading code a b high low operands d words slots bytes r h e t (same, kept, many) = record {
+  ran = reading (bytesOf operands);
+  is = ap (λ (n : ℕ). callOfCode n a b high low operands) e;
+  answer = Text.answered (r .answer);
+  reply = same;
+  left = subst (λ x. Left (reading (bytesOf operands)) (Text.memoryOf d) (Text.answered (r .answer)) (held (memory words slots x) (nameMemory bytes (h .names)))) (sym kept)
+      (subst (λ (n : ℕ). Left (reading (bytesOf operands)) (Text.memoryOf d) (Text.answered (r .answer)) (held (memory words slots (r .arena)) (nameMemory bytes n))) (sym many) (by-text t));
+}
+
+pub last-reading : (code : ℕ) → firstReading ≤ code → code ≤ lastCode → code ≡ 21
+last-reading code h l = omega arith
+
+-- ---- the last code of those below a bound
+
+above : (code k : ℕ) → k ≤ code → (code ≡ k → ⊥) → k < code
+above code k h n = omega arith
+
+zero-least : (n : ℕ) → 0 ≤ n
+zero-least n = omega arith
+
+exactly : (code k : ℕ) → k ≤ code → code < suc k → code ≡ k
+exactly code k h l = omega arith
+
+pub last-small : (code : ℕ) → code < firstWithOperands → (code ≡ 0 → ⊥) → (code ≡ 1 → ⊥) → (code ≡ 2 → ⊥) → (code ≡ 3 → ⊥) → (code ≡ 4 → ⊥) → (code ≡ 5 → ⊥) → (code ≡ 6 → ⊥) → (code ≡ 7 → ⊥) → code ≡ 8
+last-small code l n0 n1 n2 n3 n4 n5 n6 n7 =
+    exactly code 8
+    (above code 7 (above code 6 (above code 5 (above code 4 (above code 3 (above code 2 (above code 1 (above code 0 (zero-least code) n0) n1) n2) n3) n4) n5) n6) n7)
+    l
+
+pub last-rewriting : (code : ℕ) → firstRewriting ≤ code → code < firstNaming → (code ≡ 15 → ⊥) → (code ≡ 16 → ⊥) → code ≡ 17
+last-rewriting code h l n15 n16 = exactly code 17 (above code 16 (above code 15 h n15) n16) l
+
+pub last-naming : (code : ℕ) → firstNaming ≤ code → code < firstReading → (code ≡ 20 → ⊥) → (code ≡ 18 → ⊥) → code ≡ 19
+last-naming code h l n20 n18 = omega arith
+
+-- ---- the table
+
+abbrev pub HasCall : Option ControllerCall → Type 0
+HasCall o = (c : ControllerCall) × (o ≡ some c)
+
+line : (code k : ℕ) (x : ControllerCall) (o : Option ControllerCall) → k ≤ code → (k < code → HasCall o) → HasCall (cond (eqb code k) (some x) o)
+line code k x o h f = go (eqb code k) refl
+  where
+    go : (b : Bool) → eqb code k ≡ b → HasCall (cond b (some x) o)
+    go true e = (x, refl)
+    go false e = let n = eqb-false code k e in f (omega arith)
+
+past : (code k : ℕ) (x o : Option ControllerCall) → k < code → o ≡ none → cond (eqb code k) x o ≡ none
+past code k x o h e = ap (λ t. cond t x o) (ne-eqb code k (λ q. absurd (omega arith))) ∙ e
+
+module _ (code a b high low : ℕ) (operands : List ℕ) where
+  pub known-has : known code ≡ true → HasCall (callOfCode code a b high low operands)
+  unfolding callOfCode
+  known-has h =
+      let few = leb-true code lastCode h in
+      line code 0 _ _ (omega arith) (λ n0.
+      line code 1 _ _ (omega arith) (λ n1.
+      line code 2 _ _ (omega arith) (λ n2.
+      line code 3 _ _ (omega arith) (λ n3.
+      line code 4 _ _ (omega arith) (λ n4.
+      line code 5 _ _ (omega arith) (λ n5.
+      line code 6 _ _ (omega arith) (λ n6.
+      line code 7 _ _ (omega arith) (λ n7.
+      line code 8 _ _ (omega arith) (λ n8.
+      line code 9 _ _ (omega arith) (λ n9.
+      line code 10 _ _ (omega arith) (λ n10.
+      line code 11 _ _ (omega arith) (λ n11.
+      line code 12 _ _ (omega arith) (λ n12.
+      line code 13 _ _ (omega arith) (λ n13.
+      line code 14 _ _ (omega arith) (λ n14.
+      line code 15 _ _ (omega arith) (λ n15.
+      line code 16 _ _ (omega arith) (λ n16.
+      line code 17 _ _ (omega arith) (λ n17.
+      line code 18 _ _ (omega arith) (λ n18.
+      line code 19 _ _ (omega arith) (λ n19.
+      line code 20 _ _ (omega arith) (λ n20.
+      line code 21 _ _ (omega arith) (λ n21. absurd (omega arith)))))))))))))))))))))))
+
+  past-has-none : lastCode < code → callOfCode code a b high low operands ≡ none
+  unfolding callOfCode
+  past-has-none h =
+      past code 0 _ _ (omega arith)
+      (past code 1 _ _ (omega arith)
+      (past code 2 _ _ (omega arith)
+      (past code 3 _ _ (omega arith)
+      (past code 4 _ _ (omega arith)
+      (past code 5 _ _ (omega arith)
+      (past code 6 _ _ (omega arith)
+      (past code 7 _ _ (omega arith)
+      (past code 8 _ _ (omega arith)
+      (past code 9 _ _ (omega arith)
+      (past code 10 _ _ (omega arith)
+      (past code 11 _ _ (omega arith)
+      (past code 12 _ _ (omega arith)
+      (past code 13 _ _ (omega arith)
+      (past code 14 _ _ (omega arith)
+      (past code 15 _ _ (omega arith)
+      (past code 16 _ _ (omega arith)
+      (past code 17 _ _ (omega arith)
+      (past code 18 _ _ (omega arith)
+      (past code 19 _ _ (omega arith)
+      (past code 20 _ _ (omega arith)
+      (past code 21 _ _ (omega arith) refl)))))))))))))))))))))
+
+  pub unknown-has-none : known code ≡ false → callOfCode code a b high low operands ≡ none
+  unknown-has-none h = past-has-none (leb-false code lastCode h)

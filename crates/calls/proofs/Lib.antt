@@ -1,0 +1,4 @@
+pub mod CodeCalls
+pub mod Spelling
+pub mod SpelledNames
+pub mod TypedTexts

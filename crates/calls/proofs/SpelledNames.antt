@@ -1,0 +1,121 @@
+-- A name spelled by operands, and the call that its first 33 bytes stand for.
+use Prim.Native.Nat.{ℕ, suc, _+_, _≤_, _<_, min}
+use mathlib.Core.Path.{_≡_, refl, sym, ap, _∙_, subst}
+use mathlib.Core.Bool.{Bool, true, false, cond}
+use mathlib.Core.Logic.{_⊎_, ⊎-elim}
+use mathlib.Core.Option.{Option, none, some}
+use mathlib.Core.List.{List, [], _∷_, _++_}
+use lib.ListN.{length, getD, take, set, length-set, length-map, List·getD-map}
+use lib.Seq.{take-all, take-suc, take-suc-set, length-take-le}
+use lib.Dec.{leb, ltb}
+use native.Mathlib.Numerals.{add-one}
+use native.Mathlib.Omega.{arith}
+use native.Mathlib.Decide.{decLe}
+use borrow.Author.Tests.{le-leb, lt-leb}
+use Rattle.definitions.specs.Refusals.{badNameLength, notSound, noNamePlace}
+use Rattle.definitions.specs.Names.{NameCall, internName, lookupName, NameAnswer, numbered, unknown, named, refused, NameResult, answers, nameCall, internAt, lookupAt, numberFrom, lengthAllowed, shortestName, longestName, mostNames}
+use Rattle.names.specs.declared.Answer.{Answer}
+use Rattle.names.specs.declared.Answer.the-variants.{Numbered, Unknown, Named, Refused}
+use Rattle.names.specs.Sound.{Sound, namesOf, lentEntries}
+use Rattle.names.specs.Calls.{answerOf, Called, plainly}
+use Rattle.calls.specs.declared.naming.Spelled.{Spelled}
+use Rattle.calls.specs.Encoding.{lowestByte, bytesOf}
+use Rattle.calls.specs.Calling.{mostSpelled}
+
+-- ---- a name that is longer than 32 bytes is refused by its first 33
+
+too-long : (name : List ℕ) → longestName < length name → lengthAllowed name ≡ false
+too-long name l = rw (le-leb shortestName (length name) (omega arith), lt-leb (length name) longestName l) refl
+
+module _ (lent : ℕ) (names : List (List ℕ)) (name : List ℕ) where
+  refused-long : longestName < length name → nameCall lent names (internName name) ≡ answers (refused badNameLength) names
+  unfolding nameCall
+  refused-long l = rw (too-long name l) refl
+
+  refused-long-lookup : longestName < length name → nameCall lent names (lookupName name) ≡ answers (refused badNameLength) names
+  unfolding nameCall
+  refused-long-lookup l = rw (too-long name l) refl
+
+first-long : (name : List ℕ) → (length name ≤ mostSpelled → ⊥) → longestName < length (take mostSpelled name)
+first-long name l = let e : length (take mostSpelled name) ≡ mostSpelled = length-take-le mostSpelled name (omega arith) in omega arith
+
+pub intern-first : (lent : ℕ) (names : List (List ℕ)) (name : List ℕ) → nameCall lent names (internName (take mostSpelled name)) ≡ nameCall lent names (internName name)
+intern-first lent names name = go (decLe (length name) mostSpelled)
+  where
+    go : Dec (length name ≤ mostSpelled) → nameCall lent names (internName (take mostSpelled name)) ≡ nameCall lent names (internName name)
+    go (yes p) = ap (λ (x : List ℕ). nameCall lent names (internName x)) (take-all mostSpelled name p)
+    go (no p) = refused-long lent names (take mostSpelled name) (first-long name p) ∙ sym (refused-long lent names name (omega arith))
+
+pub lookup-first : (lent : ℕ) (names : List (List ℕ)) (name : List ℕ) → nameCall lent names (lookupName (take mostSpelled name)) ≡ nameCall lent names (lookupName name)
+lookup-first lent names name = go (decLe (length name) mostSpelled)
+  where
+    go : Dec (length name ≤ mostSpelled) → nameCall lent names (lookupName (take mostSpelled name)) ≡ nameCall lent names (lookupName name)
+    go (yes p) = ap (λ (x : List ℕ). nameCall lent names (lookupName x)) (take-all mostSpelled name p)
+    go (no p) = refused-long-lookup lent names (take mostSpelled name) (first-long name p) ∙ sym (refused-long-lookup lent names name (omega arith))
+
+-- ---- interning and looking up answer no name's bytes
+
+clash : (A : Type 0) (name : List ℕ) (number : ℕ) → named name ≡ refused number → A
+clash A name number e = let z : _≡_ {A = ℕ} 0 1 = cc in absurd (omega arith)
+
+intern-unnamed : (lent : ℕ) (names : List (List ℕ)) (name b : List ℕ) → nameCall lent names (internName name) .answer ≡ named b → ⊥
+unfolding nameCall
+intern-unnamed lent names name b = by (lengthAllowed name) (numberFrom names 0 name)
+  where
+    new : (t : Bool) → cond t (answers (numbered (length names)) (names ++ name ∷ [])) (answers (refused noNamePlace) names) .answer ≡ named b → ⊥
+    new true e = let z : _≡_ {A = ℕ} 0 1 = cc in absurd (omega arith)
+    new false e = clash _ b noNamePlace (sym e)
+
+    by : (t : Bool) (o : Option ℕ) → cond t (internAt lent names name o) (answers (refused badNameLength) names) .answer ≡ named b → ⊥
+    by true (some n) e = let z : _≡_ {A = ℕ} 0 1 = cc in absurd (omega arith)
+    by true none e = new (ltb (length names) (min lent mostNames)) e
+    by false o e = clash _ b badNameLength (sym e)
+
+lookup-unnamed : (lent : ℕ) (names : List (List ℕ)) (name b : List ℕ) → nameCall lent names (lookupName name) .answer ≡ named b → ⊥
+unfolding nameCall
+lookup-unnamed lent names name b = by (lengthAllowed name) (numberFrom names 0 name)
+  where
+    by : (t : Bool) (o : Option ℕ) → cond t (answers (lookupAt o) names) (answers (refused badNameLength) names) .answer ≡ named b → ⊥
+    by true (some n) e = let z : _≡_ {A = ℕ} 0 1 = cc in absurd (omega arith)
+    by true none e = let z : _≡_ {A = ℕ} 0 1 = cc in absurd (omega arith)
+    by false o e = clash _ b badNameLength (sym e)
+
+module _ (bytes : List ℕ) (count : ℕ) (c d : NameCall) (a : Answer) (out bytes′ : List ℕ) (count′ : ℕ) where
+  no-name : ((b : List ℕ) → plainly bytes count c .answer ≡ named b → ⊥) → Called bytes count c (answerOf a []) bytes′ count′ → (n : ℕ) → a ≡ Named n → ⊥
+  no-name never h n q =
+      let e : answerOf a [] ≡ named (take n []) = ap (λ (x : Answer). answerOf x []) q in
+      clash _ (take n []) notSound (sym e ∙ h .unsound (λ s. never (take n []) (sym (h .answered s) ∙ e)))
+
+  beside : (x : Answer) → ((n : ℕ) → x ≡ Named n → ⊥) → answerOf x [] ≡ answerOf x out
+  beside (Numbered n) k = refl
+  beside Unknown k = refl
+  beside (Named n) k = absurd (k n refl)
+  beside (Refused r) k = refl
+
+  -- a call that the plain registry takes for another, whatever bytes stand beside its answer
+  as-another : ((b : List ℕ) → plainly bytes count c .answer ≡ named b → ⊥) → plainly bytes count c ≡ plainly bytes count d
+      → Called bytes count c (answerOf a []) bytes′ count′ → Called bytes count d (answerOf a out) bytes′ count′
+  as-another never same h =
+      subst (λ (x : NameAnswer). Called bytes count d x bytes′ count′) (beside a (no-name never h))
+      (record {
+        unsound = h .unsound;
+        answered = λ s. h .answered s ∙ ap (λ (r : NameResult). r .answer) same;
+        names = λ s. h .names s ∙ ap (λ (r : NameResult). r .names) same;
+        sound = h .sound;
+        same-lent = h .same-lent;
+        past = h .past;
+        refusal = h .refusal;
+      })
+
+module _ (bytes : List ℕ) (count : ℕ) (operands name : List ℕ) (a : Answer) (out bytes′ : List ℕ) (count′ : ℕ) (is : name ≡ take mostSpelled (bytesOf operands)) where
+  pub interns-spelled : Called bytes count (internName name) (answerOf a []) bytes′ count′ → Called bytes count (internName (bytesOf operands)) (answerOf a out) bytes′ count′
+  interns-spelled =
+      as-another bytes count (internName name) (internName (bytesOf operands)) a out bytes′ count′
+      (intern-unnamed (lentEntries bytes) (namesOf bytes count) name)
+      (ap (λ (x : List ℕ). plainly bytes count (internName x)) is ∙ intern-first (lentEntries bytes) (namesOf bytes count) (bytesOf operands))
+
+  pub looks-up-spelled : Called bytes count (lookupName name) (answerOf a []) bytes′ count′ → Called bytes count (lookupName (bytesOf operands)) (answerOf a out) bytes′ count′
+  looks-up-spelled =
+      as-another bytes count (lookupName name) (lookupName (bytesOf operands)) a out bytes′ count′
+      (lookup-unnamed (lentEntries bytes) (namesOf bytes count) name)
+      (ap (λ (x : List ℕ). plainly bytes count (lookupName x)) is ∙ lookup-first (lentEntries bytes) (namesOf bytes count) (bytesOf operands))

@@ -1,0 +1,82 @@
+// What is handed on from call to call.
+ghost use mathlib.Core.Path.{_≡_};
+ghost use mathlib.Core.Option.{some};
+ghost use Rattle.text.specs.Calling as Text;
+ghost use Rattle.calls.specs.Calling.{lastReplyOf};
+ghost use Rattle.calls.specs.declared.handing.LastReply.the-variants as Last;
+ghost use Rattle.calls.specs.declared.reply.Reply.the-variants.{Nothing};
+use crate::naming::LONGEST_NAME;
+use crate::naming::Named;
+use crate::reply::Answered;
+use crate::reply::Reply;
+use crate::reply::stored;
+use arena::DagArena;
+use store::Built;
+use text::Made;
+
+// The last call's reply.
+pub enum LastReply {
+    // No call, or one of the store.
+    Store(Reply),
+    Names(names::Answer),
+}
+
+// A reply, the bytes of a name that it gives the length of, the store's count and size, and how many names there are.
+pub struct Handed {
+    pub reply: LastReply,
+    pub name: [u8; LONGEST_NAME],
+    pub arena: DagArena,
+    pub names: usize,
+}
+
+// What the first call gets: no reply, and no names.
+pub fn at_first(arena: DagArena) -> Handed
+    ensures { λ r. ⌜ (r .reply ≡ Last.Store Nothing) × (r .arena ≡ arena) × (r .names ≡ 0) ⌝ }
+{
+    Handed {
+        reply: LastReply::Store(Reply::Nothing),
+        name: [0u8; LONGEST_NAME],
+        arena,
+        names: 0,
+    }
+}
+
+// What a call of the store hands on.
+pub(crate) fn of_store(answered: Answered, names: usize) -> Handed
+    ensures { λ r. ⌜ (r .reply ≡ Last.Store (answered .reply)) × (r .arena ≡ answered .arena) × (r .names ≡ names) ⌝ }
+{
+    let reply = answered.reply;
+    let arena = answered.arena;
+    Handed {
+        reply: LastReply::Store(reply),
+        name: [0u8; LONGEST_NAME],
+        arena,
+        names,
+    }
+}
+
+// What a name call hands on.
+pub(crate) fn of_names(named: Named, arena: DagArena) -> Handed
+    ensures { λ r. ⌜ (r .reply ≡ Last.Names (named .answer)) × (r .name ≡ named .bytes) × (r .arena ≡ arena) × (r .names ≡ named .count) ⌝ }
+{
+    let answer = named.answer;
+    let name = named.bytes;
+    let names = named.count;
+    Handed {
+        reply: LastReply::Names(answer),
+        name,
+        arena,
+        names,
+    }
+}
+
+// What a reading hands on.
+pub(crate) fn of_reading(made: Made) -> Handed
+    ensures { λ r. ⌜ (lastReplyOf (r .reply) (r .name) ≡ some (Text.answered (made .answer))) × (r .arena ≡ made .arena) × (r .names ≡ made .names) ⌝ }
+{
+    let answer = made.answer;
+    let arena = made.arena;
+    let names = made.names;
+    let answered = stored(Built { answer, arena });
+    of_store(answered, names)
+}

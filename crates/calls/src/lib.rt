@@ -1,0 +1,14 @@
+// One call of a controller by its code, on a store and a name list: the codes are those of specs/Encoding.antt, and what a call leaves is what the
+// public call that it stands for does.
+pub mod calling;
+pub mod codes;
+pub mod handing;
+pub mod naming;
+pub mod reading;
+pub mod reply;
+
+pub use calling::call;
+pub use handing::Handed;
+pub use handing::LastReply;
+pub use handing::at_first;
+pub use reply::Reply;

@@ -1,0 +1,49 @@
+// One reading. A text's bytes are the lowest bytes of the operands.
+ghost use Rattle.text.specs.Making.{desk};
+ghost use Rattle.text.specs.Reading.{Reads};
+ghost use Rattle.calls.specs.Encoding.{bytesOf};
+ghost use Rattle.calls.specs.Calling.{Types};
+use crate::naming::lowest_byte;
+use arena::DagArena;
+use text::Made;
+
+// One byte more than a text has at most, so that a longer one is refused.
+const MOST_TYPED: usize = 8193;
+
+// The first bytes of a text.
+pub(crate) struct Typed {
+    pub bytes: [u8; MOST_TYPED],
+    pub length: usize,
+}
+
+// The text that operands spell.
+fn type_text(operands: &[u32]) -> Typed
+    ensures { λ r. ⌜ Types (now (operands .entry)) r ⌝ }
+{
+    let mut bytes = [0u8; MOST_TYPED];
+    let mut i: usize = 0;
+    while i < MOST_TYPED {
+        if operands.len() <= i {
+            return Typed { bytes, length: i };
+        }
+        bytes[i] = lowest_byte(operands[i]);
+        i += 1;
+    }
+    Typed { bytes, length: i }
+}
+
+pub(crate) fn call_reading(
+    nodes: &mut [u64],
+    slots: &mut [u32],
+    entries: &mut [u8],
+    arena: DagArena,
+    names: usize,
+    operands: &[u32],
+) -> Made
+    ensures { λ r. ⌜ Reads (bytesOf (now (operands .entry))) (desk (now (nodes .entry)) (now (slots .entry)) arena (now (entries .entry)) names) (r .answer) (desk (now (nodes .exit)) (now (slots .exit)) (r .arena) (now (entries .exit)) (r .names)) ⌝ }
+{
+    let typed = type_text(operands);
+    let bytes = typed.bytes;
+    let length = typed.length;
+    text::read(&bytes[..length], nodes, slots, arena, entries, names)
+}
