@@ -48,6 +48,7 @@ read-called s d d′ a (unsound n) = record {
   answer = λ t. absurd (n (held-of d t));
   left = λ t. absurd (n (held-of d t));
   sound = λ t. absurd (n (held-of d t));
+  untouched = tt;
   same-lent = refl;
 }
 read-called s d d′ a (refused h r) = record {
@@ -55,6 +56,7 @@ read-called s d d′ a (refused h r) = record {
   answer = λ t. sym (ap (λ (x : AfterCall). x .answer) (plain-refused (places d) (viewed d) r));
   left = λ t. sym (ap (λ (x : AfterCall). x .left) (plain-refused (places d) (viewed d) r));
   sound = λ t p g. g;
+  untouched = tt;
   same-lent = refl;
 }
 read-called s d d′ a (read h e m) = record {
@@ -62,6 +64,7 @@ read-called s d d′ a (read h e m) = record {
   answer = λ t. answer-of a (viewed d′) ∙ ap (λ (x : Made). fromMade x .answer) (m .is) ∙ sym (ap (λ (x : AfterCall). x .answer) (plain-read (places d) (viewed d) e));
   left = λ t. left-of a (viewed d′) ∙ ap (λ (x : Made). fromMade x .left) (m .is) ∙ sym (ap (λ (x : AfterCall). x .left) (plain-read (places d) (viewed d) e));
   sound = λ t. sounds;
+  untouched = tt;
   same-lent = same-places d d′ (m .follows);
 }
   where

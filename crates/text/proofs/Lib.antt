@@ -11,6 +11,4 @@ pub mod Turns
 pub mod Compiling
 pub mod Answering
 pub mod Below
-pub mod Asks
-pub mod Stopping
 pub mod Calling

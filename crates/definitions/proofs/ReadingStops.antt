@@ -1,6 +1,6 @@
 -- A checked text's reading answers an id of the store, or is stopped by 24, 21 or 22.
-use Prim.Native.Nat.{ℕ, zero, suc, _+_, _≤_, _<_, min}
-use mathlib.Core.Path.{_≡_, refl, sym, ap, _∙_, subst}
+use Prim.Native.Nat.{ℕ, suc, _+_, _≤_, _<_, min}
+use mathlib.Core.Path.{_≡_, refl, ap, _∙_, subst}
 use mathlib.Core.Bool.{Bool, true, false, _&&_, cond}
 use mathlib.Core.Option.{Option, none, some}
 use mathlib.Core.List.{List, [], _∷_, _++_}
@@ -8,18 +8,42 @@ use lib.ListN.{length, length-append}
 use lib.Dec.{leb, ltb}
 use native.Mathlib.Omega.{arith}
 use borrow.Author.Tests.{lt-ltb, le-leb}
-use Rattle.definitions.specs.Node.{Node, childCountListed}
+use Rattle.definitions.specs.Node.{Node, childCountListed, same}
+use Rattle.definitions.specs.Refusals.{noNamePlace, noNodePlace, noSlotPlace}
 use Rattle.definitions.specs.Intern.{Lent, find, noPlace, intern, addNew, foundOrNew, tableSize}
 use Rattle.definitions.specs.Limits.{mostNodes}
 use Rattle.definitions.specs.Names as Names
 use Rattle.definitions.specs.Machine as M
-use Rattle.text_language.specs.Grammar.{Chain, sums, products, Expr, constant, variable, negated, linked, raised, Level, Atom, Reads, one, next, base, raise, atom, minus, bracket, Text}
+use Rattle.text_language.specs.Grammar.{Expr, constant, variable, negated, linked, raised, Level, Atom, Reads, one, next, base, raise, atom, minus, bracket}
 use Rattle.text_language.specs.Program as P
 use Rattle.text_language.specs.Program.{Join, joinOf}
 use Rattle.definitions.specs.Making.{Controller, controller, LentLists, Made, made, stopped, bind, storedAs, namedAs, storing, naming, joined, make}
 use Rattle.text_language.specs.Reading.{Denotes}
-use Rattle.text.specs.Stopping.{Stop, noName, noNode, noSlots, Ends, NamesAllowed}
-use Rattle.text.proofs.Below.{find-from}
+use Rattle.definitions.specs.Controller.{refused, fromMade}
+use Rattle.definitions.specs.Promise.{StopsReading, noName, noNode, noSlots}
+
+-- an id of the nodes then, of which none was taken away; or one of these refusals
+abbrev Ends : ℕ → Made → Type 0
+Ends count (made i s) = (count ≤ length (s .nodes)) × (i < length (s .nodes))
+Ends count (stopped r s) = StopsReading r
+
+-- "Names are a letter, then letters or digits, 32 at most"
+abbrev NamesAllowed : Expr → Type 0
+NamesAllowed (constant b) = Unit {0}
+NamesAllowed (variable w) = Names.lengthAllowed w ≡ true
+NamesAllowed (negated a) = NamesAllowed a
+NamesAllowed (linked k x a b) = NamesAllowed a × NamesAllowed b
+NamesAllowed (raised a b) = NamesAllowed a × NamesAllowed b
+
+-- what `find` finds is below the end
+pub find-from : (n : Node) (ns : List Node) (j : ℕ) (i : ℕ) → find n ns j ≡ some i → i < j + length ns
+unfolding find
+find-from n [] j i e = absurd (let z : _≡_ {A = ℕ} 0 1 = cc in omega arith)
+find-from n (m ∷ ns) j i e = go (same m n) refl e (find-from n ns (suc j) i)
+  where
+    go : (b : Bool) → same m n ≡ b → (elim b as (λ _. Option ℕ) [ true ↦ some j | false ↦ find n ns (suc j) ]) ≡ some i → (find n ns (suc j) ≡ some i → i < suc j + length ns) → i < j + suc (length ns)
+    go true q e h = let z : _≡_ {A = ℕ} j i = cc in omega arith
+    go false q e h = let z = h e in omega arith
 
 -- ---- store calls
 
@@ -27,11 +51,11 @@ interned-ends : (names : List (List ℕ)) (l : Lent) (ns : List Node) (n : Node)
 unfolding intern noPlace
 interned-ends names l ns n = go (find n ns 0) refl
   where
-    slots : (b : Bool) → Ends (length ns) (storedAs names (M.storedAs (addNew ns n (cond b (some 22) none)) .answer) (M.storedAs (addNew ns n (cond b (some 22) none)) .nodes))
+    slots : (b : Bool) → Ends (length ns) (storedAs names (M.storedAs (addNew ns n (cond b (some noSlotPlace) none)) .answer) (M.storedAs (addNew ns n (cond b (some noSlotPlace) none)) .nodes))
     slots true = noSlots
     slots false = let e = length-append ns (n ∷ []) in (omega arith, omega arith)
 
-    place : (b : Bool) → Ends (length ns) (storedAs names (M.storedAs (addNew ns n (cond b (some 21) (cond (ltb (l .slots) (tableSize (suc (length ns)))) (some 22) none))) .answer) (M.storedAs (addNew ns n (cond b (some 21) (cond (ltb (l .slots) (tableSize (suc (length ns)))) (some 22) none))) .nodes))
+    place : (b : Bool) → Ends (length ns) (storedAs names (M.storedAs (addNew ns n (cond b (some noNodePlace) (cond (ltb (l .slots) (tableSize (suc (length ns)))) (some noSlotPlace) none))) .answer) (M.storedAs (addNew ns n (cond b (some noNodePlace) (cond (ltb (l .slots) (tableSize (suc (length ns)))) (some noSlotPlace) none))) .nodes))
     place true = noNode
     place false = slots (ltb (l .slots) (tableSize (suc (length ns))))
 
@@ -78,7 +102,7 @@ named-ends : (l : LentLists) (w : List ℕ) (s : Controller) → Names.lengthAll
 unfolding bind naming Names.nameCall
 named-ends l w s a = rw a (at (Names.numberFrom (s .names) 0 w))
   where
-    room : (b : Bool) → Ends (length (s .nodes)) (bind (namedAs (s .nodes) ((cond b (Names.answers (Names.numbered (length (s .names))) (s .names ++ w ∷ [])) (Names.answers (Names.refused 24) (s .names))) .answer) ((cond b (Names.answers (Names.numbered (length (s .names))) (s .names ++ w ∷ [])) (Names.answers (Names.refused 24) (s .names))) .names)) (λ n t. storing l (M.variable n) t))
+    room : (b : Bool) → Ends (length (s .nodes)) (bind (namedAs (s .nodes) ((cond b (Names.answers (Names.numbered (length (s .names))) (s .names ++ w ∷ [])) (Names.answers (Names.refused noNamePlace) (s .names))) .answer) ((cond b (Names.answers (Names.numbered (length (s .names))) (s .names ++ w ∷ [])) (Names.answers (Names.refused noNamePlace) (s .names))) .names)) (λ n t. storing l (M.variable n) t))
     room true = leaf-ends l (length (s .names)) (controller (s .names ++ w ∷ []) (s .nodes))
     room false = noName
 
@@ -134,3 +158,10 @@ text-names (bracket p h q) = text-names h
 
 pub reading-ends : (l : LentLists) (s : List ℕ) (e : Expr) (t : Controller) → Denotes s e → Ends (length (t .nodes)) (make l e t)
 reading-ends l s e t h = make-ends l e t (text-names (h .text .reads))
+
+pub reading-stops : (l : LentLists) (s : List ℕ) (e : Expr) (t : Controller) (number : ℕ) → Denotes s e → fromMade (make l e t) .answer ≡ refused number → StopsReading number
+reading-stops l s e t number h = go (make l e t) (reading-ends l s e t h)
+  where
+    go : (m : Made) → Ends (length (t .nodes)) m → fromMade m .answer ≡ refused number → StopsReading number
+    go (made i u) x q = let z : _≡_ {A = ℕ} 0 1 = cc in absurd (omega arith)
+    go (stopped r u) x q = let z : r ≡ number = cc in subst StopsReading z x
