@@ -14,15 +14,16 @@ use Rattle.definitions.specs.Controller.{ControllerCall, naming, reading, fromS
 use Rattle.store.specs.Memory.{Memory, memory, Leaves}
 use Rattle.names.specs.Calls.{answerOf, Called}
 use Rattle.names.specs.Memory.{nameMemory}
-use Rattle.text.specs.declared.making.Made.{Made}
-use Rattle.text.specs.Making.{Desk, desk}
+use Rattle.text.specs.declared.making.ReadOutcome.{ReadOutcome}
 use Rattle.text.specs.Reading.{Reads}
 use Rattle.text.specs.Calling as Text
 use Rattle.history.specs.declared.reply.Answered.{Answered}
-use Rattle.history.specs.declared.handing.Handed.{Handed}
+use Rattle.history.specs.declared.handing.CallResult.{CallResult}
 use Rattle.history.specs.declared.handing.LastReply.the-variants as Last
 use Rattle.history.specs.declared.naming.Named.{Named}
-use Rattle.history.specs.Memory.{held, Left, by-store, by-names, by-text}
+use Rattle.text.specs.Memory.{controllerMemory}
+use Rattle.definitions.specs.Beside.{beside}
+use Rattle.history.specs.Memory.{CallLeaves, by-store, by-names, by-text}
 use Rattle.history.specs.Calling.{replyOf, maybeFromStore, lastReplyOf, RunsStoreCall, RunsNameCall, RunsCall}
 use Rattle.history.specs.Encoding.{firstWithOperands, firstRewriting, firstNaming, firstReading, lastCode, bytesOf, callOfCode, known}
 
@@ -48,45 +49,45 @@ runs-names code k a operands x bytes bytes′ count r e h table b high low = rec
 }
 
 -- the same of the whole memory: what is not lent to a call stays
-pub runs-store : (call : Option ControllerCall) (m : Memory) (words slots bytes : List ℕ) (count : ℕ) (r : Answered) (h : Handed)
+pub runs-store : (call : Option ControllerCall) (m : Memory) (words slots bytes : List ℕ) (count : ℕ) (r : Answered) (h : CallResult)
     → RunsStoreCall call m r (memory words slots (r .arena)) → (h .reply ≡ Last.Store (r .reply)) × (h .arena ≡ r .arena) × (h .names ≡ count)
-    → RunsCall call (held m (nameMemory bytes count)) h (held (memory words slots (h .arena)) (nameMemory bytes (h .names)))
+    → RunsCall call (beside model nameModel m (nameMemory bytes count)) h (controllerMemory words slots (h .arena) bytes (h .names))
 runs-store call m words slots bytes count r h f (same, kept, many) = record {
   ran = asked (f .ran);
   is = f .is;
   answer = fromStore (f .answer);
   reply = ap (λ x. lastReplyOf x (h .name)) same ∙ ap maybeFromStore (f .reply);
-  left = subst (λ (n : ℕ). Left (asked (f .ran)) (held m (nameMemory bytes count)) (fromStore (f .answer)) (held (memory words slots (h .arena)) (nameMemory bytes n))) (sym many)
+  left = subst (λ (n : ℕ). CallLeaves (asked (f .ran)) (beside model nameModel m (nameMemory bytes count)) (fromStore (f .answer)) (controllerMemory words slots (h .arena) bytes n)) (sym many)
       (by-store (subst (λ y. Leaves (f .ran) m (f .answer) (memory words slots y)) (sym kept) (f .leaves)));
 }
 
-pub runs-naming : (call : Option ControllerCall) (m : Memory) (words slots bytes bytes′ : List ℕ) (arena : DagArena) (count : ℕ) (r : Named) (h : Handed)
+pub runs-naming : (call : Option ControllerCall) (m : Memory) (words slots bytes bytes′ : List ℕ) (arena : DagArena) (count : ℕ) (r : Named) (h : CallResult)
     → m ≡ memory words slots arena → RunsNameCall call bytes count r bytes′
     → (h .reply ≡ Last.Names (r .answer)) × (h .name ≡ r .bytes) × (h .arena ≡ arena) × (h .names ≡ r .count)
-    → RunsCall call (held m (nameMemory bytes count)) h (held (memory words slots (h .arena)) (nameMemory bytes′ (h .names)))
+    → RunsCall call (beside model nameModel m (nameMemory bytes count)) h (controllerMemory words slots (h .arena) bytes′ (h .names))
 runs-naming call m words slots bytes bytes′ arena count r h at f (same, beside, kept, many) = record {
   ran = naming (f .ran);
   is = f .is;
   answer = fromNames (answerOf (r .answer) (r .bytes));
   reply = λ i. lastReplyOf (same i) (beside i);
-  left = subst (λ s. Left (naming (f .ran)) (held m (nameMemory bytes count)) (fromNames (answerOf (r .answer) (r .bytes))) (held s (nameMemory bytes′ (h .names))))
+  left = subst (λ s. CallLeaves (naming (f .ran)) (beside model nameModel m (nameMemory bytes count)) (fromNames (answerOf (r .answer) (r .bytes))) (beside model nameModel s (nameMemory bytes′ (h .names))))
       (at ∙ ap (memory words slots) (sym kept))
-      (subst (λ (n : ℕ). Left (naming (f .ran)) (held m (nameMemory bytes count)) (fromNames (answerOf (r .answer) (r .bytes))) (held m (nameMemory bytes′ n))) (sym many) (by-names (f .called)));
+      (subst (λ (n : ℕ). CallLeaves (naming (f .ran)) (beside model nameModel m (nameMemory bytes count)) (fromNames (answerOf (r .answer) (r .bytes))) (beside model nameModel m (nameMemory bytes′ n))) (sym many) (by-names (f .called)));
 }
 
 -- a reading, by what it was lent
-pub runs-reading : (code a b high low : ℕ) (operands : List ℕ) (d : Desk) (words slots bytes : List ℕ) (r : Made) (h : Handed)
-    → code ≡ 21 → Reads (bytesOf operands) d (r .answer) (desk words slots (r .arena) bytes (r .names))
+pub runs-reading : (code a b high low : ℕ) (operands : List ℕ) (d : ControllerMemory) (words slots bytes : List ℕ) (r : ReadOutcome) (h : CallResult)
+    → code ≡ 21 → Reads (bytesOf operands) d (r .answer) (controllerMemory words slots (r .arena) bytes (r .names))
     → (lastReplyOf (h .reply) (h .name) ≡ some (Text.answered (r .answer))) × (h .arena ≡ r .arena) × (h .names ≡ r .names)
-    → RunsCall (callOfCode code a b high low operands) (Text.memoryOf d) h (held (memory words slots (h .arena)) (nameMemory bytes (h .names)))
+    → RunsCall (callOfCode code a b high low operands) d h (controllerMemory words slots (h .arena) bytes (h .names))
 unfolding callOfCode
 runs-reading code a b high low operands d words slots bytes r h e t (same, kept, many) = record {
   ran = reading (bytesOf operands);
   is = ap (λ (n : ℕ). callOfCode n a b high low operands) e;
   answer = Text.answered (r .answer);
   reply = same;
-  left = subst (λ x. Left (reading (bytesOf operands)) (Text.memoryOf d) (Text.answered (r .answer)) (held (memory words slots x) (nameMemory bytes (h .names)))) (sym kept)
-      (subst (λ (n : ℕ). Left (reading (bytesOf operands)) (Text.memoryOf d) (Text.answered (r .answer)) (held (memory words slots (r .arena)) (nameMemory bytes n))) (sym many) (by-text t));
+  left = subst (λ x. CallLeaves (reading (bytesOf operands)) d (Text.answered (r .answer)) (controllerMemory words slots x bytes (h .names))) (sym kept)
+      (subst (λ (n : ℕ). CallLeaves (reading (bytesOf operands)) d (Text.answered (r .answer)) (controllerMemory words slots (r .arena) bytes n)) (sym many) (by-text t));
 }
 
 pub last-reading : (code : ℕ) → firstReading ≤ code → code ≤ lastCode → code ≡ 21

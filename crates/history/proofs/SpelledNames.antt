@@ -18,9 +18,9 @@ use Rattle.names.specs.declared.Answer.{Answer}
 use Rattle.names.specs.declared.Answer.the-variants.{Numbered, Unknown, Named, Refused}
 use Rattle.names.specs.Sound.{Sound, namesOf, lentEntries}
 use Rattle.names.specs.Calls.{answerOf, Called, plainly}
-use Rattle.history.specs.declared.naming.Spelled.{Spelled}
+use Rattle.history.specs.declared.naming.NameArgument.{NameArgument}
 use Rattle.history.specs.Encoding.{lowestByte, bytesOf}
-use Rattle.history.specs.Calling.{mostSpelled}
+use Rattle.history.specs.Calling.{mostNameBytes}
 
 -- ---- a name that is longer than 32 bytes is refused by its first 33
 
@@ -36,22 +36,22 @@ module _ (lent : ℕ) (names : List (List ℕ)) (name : List ℕ) where
   unfolding nameCall
   refused-long-lookup l = rw (too-long name l) refl
 
-first-long : (name : List ℕ) → (length name ≤ mostSpelled → ⊥) → longestName < length (take mostSpelled name)
-first-long name l = let e : length (take mostSpelled name) ≡ mostSpelled = length-take-le mostSpelled name (omega arith) in omega arith
+first-long : (name : List ℕ) → (length name ≤ mostNameBytes → ⊥) → longestName < length (take mostNameBytes name)
+first-long name l = let e : length (take mostNameBytes name) ≡ mostNameBytes = length-take-le mostNameBytes name (omega arith) in omega arith
 
-pub intern-first : (lent : ℕ) (names : List (List ℕ)) (name : List ℕ) → nameCall lent names (internName (take mostSpelled name)) ≡ nameCall lent names (internName name)
-intern-first lent names name = go (decLe (length name) mostSpelled)
+pub intern-first : (lent : ℕ) (names : List (List ℕ)) (name : List ℕ) → nameCall lent names (internName (take mostNameBytes name)) ≡ nameCall lent names (internName name)
+intern-first lent names name = go (decLe (length name) mostNameBytes)
   where
-    go : Dec (length name ≤ mostSpelled) → nameCall lent names (internName (take mostSpelled name)) ≡ nameCall lent names (internName name)
-    go (yes p) = ap (λ (x : List ℕ). nameCall lent names (internName x)) (take-all mostSpelled name p)
-    go (no p) = refused-long lent names (take mostSpelled name) (first-long name p) ∙ sym (refused-long lent names name (omega arith))
+    go : Dec (length name ≤ mostNameBytes) → nameCall lent names (internName (take mostNameBytes name)) ≡ nameCall lent names (internName name)
+    go (yes p) = ap (λ (x : List ℕ). nameCall lent names (internName x)) (take-all mostNameBytes name p)
+    go (no p) = refused-long lent names (take mostNameBytes name) (first-long name p) ∙ sym (refused-long lent names name (omega arith))
 
-pub lookup-first : (lent : ℕ) (names : List (List ℕ)) (name : List ℕ) → nameCall lent names (lookupName (take mostSpelled name)) ≡ nameCall lent names (lookupName name)
-lookup-first lent names name = go (decLe (length name) mostSpelled)
+pub lookup-first : (lent : ℕ) (names : List (List ℕ)) (name : List ℕ) → nameCall lent names (lookupName (take mostNameBytes name)) ≡ nameCall lent names (lookupName name)
+lookup-first lent names name = go (decLe (length name) mostNameBytes)
   where
-    go : Dec (length name ≤ mostSpelled) → nameCall lent names (lookupName (take mostSpelled name)) ≡ nameCall lent names (lookupName name)
-    go (yes p) = ap (λ (x : List ℕ). nameCall lent names (lookupName x)) (take-all mostSpelled name p)
-    go (no p) = refused-long-lookup lent names (take mostSpelled name) (first-long name p) ∙ sym (refused-long-lookup lent names name (omega arith))
+    go : Dec (length name ≤ mostNameBytes) → nameCall lent names (lookupName (take mostNameBytes name)) ≡ nameCall lent names (lookupName name)
+    go (yes p) = ap (λ (x : List ℕ). nameCall lent names (lookupName x)) (take-all mostNameBytes name p)
+    go (no p) = refused-long-lookup lent names (take mostNameBytes name) (first-long name p) ∙ sym (refused-long-lookup lent names name (omega arith))
 
 -- ---- interning and looking up answer no name's bytes
 
@@ -107,7 +107,7 @@ module _ (bytes : List ℕ) (count : ℕ) (c d : NameCall) (a : Answer) (out byt
         refusal = h .refusal;
       })
 
-module _ (bytes : List ℕ) (count : ℕ) (operands name : List ℕ) (a : Answer) (out bytes′ : List ℕ) (count′ : ℕ) (is : name ≡ take mostSpelled (bytesOf operands)) where
+module _ (bytes : List ℕ) (count : ℕ) (operands name : List ℕ) (a : Answer) (out bytes′ : List ℕ) (count′ : ℕ) (is : name ≡ take mostNameBytes (bytesOf operands)) where
   pub interns-spelled : Called bytes count (internName name) (answerOf a []) bytes′ count′ → Called bytes count (internName (bytesOf operands)) (answerOf a out) bytes′ count′
   interns-spelled =
       as-another bytes count (internName name) (internName (bytesOf operands)) a out bytes′ count′

@@ -16,13 +16,14 @@ use Rattle.history.specs.declared.reply.Reply.the-variants.{Stored, Simp
 use Rattle.history.specs.declared.reply.Answered.{Answered}
 use Rattle.history.specs.declared.handing.LastReply.{LastReply}
 use Rattle.history.specs.declared.handing.LastReply.the-variants as Last
-use Rattle.history.specs.declared.handing.Handed.{Handed}
-use Rattle.history.specs.declared.naming.Spelled.{Spelled}
+use Rattle.history.specs.declared.handing.CallResult.{CallResult}
+use Rattle.history.specs.declared.naming.NameArgument.{NameArgument}
 use Rattle.history.specs.declared.naming.Named.{Named}
-use Rattle.history.specs.declared.reading.Typed.{Typed}
+use Rattle.history.specs.declared.reading.TextBytes.{TextBytes}
 use Rattle.history.specs.declared.finding.Next.{Next}
 use Rattle.history.specs.declared.finding.Next.the-variants.{Call, Stop}
-use Rattle.history.specs.Memory.{Memory, Left}
+use Rattle.text.specs.Memory.{ControllerMemory}
+use Rattle.history.specs.Memory.{CallLeaves}
 use Rattle.history.specs.Encoding.{headerWords, lastCode, bytesOf, callOfCode, firstCall}
 
 -- an answer of the plain machine, or none where no call was run
@@ -62,19 +63,19 @@ abbrev pub RunsNameCode : ℕ → ℕ → List ℕ → List ℕ → ℕ → Name
 RunsNameCode code a operands bytes count r bytes′ = (b high low : ℕ) → RunsNameCall (callOfCode code a b high low operands) bytes count r bytes′
 
 -- there is a call, and it leaves what the public call that it stands for does
-pub record RunsCall (call : Option ControllerCall) (m : Memory) (r : Handed) (m′ : Memory) : Type 0 where
+pub record RunsCall (call : Option ControllerCall) (m : ControllerMemory) (r : CallResult) (m′ : ControllerMemory) : Type 0 where
   pub ran : ControllerCall
   pub is : call ≡ some ran
   pub answer : ControllerAnswer
   pub reply : lastReplyOf (r .reply) (r .name) ≡ some answer
-  pub left : Left ran m answer m′
+  pub left : CallLeaves ran m answer m′
 
 -- how many bytes of a name are looked at, and of a text: one more than there are at most
-abbrev pub mostSpelled : ℕ
-mostSpelled = 33
+abbrev pub mostNameBytes : ℕ
+mostNameBytes = 33
 
-abbrev pub mostTyped : ℕ
-mostTyped = 8193
+abbrev pub mostTextBytes : ℕ
+mostTextBytes = 8193
 
 -- the bytes that operands spell, as far as they are looked at
 pub record SpellsUpTo (most : ℕ) (operands bytes : List ℕ) (long : ℕ) : Type 0 where
@@ -83,12 +84,12 @@ pub record SpellsUpTo (most : ℕ) (operands bytes : List ℕ) (long : ℕ) : Ty
   pub is : take long bytes ≡ take most (bytesOf operands)
 
 -- a name
-abbrev pub Spells : List ℕ → Spelled → Type 0
-Spells operands r = SpellsUpTo mostSpelled operands (r .bytes) (r .length)
+abbrev pub IsName : List ℕ → NameArgument → Type 0
+IsName operands r = SpellsUpTo mostNameBytes operands (r .bytes) (r .length)
 
 -- a text
-abbrev pub Types : List ℕ → Typed → Type 0
-Types operands r = SpellsUpTo mostTyped operands (r .bytes) (r .length)
+abbrev pub IsText : List ℕ → TextBytes → Type 0
+IsText operands r = SpellsUpTo mostTextBytes operands (r .bytes) (r .length)
 
 -- the call whose header stands at one place, with the operands up to another
 abbrev pub callBetween : List ℕ → ℕ → ℕ → Option ControllerCall
@@ -96,7 +97,7 @@ callBetween calls at end =
     callOfCode (getD calls at 0) (getD calls (at + 1) 0) (getD calls (at + 2) 0) (getD calls (at + 3) 0) (getD calls (at + 4) 0)
     (take (end - (at + headerWords)) (drop (at + headerWords) calls))
 
-abbrev pub RunsCallAt : List ℕ → ℕ → ℕ → Memory → Handed → Memory → Type 0
+abbrev pub RunsCallAt : List ℕ → ℕ → ℕ → ControllerMemory → CallResult → ControllerMemory → Type 0
 RunsCallAt calls at end m r m′ = RunsCall (callBetween calls at end) m r m′
 
 -- a whole call with a known code stands between two places, and it is the first of the words from there on

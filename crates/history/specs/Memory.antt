@@ -32,26 +32,26 @@ abbrev pub lentController : ControllerModel
 lentController = controllerModel model nameModel
 
 -- What the contract of each public call says of the whole memory: a store, simplify or prune call is lent no names, and a name call no store; a reading is lent both.
-pub data Left : ControllerCall → Memory → ControllerAnswer → Memory → Type 0 where
-  by-store : {c : Machine.Call} {s s′ : StoreMemory.Memory} {a : Machine.Answer} {n : NameMemory} → Leaves c s a s′ → Left (asked c) (held s n) (fromStore a) (held s′ n)
+pub data CallLeaves : ControllerCall → Memory → ControllerAnswer → Memory → Type 0 where
+  by-store : {c : Machine.Call} {s s′ : StoreMemory.Memory} {a : Machine.Answer} {n : NameMemory} → Leaves c s a s′ → CallLeaves (asked c) (held s n) (fromStore a) (held s′ n)
   by-names : {c : NameCall} {s : StoreMemory.Memory} {bytes bytes′ : List ℕ} {count count′ : ℕ} {a : NameAnswer} → Called bytes count c a bytes′ count′
-      → Left (naming c) (held s (nameMemory bytes count)) (fromNames a) (held s (nameMemory bytes′ count′))
-  by-text : {text : List ℕ} {d d′ : Desk} {a : StoreAnswer.Answer} → Reads text d a d′ → Left (reading text) (Text.memoryOf d) (Text.answered a) (Text.memoryOf d′)
+      → CallLeaves (naming c) (held s (nameMemory bytes count)) (fromNames a) (held s (nameMemory bytes′ count′))
+  by-text : {text : List ℕ} {d d′ : ControllerMemory} {a : StoreAnswer.Answer} → Reads text d a d′ → CallLeaves (reading text) d (Text.answered a) d′
 
 -- "each other one the store as the call before left it, and nobody else writes it meanwhile", and so the name list
-pub data LeftInTurn : Memory → List ControllerCall → List ControllerAnswer → List Memory → Type 0 where
-  done : {m : Memory} → LeftInTurn m [] [] []
+pub data LeavesInTurn : Memory → List ControllerCall → List ControllerAnswer → List Memory → Type 0 where
+  done : {m : Memory} → LeavesInTurn m [] [] []
   next : {m m′ : Memory} {c : ControllerCall} {cs : List ControllerCall} {a : ControllerAnswer} {al : List ControllerAnswer} {ms : List Memory}
-      → Left c m a m′ → LeftInTurn m′ cs al ms → LeftInTurn m (c ∷ cs) (a ∷ al) (m′ ∷ ms)
+      → CallLeaves c m a m′ → LeavesInTurn m′ cs al ms → LeavesInTurn m (c ∷ cs) (a ∷ al) (m′ ∷ ms)
 
 -- a fresh store, and no names in any bytes
-abbrev pub freshHeld : List ℕ → List ℕ → List ℕ → Memory
-freshHeld words slots bytes = held (freshMemory words slots) (nameMemory bytes 0)
+abbrev pub freshControllerMemory : List ℕ → List ℕ → List ℕ → Memory
+freshControllerMemory words slots bytes = held (freshMemory words slots) (nameMemory bytes 0)
 
 -- Whatever a caller does with the public calls, from a store that `fresh` opened and a name list of count 0 in any bytes, keeps the promise of
 -- demand 3, and the store and the names are sound on the way.
 abbrev pub KeepsPromise : Type 0
 KeepsPromise = (words slots slots′ bytes : List ℕ) (r : FreshStore) (arena : DagArena) → Opens words slots r slots′ → r ≡ Store arena
-    → (cs : List ControllerCall) (al : List ControllerAnswer) (ms : List Memory) → LeftInTurn (held (memory words slots′ arena) (nameMemory bytes 0)) cs al ms
+    → (cs : List ControllerCall) (al : List ControllerAnswer) (ms : List Memory) → LeavesInTurn (held (memory words slots′ arena) (nameMemory bytes 0)) cs al ms
     → Promise (lentController .lent (held (memory words slots′ arena) (nameMemory bytes 0))) cs al (map (lentController .view) ms)
     × All (λ m. (p : Part) → lentController .Sound m p) ms

@@ -17,11 +17,12 @@ use Rattle.store.specs.View.{lent}
 use Rattle.store.specs.Memory.{memory}
 use Rattle.names.specs.Sound.{lentEntries}
 use Rattle.names.specs.Memory.{nameMemory}
-use Rattle.history.specs.declared.handing.Handed.{Handed}
+use Rattle.history.specs.declared.handing.CallResult.{CallResult}
 use Rattle.history.specs.declared.Run.{Run}
 use Rattle.history.specs.declared.Replayed.{Replayed}
 use Rattle.history.specs.declared.Opening.the-variants.{Opened, Refused}
-use Rattle.history.specs.Memory.{Memory, held, freshHeld, lentController, LeftInTurn}
+use Rattle.text.specs.Memory.{ControllerMemory, controllerMemory, lentController}
+use Rattle.history.specs.Memory.{freshControllerMemory, LeavesInTurn}
 use Rattle.history.specs.Encoding.{firstCall, decode, readWords}
 use Rattle.history.specs.Calling.{lastReplyOf}
 
@@ -31,14 +32,14 @@ last [] = none
 last (x ∷ xs) = some (lastOf x xs)
 
 -- the memory that was lent, after a call
-abbrev pub after : List ℕ → List ℕ → List ℕ → Handed → Memory
-after words slots bytes r = held (memory words slots (r .arena)) (nameMemory bytes (r .names))
+abbrev pub after : List ℕ → List ℕ → List ℕ → CallResult → ControllerMemory
+after words slots bytes r = controllerMemory words slots (r .arena) bytes (r .names)
 
 -- Calls on any memory: the answers, the memory after each, and the last of both.
-pub record Continues (m : Memory) (cs : List ControllerCall) (r : Handed) (m′ : Memory) : Type 0 where
+pub record Continues (m : ControllerMemory) (cs : List ControllerCall) (r : CallResult) (m′ : ControllerMemory) : Type 0 where
   pub answers : List ControllerAnswer
-  pub memories : List Memory
-  pub left : LeftInTurn m cs answers memories
+  pub memories : List ControllerMemory
+  pub left : LeavesInTurn m cs answers memories
   pub last-memory : lastOf m memories ≡ m′
   pub last-answer : last answers ≡ lastReplyOf (r .reply) (r .name)
 
@@ -50,15 +51,15 @@ pub record Counts (calls : List ℕ) (r : Run) : Type 0 where
   pub no-more : firstCall (drop (r .words) calls) ≡ none
 
 -- every call of the words was run, and nothing else
-pub record RunsAll (m : Memory) (calls : List ℕ) (r : Run) (m′ : Memory) : Type 0 where
+pub record RunsAll (m : ControllerMemory) (calls : List ℕ) (r : Run) (m′ : ControllerMemory) : Type 0 where
   pub continues : Continues m (decode calls) (r .last) m′
   pub counts : Counts calls r
 
 -- "the first gets a fresh store", and the names are "empty at first": the calls were run from there, and keep the promise of demand 3, with store
 -- and names sound on the way.
-pub record Promised (words slots bytes : List ℕ) (cs : List ControllerCall) (r : Handed) (words′ slots′ bytes′ : List ℕ) : Type 0 where
-  pub fresh : FreshController lentController (freshHeld words slots bytes)
-  pub run : Continues (freshHeld words slots bytes) cs r (after words′ slots′ bytes′ r)
+pub record Promised (words slots bytes : List ℕ) (cs : List ControllerCall) (r : CallResult) (words′ slots′ bytes′ : List ℕ) : Type 0 where
+  pub fresh : FreshController lentController (freshControllerMemory words slots bytes)
+  pub run : Continues (freshControllerMemory words slots bytes) cs r (after words′ slots′ bytes′ r)
   pub promise : Promise (record { store = lent words slots; names = lentEntries bytes }) cs (run .answers) (map (lentController .view) (run .memories))
   pub sound : All (λ m. (p : Part) → lentController .Sound m p) (run .memories)
   -- "Words and slots past the used ones stay."

@@ -1,17 +1,16 @@
 -- The whole call, from the check of the text and the run of its program.
-use Prim.Native.Nat.{ℕ, _≤_}
+use Prim.Native.Nat.{ℕ}
 use mathlib.Core.Path.{_≡_, sym, ap, _∙_, subst}
 use mathlib.Core.Bool.{Bool, true, false}
 use mathlib.Core.List.{List, []}
-use lib.ListN.{length}
 use Rattle.arena.specs.declared.DagArena.{DagArena}
 use Rattle.store.specs.declared.Answer.{Answer}
 use Rattle.store.specs.declared.Answer.the-variants.{Refused}
 use Rattle.store.specs.Memory.{memory, model}
 use Rattle.names.specs.Sound as Names
-use Rattle.text_language.specs.Program.{Token, postfix, tokens, Fits}
-use Rattle.definitions.specs.Making.{Made, make, run}
-use Rattle.text_language.specs.Reading.{anyNan, Refuses, nan, Denotes}
+use Rattle.text_language.specs.Program.{Token, tokens, Fits}
+use Rattle.definitions.specs.Making.{Made, run}
+use Rattle.text_language.specs.Reading.{anyNan, Refuses, nan}
 use Rattle.definitions.proofs.Making.{run-is}
 use Rattle.text_language.proofs.Waiting.{fits-text}
 use Rattle.text_program.specs.declared.checking.Checked as Checked
@@ -19,7 +18,7 @@ use Rattle.text_program.specs.declared.checking.Checked.the-variants as checked
 use Rattle.text.specs.Memory.{ControllerMemory, controllerMemory, BothSound, controllerOf, lentOf}
 use Rattle.text.specs.Making.{Makes}
 use Rattle.text_program.specs.Compiling.{Compiled, Compiles}
-use Rattle.text.specs.Reading.{Reads, unsound, refused, read}
+use Rattle.text.specs.Reading.{Reads, refused, read}
 
 pub both-sound : (words slots : List ℕ) (arena : DagArena) (entries : List ℕ) (names : ℕ) → model .Sound (memory words slots arena) → Names.Sound entries names → BothSound (controllerMemory words slots arena entries names)
 both-sound words slots arena entries names a b = record { store = a; names = b }

@@ -3,19 +3,19 @@ use Prim.Native.Nat.{ℕ}
 use mathlib.Core.Path.{_≡_, refl, sym, ap, _∙_}
 use mathlib.Core.List.{List, [], _∷_}
 use Rattle.definitions.specs.Making.{Controller, LentLists, Made}
-use Rattle.definitions.specs.Controller.{ControllerAnswer, AfterCall, reading, controllerCall, onText, fromMade, Part, storePart, namesPart}
-use Rattle.definitions.specs.Promise.{ControllerCalled, All}
-use Rattle.definitions.specs.Beside.{controllerModel, SoundPart}
+use Rattle.definitions.specs.Controller.{AfterCall, reading, controllerCall, onText, fromMade, Part, storePart, namesPart}
+use Rattle.definitions.specs.Promise.{All}
+use Rattle.definitions.specs.Beside.{SoundPart}
 use Rattle.store.specs.declared.Answer.{Answer}
 use Rattle.store.specs.declared.Answer.the-variants.{Id, Refused}
 use Rattle.store.specs.Memory.{model}
 use Rattle.names.specs.Memory.{nameModel}
 use Rattle.text_language.specs.Grammar.{Expr}
-use Rattle.text_language.specs.Reading.{Verdict, Refuses, Denotes, refuses, denotes, verdict}
+use Rattle.text_language.specs.Reading.{Refuses, Denotes, refuses, denotes}
 use Rattle.text_language.proofs.Reading.{verdict-refuses, verdict-denotes}
 use Rattle.text.specs.Memory.{ControllerMemory, BothSound, controllerOf, lentOf}
-use Rattle.text.specs.Making.{outcome, Makes}
-use Rattle.text.specs.Reading.{Reads, unsound, refused, read}
+use Rattle.text.specs.Making.{outcome}
+use Rattle.text.specs.Reading.{unsound, refused, read}
 use Rattle.text.specs.Calling.{answered, ReadsAsCalled}
 use Rattle.text.proofs.Performing.{same-lent-of}
 

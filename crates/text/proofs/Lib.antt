@@ -5,3 +5,4 @@ pub mod Running
 pub mod Answering
 pub mod Below
 pub mod Calling
+pub mod Determined

@@ -7,7 +7,7 @@ use lib.Dec.{eqb}
 use native.Mathlib.Omega.{arith}
 use Rattle.definitions.specs.Node.{node, negKind}
 use Rattle.definitions.specs.Machine as M
-use Rattle.text_language.specs.Program.{operatorToken, negate}
+use Rattle.text_language.specs.Program.{operatorToken}
 use Rattle.text.specs.Making.{operatorCall, flagsOf}
 
 pub low-kind : (kind first second : ℕ) → kind < 2 → M.requested (operatorCall (operatorToken kind) first second) ≡ M.request true (node negKind 0 0 (first ∷ []))

@@ -14,9 +14,8 @@ use Rattle.definitions.specs.Names.{internName, nameCall, entryBytes}
 use Rattle.definitions.specs.Machine as M
 use Rattle.store.specs.declared.Answer.{Answer}
 use Rattle.store.specs.declared.Answer.the-variants.{Id, Refused}
-use Rattle.store.specs.declared.Built.{Built}
 use Rattle.store.specs.Memory.{Memory, memory, model, answerOf, Stays}
-use Rattle.store.specs.View.{nodesIn, Kept}
+use Rattle.store.specs.View.{nodesIn}
 use Rattle.store.proofs.Leaving.{KeptMemory}
 use Rattle.store.proofs.Staying.{stays-refl, stays-trans}
 use Rattle.store.proofs.Keeping.{later}

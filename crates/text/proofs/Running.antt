@@ -1,9 +1,9 @@
 -- The loop over a program: what is still to run, over the lists and the results as they are now, gives what the whole program gives.
-use Prim.Native.Nat.{ℕ, zero, suc, _+_, _-_, _*_, _≤_, _<_}
+use Prim.Native.Nat.{ℕ, zero, suc, _+_, _-_, _≤_, _<_}
 use mathlib.Core.Path.{_≡_, refl, sym, ap, _∙_, subst}
-use mathlib.Core.List.{List, [], _∷_, _++_, map}
+use mathlib.Core.List.{List, [], _∷_, map}
 use lib.ListN.{length, length-take, length-set, getD, take, drop, set, drop-of-length-le}
-use lib.Seq.{drop-cons, getD-take, length-take-le, getD-set-same, getD-set-other, drop-nil}
+use lib.Seq.{drop-cons, getD-take, length-take-le, getD-set-same, getD-set-other}
 use native.Mathlib.Omega.{arith}
 use native.Mathlib.Numerals.{add-one}
 use Rattle.store.specs.declared.Answer.{Answer}
@@ -13,7 +13,7 @@ use Rattle.definitions.specs.Making as Plain
 use Rattle.definitions.specs.Making.{Controller, LentLists, bind}
 use Rattle.text.specs.Memory.{ControllerMemory, BothSound, controllerOf, lentOf, Extends}
 use Rattle.text.specs.Making.{outcome, FitsId, Makes, stackOf, idValues}
-use Rattle.text.proofs.Performing.{extends-refl, extends-trans, same-lent-of, sound-after}
+use Rattle.text.proofs.Performing.{extends-refl, extends-trans, same-lent-of}
 
 -- ---- the results that wait
 

@@ -13,4 +13,5 @@ answered a = fromStore (answerOf a)
 
 -- the contract of `read` is what demand 3 takes of a reading
 abbrev pub ReadsAsCalled : Type 0
-ReadsAsCalled = (s : List ℕ) (m m′ : ControllerMemory) (a : Answer) → Reads s m a m′ → ControllerCalled lentController (reading s) m (answered a) m′
+ReadsAsCalled = (s : List ℕ) (m m′ : ControllerMemory) (a : Answer) → Reads s m a m′
+    → ControllerCalled lentController (reading s) m (answered a) m′

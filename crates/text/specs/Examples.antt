@@ -5,7 +5,7 @@ use mathlib.Core.Bool.{true, false}
 use mathlib.Core.List.{List, [], _∷_}
 use Rattle.definitions.specs.Node.{Node, node, variableKind, constantKind, addKind, subKind, mulKind, powKind}
 use Rattle.definitions.specs.Names.{sameName}
-use Rattle.definitions.specs.Making.{LentLists, Controller, controller, made, stopped, make}
+use Rattle.definitions.specs.Making.{LentLists, controller, made, stopped, make}
 use Rattle.text_language.specs.Grammar.{sums, products, Expr, constant, variable, linked, raised}
 
 abbrev two : ℕ

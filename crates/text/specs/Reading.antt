@@ -1,5 +1,6 @@
 -- What the whole call says.
 use Prim.Native.Nat.{ℕ}
+use mathlib.Core.Path.{_≡_}
 use mathlib.Core.List.{List}
 use Rattle.definitions.specs.Refusals.{notSound}
 use Rattle.definitions.specs.Making.{make}
@@ -17,3 +18,13 @@ pub data Reads (s : List ℕ) (m : ControllerMemory) : Answer → ControllerMemo
   refused : {k : ℕ} → BothSound m → Refuses s k → Reads s m (Refused k) m
   read : {e : Expr} {a : Answer} {m′ : ControllerMemory} → BothSound m → Denotes s e
       → Makes (make (lentOf m) e (controllerOf m)) m a m′ → Reads s m a m′
+
+-- Two readings of one text on one memory are one: the same answer, words, counts and name bytes, and only the choice of slots is left open.
+pub record OneReading (a b : Answer) (m′ m″ : ControllerMemory) : Type 0 where
+  pub answer : a ≡ b
+  pub words : m′ .store .words ≡ m″ .store .words
+  pub arena : m′ .store .arena ≡ m″ .store .arena
+  pub names : m′ .names ≡ m″ .names
+
+abbrev pub ReadsOneWay : Type 0
+ReadsOneWay = (s : List ℕ) (m m′ m″ : ControllerMemory) (a b : Answer) → Reads s m a m′ → Reads s m b m″ → OneReading a b m′ m″

@@ -1,9 +1,6 @@
-use mathlib.Core.Path.{sym, _∙_, subst}
+use mathlib.Core.Path.{sym, _∙_}
 use native.Mathlib.Omega.{arith}
-use Rattle.text_language.specs.Program.{Token}
-use Rattle.definitions.specs.Making.{perform}
 use Rattle.text_language.proofs.Tokens.{letter-inside, name-token, name-short}
-use Rattle.text.specs.Making.{Makes}
 use Rattle.text.proofs.Performing.{makes-number, makes-token}
 use borrow.Author.Needs.{needs}
 use Rattle.text.proofs.making.leaf.Statement.{statement}

@@ -1,7 +1,5 @@
-use mathlib.Core.Path.{sym, _∙_, subst}
 use Rattle.text_language.specs.Program.{operatorToken}
-use Rattle.definitions.specs.Making.{Made}
-use Rattle.text.specs.Making.{Makes, operatorCall}
+use Rattle.text.specs.Making.{operatorCall}
 use Rattle.text.proofs.Performing.{makes-store, makes-as, perform-place, perform-kind}
 use borrow.Author.Needs.{needs}
 use Rattle.text.proofs.making.perform.Statement.{statement}
