@@ -10,9 +10,10 @@ use native.Mathlib.Omega.{arith}
 use Rattle.arena.specs.declared.DagArena.{DagArena}
 use Rattle.definitions.specs.Machine as M
 use Rattle.definitions.specs.Limits.{firstTableSize}
+use Rattle.definitions.specs.Names.{longestName}
 use Rattle.definitions.specs.Refusals.{noSlotPlace}
-use Rattle.definitions.specs.Controller.{ControllerCall, storePart}
-use Rattle.definitions.specs.Promise.{Fresh, FreshController, Promise}
+use Rattle.definitions.specs.Controller.{ControllerCall}
+use Rattle.definitions.specs.Promise.{Fresh, Promise}
 use Rattle.definitions.proofs.Histories.{demand3}
 use Rattle.definitions.proofs.Lifting.{fresh-beside}
 use Rattle.definitions.proofs.Listing.{last-more}
@@ -33,12 +34,12 @@ use Rattle.text.specs.Memory.{ControllerMemory, controllerMemory, lentControlle
 use Rattle.definitions.specs.Beside.{beside}
 use Rattle.history.specs.Memory.{freshControllerMemory, CallLeaves, done}
 use Rattle.history.specs.declared.Run.{Run}
-use Rattle.history.specs.declared.Replayed.{Replayed}
 use Rattle.history.specs.declared.Opening.the-variants.{Opened, Refused}
 use Rattle.history.specs.Encoding.{firstCall, decode, unread, readWords}
 use Rattle.history.specs.Calling.{lastReplyOf, RunsCallAt, WholeCall}
-use Rattle.history.specs.Replaying.{after, Continues, RunsAll, Promised, Replays}
+use Rattle.history.specs.Replaying.{after, Continues, RunsAll, Promised, NothingRun, Replays}
 use Rattle.history.proofs.Keeping.{history-of}
+use Rattle.history.proofs.CodeCalls.{store-beside}
 use Rattle.history.proofs.Turns.{turns-more, stays-in-turn, NamesStay, names-in-turn, last-is}
 use Rattle.history.proofs.Decoding.{decode-none, decode-some, unread-none, unread-some, none-in-nothing}
 
@@ -52,12 +53,19 @@ pub record RunTo (m : ControllerMemory) (calls : List ℕ) (at : ℕ) (r : CallR
   pub few : many ≤ at
 
 module _ (m : ControllerMemory) (calls : List ℕ) where
-  pub none-run : (r : CallResult) → r .reply ≡ Last.Store Nothing → RunTo m calls 0 r 0 m
-  none-run r e = record {
+  pub none-run : (r : CallResult) → r .reply ≡ Last.Store Nothing → r .name ≡ replicate longestName 0 → RunTo m calls 0 r 0 m
+  none-run r e zeros = record {
     before = [];
     split = refl;
     left = refl;
-    run = record { answers = []; memories = []; left = done; last-memory = refl; last-answer = sym (ap (λ x. lastReplyOf x (r .name)) e) };
+    run = record {
+      answers = [];
+      memories = [];
+      left = done;
+      last-memory = refl;
+      last-answer = sym (ap (λ x. lastReplyOf x (r .name)) e);
+      last-name = store-beside (r .reply) Nothing (r .name) e zeros;
+    };
     counted = refl;
     few = omega arith;
   }
@@ -85,6 +93,7 @@ module _ (m : ControllerMemory) (calls : List ℕ) where
           left = turns-more (so-far .left) (subst (λ x. CallLeaves c x (f .answer) m″) (sym (so-far .last-memory)) (f .left));
           last-memory = last-more m (so-far .memories) m″;
           last-answer = last-is (so-far .answers) (f .answer) ∙ sym (f .reply);
+          last-name = f .name;
         };
         counted = omega (arith, length-append (h .before) (c ∷ []));
         few = omega arith;
@@ -106,9 +115,9 @@ module _ (m : ControllerMemory) (calls : List ℕ) where
   all-run-at-end r m′ k l h = all-run r m′ k (ap firstCall (drop-of-length-le calls l) ∙ none-in-nothing) h
 
 -- what the first call gets is the lent memory without names
-pub from-first : (words slots bytes calls : List ℕ) (h : CallResult) (arena : DagArena) (r : Run) (m′ : ControllerMemory) → (h .reply ≡ Last.Store Nothing) × (h .arena ≡ arena) × (h .names ≡ 0)
+pub from-first : (words slots bytes calls : List ℕ) (h : CallResult) (arena : DagArena) (r : Run) (m′ : ControllerMemory) → (h .reply ≡ Last.Store Nothing) × (h .name ≡ replicate longestName 0) × (h .arena ≡ arena) × (h .names ≡ 0)
     → RunsAll (after words slots bytes h) calls r m′ → RunsAll (controllerMemory words slots arena bytes 0) calls r m′
-from-first words slots bytes calls h arena r m′ (e, f, g) k = subst (λ m. RunsAll m calls r m′) (λ i. controllerMemory words slots (f i) bytes (g i)) k
+from-first words slots bytes calls h arena r m′ (e, z, f, g) k = subst (λ m. RunsAll m calls r m′) (λ i. controllerMemory words slots (f i) bytes (g i)) k
 
 -- past the first 64 slots a fresh store leaves all as it was
 fresh-slots-past : (slots : List ℕ) (size : ℕ) → firstTableSize ≤ size → drop size (freshSlots false slots) ≡ drop size slots
@@ -141,14 +150,20 @@ bool-clash A e = let z : _≡_ {A = ℕ} 0 1 = cc in absurd (omega arith)
 fresh-clash : (A : Type 0) (arena : DagArena) (number : ℕ) → F.Store arena ≡ F.Refused number → A
 fresh-clash A arena number e = let z : _≡_ {A = ℕ} 0 1 = cc in absurd (omega arith)
 
-pub replays-refused : (words slots bytes calls slots′ : List ℕ) (f : FreshStore) (number : ℕ) (run : Run) → Opens words slots f slots′ → f ≡ F.Refused number
-    → Replays words slots bytes calls (record { opening = Refused number; run = run }) words slots′ bytes
-replays-refused words slots bytes calls slots′ f number run o e = go (M.freshRefused (lent words slots)) refl (o .answer) (o .slots-after)
+pub replays-refused : (words slots bytes calls slots′ : List ℕ) (f : FreshStore) (number : ℕ) (h : CallResult) → Opens words slots f slots′ → f ≡ F.Refused number
+    → (h .reply ≡ Last.Store Nothing) × (h .name ≡ replicate longestName 0) × (h .arena ≡ record { count = 0; size = 0 }) × (h .names ≡ 0)
+    → Replays words slots bytes calls (record { opening = Refused number; run = record { last = h; calls = 0; words = 0 } }) words slots′ bytes
+replays-refused words slots bytes calls slots′ f number h o e (reply, zeros, none-stored, none-named) =
+    go (M.freshRefused (lent words slots)) refl (o .answer) (o .slots-after)
   where
-    go : (b : Bool) → M.freshRefused (lent words slots) ≡ b → f ≡ freshAnswer b → slots′ ≡ freshSlots b slots → Replays words slots bytes calls (record { opening = Refused number; run = run }) words slots′ bytes
+    nothing : NothingRun (record { last = h; calls = 0; words = 0 })
+    nothing = record { reply = reply; name = zeros; arena = none-stored; names = none-named; calls = refl; words = refl }
+
+    go : (b : Bool) → M.freshRefused (lent words slots) ≡ b → f ≡ freshAnswer b → slots′ ≡ freshSlots b slots
+        → Replays words slots bytes calls (record { opening = Refused number; run = record { last = h; calls = 0; words = 0 } }) words slots′ bytes
     go true q a s =
         let n : number ≡ noSlotPlace = cc in
-        record { refused = λ _. (ap Refused n, refl, s, refl); promised = λ q′. bool-clash _ (sym q ∙ q′) }
+        record { refused = λ _. (ap Refused n, nothing, refl, s, refl); promised = λ q′. bool-clash _ (sym q ∙ q′) }
     go false q a s = fresh-clash _ (record { count = 0; size = firstTableSize }) number (sym a ∙ e)
 
 pub replays-done : (words slots bytes calls slots₁ words′ slots′ bytes′ : List ℕ) (f : FreshStore) (arena : DagArena) (r : Run)

@@ -14,7 +14,7 @@ use Rattle.store.specs.Memory.{model, Stays}
 use Rattle.store.proofs.Keeping.{later}
 use Rattle.store.proofs.Staying.{stays-refl, stays-trans, leaves-stays}
 use Rattle.names.specs.Sound.{namesOf, lentEntries}
-use Rattle.names.specs.Memory.{NameMemory, nameMemory, nameModel}
+use Rattle.names.specs.Memory.{NameMemory, nameModel}
 use Rattle.names.proofs.Listing.{names-length}
 use Rattle.text.specs.Reading as Text
 use Rattle.text.specs.Memory.{ControllerMemory}
@@ -30,9 +30,9 @@ turns-more (next k t) h = next k (turns-more t h)
 left-stays : {c : ControllerCall} {m : ControllerMemory} {a : ControllerAnswer} {m′ : ControllerMemory} → CallLeaves c m a m′ → model .Sound (m .store) → Stays (m .store) (m′ .store)
 left-stays (by-store {c = c} {s = s} {s′ = s′} {a = a} l) h = leaves-stays c s a s′ h l
 left-stays (by-names {s = s} l) h = stays-refl s h
-left-stays (by-text {d = d} (Text.unsound n)) h = stays-refl (d .store) h
-left-stays (by-text {d = d} (Text.refused k r)) h = stays-refl (d .store) h
-left-stays (by-text (Text.read k e m)) h = m .follows .store
+left-stays (by-text {m = m} (Text.unsound n)) h = stays-refl (m .store) h
+left-stays (by-text {m = m} (Text.refused k r)) h = stays-refl (m .store) h
+left-stays (by-text (Text.read k e x)) h = x .extends .store
 
 pub stays-in-turn : {m : ControllerMemory} {cs : List ControllerCall} {al : List ControllerAnswer} {ms : List ControllerMemory} → LeavesInTurn m cs al ms → model .Sound (m .store)
     → Stays (m .store) (lastOf m ms .store)
@@ -52,9 +52,9 @@ same-names m h = record { sound = h; count = omega arith; past = refl }
 
 names-left : {c : ControllerCall} {m : ControllerMemory} {a : ControllerAnswer} {m′ : ControllerMemory} → CallLeaves c m a m′ → nameModel .Sound (m .names) → NamesStay (m .names) (m′ .names)
 names-left (by-store {n = n} l) h = same-names n h
-names-left (by-text {d = d} (Text.unsound n)) h = same-names (nameMemory (d .entries) (d .names)) h
-names-left (by-text {d = d} (Text.refused k r)) h = same-names (nameMemory (d .entries) (d .names)) h
-names-left (by-text (Text.read k e m)) h = record { sound = m .follows .names; count = m .follows .count; past = m .follows .past }
+names-left (by-text {m = m} (Text.unsound n)) h = same-names (m .names) h
+names-left (by-text {m = m} (Text.refused k r)) h = same-names (m .names) h
+names-left (by-text (Text.read k e x)) h = record { sound = x .extends .names; count = x .extends .count; past = x .extends .past }
 names-left (by-names {c = c} {bytes = bytes} {bytes′ = bytes′} {count = count} {count′ = count′} l) h =
     let e : count′ ≡ length (nameCall (lentEntries bytes) (namesOf bytes count) c .names) = sym (names-length bytes′ count′) ∙ ap length (l .names h) in
     let f : length (namesOf bytes count) ≡ count = names-length bytes count in

@@ -1,16 +1,15 @@
 -- A text typed by operands, and the reading that its first 8,193 bytes stand for.
 use Prim.Native.Nat.{ℕ, _≤_, _<_}
-use mathlib.Core.Path.{_≡_, refl, sym, ap, _∙_, subst}
+use mathlib.Core.Path.{_≡_, subst}
 use mathlib.Core.List.{List}
 use lib.ListN.{length, take}
 use lib.Seq.{take-all, length-take-le}
 use native.Mathlib.Omega.{arith}
 use native.Mathlib.Decide.{decLe}
 use Rattle.store.specs.declared.Answer.{Answer}
-use Rattle.store.specs.declared.Answer.the-variants.{Refused}
 use Rattle.text_language.specs.Reading.{mostBytes, Refuses, long}
 use Rattle.text_language.proofs.Reading.{one-refusal, not-both}
-use Rattle.text.specs.Making.{Desk}
+use Rattle.text.specs.Memory.{ControllerMemory}
 use Rattle.text.specs.Reading.{Reads, unsound, refused, read}
 use Rattle.history.specs.Encoding.{bytesOf}
 use Rattle.history.specs.Calling.{mostTextBytes}

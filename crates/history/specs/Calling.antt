@@ -1,16 +1,17 @@
 -- What a reply is in the plain machine's terms, and what finding and running one encoded call say.
-use Prim.Native.Nat.{ℕ, _+_, _-_, _≤_}
+use Prim.Native.Nat.{ℕ, suc, _+_, _-_, _≤_}
 use mathlib.Core.Path.{_≡_}
 use mathlib.Core.Bool.{true, false}
 use mathlib.Core.Option.{Option, none, some}
 use mathlib.Core.List.{List}
-use lib.ListN.{length, getD, take, drop}
+use lib.ListN.{length, getD, take, drop, replicate}
 use Rattle.definitions.specs.Machine as M
-use Rattle.definitions.specs.Names.{NameCall}
+use Rattle.definitions.specs.Names.{NameCall, longestName}
 use Rattle.definitions.specs.Controller.{ControllerCall, naming, ControllerAnswer, fromStore, fromNames, asked}
 use Rattle.store.specs.Memory as Store
 use Rattle.store.specs.Memory.{Leaves}
-use Rattle.names.specs.Calls.{answerOf, Called}
+use Rattle.names.specs.Calls.{answerOf, Called, bytesBeside, Fits}
+use Rattle.text_language.specs.Reading.{mostBytes}
 use Rattle.history.specs.declared.reply.Reply.{Reply}
 use Rattle.history.specs.declared.reply.Reply.the-variants.{Stored, Simplified, Spent, Pruned, Refused, Nothing}
 use Rattle.history.specs.declared.reply.Answered.{Answered}
@@ -44,6 +45,11 @@ abbrev pub lastReplyOf : LastReply → List ℕ → Option ControllerAnswer
 lastReplyOf (Last.Store r) name = maybeFromStore (replyOf r)
 lastReplyOf (Last.Names a) name = some (fromNames (answerOf a name))
 
+-- the bytes beside a reply: those of a name that it gives the length of, and then 0s
+abbrev pub NameBeside : LastReply → List ℕ → Type 0
+NameBeside (Last.Store r) name = name ≡ replicate longestName 0
+NameBeside (Last.Names a) name = (name ≡ bytesBeside (answerOf a name)) × Fits a
+
 -- there is a call of the store, and it meets the contract of the public call that it stands for
 pub record RunsStoreCall (call : Option ControllerCall) (m : Store.Memory) (r : Answered) (m′ : Store.Memory) : Type 0 where
   pub ran : M.Call
@@ -57,6 +63,7 @@ pub record RunsNameCall (call : Option ControllerCall) (bytes : List ℕ) (count
   pub ran : NameCall
   pub is : call ≡ some (naming ran)
   pub called : Called bytes count ran (answerOf (r .answer) (r .bytes)) bytes′ (r .count)
+  pub name : NameBeside (Last.Names (r .answer)) (r .bytes)
 
 -- the same whatever the words of the header are that a name call does not read
 abbrev pub RunsNameCode : ℕ → ℕ → List ℕ → List ℕ → ℕ → Named → List ℕ → Type 0
@@ -68,14 +75,15 @@ pub record RunsCall (call : Option ControllerCall) (m : ControllerMemory) (r : C
   pub is : call ≡ some ran
   pub answer : ControllerAnswer
   pub reply : lastReplyOf (r .reply) (r .name) ≡ some answer
+  pub name : NameBeside (r .reply) (r .name)
   pub left : CallLeaves ran m answer m′
 
 -- how many bytes of a name are looked at, and of a text: one more than there are at most
 abbrev pub mostNameBytes : ℕ
-mostNameBytes = 33
+mostNameBytes = suc longestName
 
 abbrev pub mostTextBytes : ℕ
-mostTextBytes = 8193
+mostTextBytes = suc mostBytes
 
 -- the bytes that operands spell, as far as they are looked at
 pub record SpellsUpTo (most : ℕ) (operands bytes : List ℕ) (long : ℕ) : Type 0 where

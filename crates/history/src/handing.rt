@@ -1,8 +1,10 @@
 // What is handed on from call to call.
 ghost use mathlib.Core.Path.{_≡_};
 ghost use mathlib.Core.Option.{some};
+ghost use lib.ListN.{replicate};
+ghost use Rattle.definitions.specs.Names.{longestName};
 ghost use Rattle.text.specs.Calling as Text;
-ghost use Rattle.history.specs.Calling.{lastReplyOf};
+ghost use Rattle.history.specs.Calling.{lastReplyOf, NameBeside};
 ghost use Rattle.history.specs.declared.handing.LastReply.the-variants as Last;
 ghost use Rattle.history.specs.declared.reply.Reply.the-variants.{Nothing};
 use crate::naming::LONGEST_NAME;
@@ -31,7 +33,7 @@ pub struct CallResult {
 
 // What the first call gets: no reply, and no names.
 pub(crate) fn at_first(arena: DagArena) -> CallResult
-    ensures { λ r. ⌜ (r .reply ≡ Last.Store Nothing) × (r .arena ≡ arena) × (r .names ≡ 0) ⌝ }
+    ensures { λ r. ⌜ (r .reply ≡ Last.Store Nothing) × (r .name ≡ replicate longestName 0) × (r .arena ≡ arena) × (r .names ≡ 0) ⌝ }
 {
     CallResult {
         reply: LastReply::Store(Reply::Nothing),
@@ -43,7 +45,8 @@ pub(crate) fn at_first(arena: DagArena) -> CallResult
 
 // What a call of the store hands on.
 pub(crate) fn of_store(answered: Answered, names: usize) -> CallResult
-    ensures { λ r. ⌜ (r .reply ≡ Last.Store (answered .reply)) × (r .arena ≡ answered .arena) × (r .names ≡ names) ⌝ }
+    ensures { λ r. ⌜ (r .reply ≡ Last.Store (answered .reply)) × (r .name ≡ replicate longestName 0)
+        × (r .arena ≡ answered .arena) × (r .names ≡ names) ⌝ }
 {
     let reply = answered.reply;
     let arena = answered.arena;
@@ -57,7 +60,8 @@ pub(crate) fn of_store(answered: Answered, names: usize) -> CallResult
 
 // What a name call hands on.
 pub(crate) fn of_names(named: Named, arena: DagArena) -> CallResult
-    ensures { λ r. ⌜ (r .reply ≡ Last.Names (named .answer)) × (r .name ≡ named .bytes) × (r .arena ≡ arena) × (r .names ≡ named .count) ⌝ }
+    ensures { λ r. ⌜ (r .reply ≡ Last.Names (named .answer)) × (r .name ≡ named .bytes)
+        × (r .arena ≡ arena) × (r .names ≡ named .count) ⌝ }
 {
     let answer = named.answer;
     let name = named.bytes;
@@ -72,7 +76,8 @@ pub(crate) fn of_names(named: Named, arena: DagArena) -> CallResult
 
 // What a reading hands on.
 pub(crate) fn of_reading(made: ReadOutcome) -> CallResult
-    ensures { λ r. ⌜ (lastReplyOf (r .reply) (r .name) ≡ some (Text.answered (made .answer))) × (r .arena ≡ made .arena) × (r .names ≡ made .names) ⌝ }
+    ensures { λ r. ⌜ (lastReplyOf (r .reply) (r .name) ≡ some (Text.answered (made .answer))) × NameBeside (r .reply) (r .name)
+        × (r .arena ≡ made .arena) × (r .names ≡ made .names) ⌝ }
 {
     let answer = made.answer;
     let arena = made.arena;

@@ -1,4 +1,5 @@
-// A list of calls, run on one store and one name list: the request's demand 3 as the contract of code. Calls are words, as specs/Encoding.antt says.
+// A list of calls, run on one store and one name list: the request's demand 3 as the contract of code. Calls are words, as specs/Encoding.antt
+// says.
 mod calling;
 pub mod codes;
 mod finding;
@@ -9,8 +10,6 @@ mod reply;
 
 ghost use Prim.Native.Nat.{_+_, _≤_};
 ghost use lib.ListN.{length, getD};
-ghost use Rattle.store.specs.Memory.{memory};
-ghost use Rattle.names.specs.Memory.{nameMemory};
 ghost use Rattle.text.specs.Memory.{controllerMemory};
 ghost use Rattle.history.specs.Encoding.{headerWords, lastCode};
 ghost use Rattle.history.specs.Calling.{RunsCallAt};
@@ -61,7 +60,9 @@ fn call_at(
     end: usize,
 ) -> CallResult
     requires { ⌜ (at + headerWords ≤ end) × (end ≤ length (now calls)) × (getD (now calls) at 0 ≤ lastCode) ⌝ }
-    ensures { λ r. ⌜ RunsCallAt (now (calls .entry)) at end (controllerMemory (now (nodes .entry)) (now (slots .entry)) arena (now (entries .entry)) names) r (after (now (nodes .exit)) (now (slots .exit)) (now (entries .exit)) r) ⌝ }
+    ensures { λ r. ⌜ RunsCallAt (now (calls .entry)) at end
+        (controllerMemory (now (nodes .entry)) (now (slots .entry)) arena (now (entries .entry)) names) r
+        (after (now (nodes .exit)) (now (slots .exit)) (now (entries .exit)) r) ⌝ }
 {
     let start = at + HEADER_WORDS;
     let operands = &calls[start..end];
@@ -88,7 +89,8 @@ fn replay_from(
     arena: DagArena,
     calls: &[u32],
 ) -> Run
-    ensures { λ r. ⌜ RunsAll (controllerMemory (now (nodes .entry)) (now (slots .entry)) arena (now (entries .entry)) 0) (now (calls .entry)) r (after (now (nodes .exit)) (now (slots .exit)) (now (entries .exit)) (r .last)) ⌝ }
+    ensures { λ r. ⌜ RunsAll (controllerMemory (now (nodes .entry)) (now (slots .entry)) arena (now (entries .entry)) 0)
+        (now (calls .entry)) r (after (now (nodes .exit)) (now (slots .exit)) (now (entries .exit)) (r .last)) ⌝ }
 {
     let mut last = at_first(arena);
     let mut run: usize = 0;
@@ -117,7 +119,8 @@ fn replay_from(
 
 // A fresh store and an empty name list, then every call of the list.
 pub fn replay(nodes: &mut [u64], slots: &mut [u32], entries: &mut [u8], calls: &[u32]) -> Replayed
-    ensures { λ r. ⌜ Replays (now (nodes .entry)) (now (slots .entry)) (now (entries .entry)) (now (calls .entry)) r (now (nodes .exit)) (now (slots .exit)) (now (entries .exit)) ⌝ }
+    ensures { λ r. ⌜ Replays (now (nodes .entry)) (now (slots .entry)) (now (entries .entry)) (now (calls .entry)) r
+        (now (nodes .exit)) (now (slots .exit)) (now (entries .exit)) ⌝ }
 {
     match fresh(nodes, slots) {
         FreshStore::Refused(number) => {

@@ -8,7 +8,7 @@ use crate::codes;
 pub(crate) const LONGEST_NAME: usize = 32;
 
 // One byte more than a name has, so that a longer one is refused.
-const MOST_NAME_BYTES: usize = 33;
+const MOST_NAME_BYTES: usize = LONGEST_NAME + 1;
 
 const BYTE_VALUES: u32 = 256;
 

@@ -6,9 +6,10 @@ ghost use Rattle.history.specs.Calling.{IsText};
 use crate::naming::lowest_byte;
 use arena::DagArena;
 use text::ReadOutcome;
+use text_language::MOST_BYTES;
 
 // One byte more than a text has at most, so that a longer one is refused.
-const MOST_TEXT_BYTES: usize = 8193;
+const MOST_TEXT_BYTES: usize = MOST_BYTES + 1;
 
 // The first bytes of a text.
 pub(crate) struct TextBytes {
@@ -40,7 +41,9 @@ pub(crate) fn call_reading(
     names: usize,
     operands: &[u32],
 ) -> ReadOutcome
-    ensures { λ r. ⌜ Reads (bytesOf (now (operands .entry))) (controllerMemory (now (nodes .entry)) (now (slots .entry)) arena (now (entries .entry)) names) (r .answer) (controllerMemory (now (nodes .exit)) (now (slots .exit)) (r .arena) (now (entries .exit)) (r .names)) ⌝ }
+    ensures { λ r. ⌜ Reads (bytesOf (now (operands .entry)))
+        (controllerMemory (now (nodes .entry)) (now (slots .entry)) arena (now (entries .entry)) names) (r .answer)
+        (controllerMemory (now (nodes .exit)) (now (slots .exit)) (r .arena) (now (entries .exit)) (r .names)) ⌝ }
 {
     let typed = type_text(operands);
     let bytes = typed.bytes;

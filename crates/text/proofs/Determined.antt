@@ -20,8 +20,7 @@ use Rattle.names.specs.Memory.{nameMemory}
 use Rattle.names.proofs.Listing.{names-length}
 use Rattle.names.proofs.Determined.{bytes-same}
 use Rattle.text_language.specs.Grammar.{Expr}
-use Rattle.text_language.specs.Reading.{refuses, denotes, Refuses, Denotes}
-use Rattle.text_language.proofs.Reading.{verdict-refuses, verdict-denotes}
+use Rattle.text_language.proofs.Reading.{one-refusal, not-both, one-expression}
 use Rattle.text.specs.Memory.{ControllerMemory, controllerOf, lentOf, BothSound, Extends}
 use Rattle.text.specs.Making.{outcome, Makes}
 use Rattle.text.specs.Reading.{unsound, refused, read, OneReading, ReadsOneWay}
@@ -65,7 +64,7 @@ module _ (m m′ m″ : ControllerMemory) (h : BothSound m) (f : Extends m m′)
   pub same-names : m′ .names ≡ m″ .names
   same-names = λ i. nameMemory (bytes i) (many i)
 
--- ---- one answer
+-- ---- one answer, one text read twice
 
 outcome-answer : (a b : Answer) (s t : Controller) → outcome a s ≡ outcome b t → a ≡ b
 outcome-answer (Id i) (Id j) s t e = let q : i ≡ j = cc in ap Id q
@@ -82,20 +81,6 @@ outcome-left (Id i) (Id j) s t e = ap left-of e
 outcome-left (Id i) (Refused r) s t e = ap left-of e
 outcome-left (Refused r) (Id i) s t e = ap left-of e
 outcome-left (Refused r) (Refused k) s t e = ap left-of e
-
--- ---- one verdict
-
-one-refusal : {s : List ℕ} {k n : ℕ} → Refuses s k → Refuses s n → k ≡ n
-one-refusal {s} {k} {n} p q = let e : refuses k ≡ refuses n = sym (verdict-refuses p) ∙ verdict-refuses q in cc
-
-one-expr : {s : List ℕ} {e f : Expr} → Denotes s e → Denotes s f → e ≡ f
-one-expr {s} {e} {f} p q = let x : denotes e ≡ denotes f = sym (verdict-denotes p) ∙ verdict-denotes q in cc
-
-not-both : {s : List ℕ} {k : ℕ} {e : Expr} → Refuses s k → Denotes s e → ⊥
-not-both {s} {k} {e} p q =
-    let x : refuses k ≡ denotes e = sym (verdict-refuses p) ∙ verdict-denotes q in
-    let z : _≡_ {A = ℕ} 0 1 = cc in
-    omega arith
 
 both-read : (s : List ℕ) (m m′ m″ : ControllerMemory) (a b : Answer) (e f : Expr) → BothSound m → e ≡ f → Makes (make (lentOf m) e (controllerOf m)) m a m′
     → Makes (make (lentOf m) f (controllerOf m)) m b m″ → OneReading a b m′ m″
@@ -118,4 +103,4 @@ reads-one-way s m m′ m″ a b (refused h r) (refused k q) = record { answer = 
 reads-one-way s m m′ m″ a b (refused h r) (read k d x) = absurd (not-both r d)
 reads-one-way s m m′ m″ a b (read h d x) (unsound k) = absurd (k h)
 reads-one-way s m m′ m″ a b (read h d x) (refused k q) = absurd (not-both q d)
-reads-one-way s m m′ m″ a b (read {e = e} h d x) (read {e = f} k c y) = both-read s m m′ m″ a b e f h (one-expr d c) x y
+reads-one-way s m m′ m″ a b (read {e = e} h d x) (read {e = f} k c y) = both-read s m m′ m″ a b e f h (one-expression d c) x y
