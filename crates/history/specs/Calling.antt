@@ -67,7 +67,8 @@ pub record RunsNameCall (call : Option ControllerCall) (bytes : List ℕ) (count
 
 -- the same whatever the words of the header are that a name call does not read
 abbrev pub RunsNameCode : ℕ → ℕ → List ℕ → List ℕ → ℕ → Named → List ℕ → Type 0
-RunsNameCode code a operands bytes count r bytes′ = (b high low : ℕ) → RunsNameCall (callOfCode code a b high low operands) bytes count r bytes′
+RunsNameCode code a operands bytes count r bytes′ =
+    (b high low : ℕ) → RunsNameCall (callOfCode code a b high low operands) bytes count r bytes′
 
 -- there is a call, and it leaves what the public call that it stands for does
 pub record RunsCall (call : Option ControllerCall) (m : ControllerMemory) (r : CallResult) (m′ : ControllerMemory) : Type 0 where

@@ -26,7 +26,7 @@ pub data CallLeaves : ControllerCall → ControllerMemory → ControllerAnswer �
       → CallLeaves (asked c) (beside model nameModel s n) (fromStore a) (beside model nameModel s′ n)
   by-names : {c : NameCall} {s : Memory} {bytes bytes′ : List ℕ} {count count′ : ℕ} {a : NameAnswer} → Called bytes count c a bytes′ count′
       → CallLeaves (naming c) (beside model nameModel s (nameMemory bytes count)) (fromNames a)
-        (beside model nameModel s (nameMemory bytes′ count′))
+      (beside model nameModel s (nameMemory bytes′ count′))
   by-text : {text : List ℕ} {m m′ : ControllerMemory} {a : Answer} → Reads text m a m′ → CallLeaves (reading text) m (answered a) m′
 
 -- "each other one the store as the call before left it, and nobody else writes it meanwhile", and so the name list

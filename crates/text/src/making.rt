@@ -22,6 +22,7 @@ use arena::kind::VARIABLE;
 use builder::build_sound;
 use store::Answer;
 use store::Built;
+use text_language::MOST_NESTED;
 use text_program::FIRST_OPERATOR;
 use text_program::bits_at;
 use text_program::name_end;
@@ -29,7 +30,7 @@ use text_program::name_starts;
 use text_program::operand_count;
 
 // The most results that wait: two for each level of nesting, and three.
-const MOST_WAITING: usize = 131;
+const MOST_WAITING: usize = 2 * MOST_NESTED + 3;
 
 // An answer, with the counts of the store and of the names after it.
 pub struct ReadOutcome {
@@ -82,8 +83,8 @@ fn operator(
     second: u32,
 ) -> Built
     requires { ⌜ Sound (now nodes) (now slots) arena ⌝ }
-    ensures { λ r. ⌜ BuildsSound (M.requested (operatorCall (operatorToken kind) first second)) (memory (now (nodes .entry)) (now (slots .entry)) arena)
-        (answerOf (r .answer)) (memory (now (nodes .exit)) (now (slots .exit)) (r .arena)) ⌝ }
+    ensures { λ r. ⌜ BuildsSound (M.requested (operatorCall (operatorToken kind) first second))
+        (memory (now (nodes .entry)) (now (slots .entry)) arena) (answerOf (r .answer)) (memory (now (nodes .exit)) (now (slots .exit)) (r .arena)) ⌝ }
 {
     if kind < ADD {
         return build_sound(nodes, slots, arena, true, NEG, 0, 0, &[first]);
