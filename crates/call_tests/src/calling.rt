@@ -3,7 +3,7 @@ ghost use Prim.Native.Nat.{_≤_};
 use crate::showing;
 use crate::state::Now;
 use arena::DagArena;
-use calls::Handed;
+use calls::CallResult;
 use calls::codes;
 use scripts::lines;
 use scripts::lines::MOST_VALUES;
@@ -81,7 +81,7 @@ fn call(
     line: &[u8],
     code: u32,
     turn: u32,
-) -> Handed
+) -> CallResult
     requires { ⌜ code ≤ 21 ⌝ }
 {
     let values = given(line, code, turn);

@@ -1,6 +1,6 @@
 // How answers are written.
 use arena::DagArena;
-use calls::Handed;
+use calls::CallResult;
 use calls::LastReply;
 use calls::Reply;
 use scripts::printing::number;
@@ -48,7 +48,7 @@ fn name_reply(answer: names::Answer, name: [u8; 32]) {
 }
 
 // An answer, and the numbers of nodes, slots and names after it.
-pub(crate) fn handed(last: Handed) {
+pub(crate) fn handed(last: CallResult) {
     let reply = last.reply;
     let arena = last.arena;
     let name = last.name;

@@ -8,7 +8,7 @@ pub mod reading;
 pub mod reply;
 
 pub use calling::call;
-pub use handing::Handed;
+pub use handing::CallResult;
 pub use handing::LastReply;
 pub use handing::at_first;
 pub use reply::Reply;

@@ -16,7 +16,7 @@ use Rattle.definitions.specs.Machine as M
 use Rattle.definitions.specs.Machine.{Store, Call, store, simplify, prune, pruneBySetting, requested, state, call}
 use Rattle.definitions.specs.Names as N
 use Rattle.definitions.specs.Names.{NameCall, internName, lookupName, nameOf, nameCall}
-use Rattle.definitions.specs.Controller.{LentLists, Controller, emptyController, ControllerCall, building, simplifying, pruning, pruningBySetting, naming, reading, ControllerAnswer, stored, simplified, pruned, numbered, named, refused, fromNames, AfterCall, onText, controllerCall, controllerAnswers, controllers, Part, storePart, namesPart, takes, spares, SamePart}
+use Rattle.definitions.specs.Controller.{LentLists, Controller, emptyController, ControllerCall, building, simplifying, pruning, pruningBySetting, naming, reading, ControllerAnswer, stored, simplified, pruned, numbered, named, refused, fromNames, AfterCall, fromMade, onText, controllerCall, controllerAnswers, controllers, Part, storePart, namesPart, takes, untaken, spares, SamePart}
 use Rattle.definitions.specs.Formula.{formula}
 use Rattle.definitions.specs.Value.{valueOf}
 use Rattle.definitions.specs.Exact.{Exact}
@@ -29,8 +29,11 @@ use Rattle.definitions.proofs.PruneCalls.{PruneSays, prunes-given, prun
 use Rattle.definitions.proofs.Answers.{from-stored, from-simplified, from-pruned, from-numbered}
 use Rattle.definitions.proofs.Going.{call-step, Whole, Goes, whole-after, goes-nowhere, goes-further, by-store, by-names}
 use Rattle.definitions.proofs.Readings.{reading-goes, reading-says}
-use Rattle.text_language.specs.Reading.{Refuses, refuses, verdict}
-use Rattle.text_language.proofs.Reading.{judged, verdict-refuses}
+use Rattle.text_language.specs.Grammar.{Expr}
+use Rattle.text_language.specs.Reading.{Refuses, Denotes, refuses, verdict}
+use Rattle.text_language.proofs.Reading.{judged, verdict-refuses, verdict-denotes}
+use Rattle.definitions.specs.Making.{make}
+use Rattle.definitions.proofs.ReadingStops.{reading-stops}
 use Rattle.definitions.proofs.NameLists.{none-some, Listed, none-listed, NameSays, name-says, tells, lookup-keeps, name-of-keeps}
 
 -- ---- every call goes on from the nodes and names before it
@@ -55,6 +58,16 @@ call-spares l s (naming (internName name)) = (refl, tt)
 call-spares l s (naming (lookupName name)) = (refl, (lookup-keeps (l .names) (s .names) name, tt))
 call-spares l s (naming (nameOf number)) = (refl, (name-of-keeps (l .names) (s .names) number, tt))
 call-spares l s (reading text) = tt
+
+-- and those that it is not lent
+pub call-untouched : (l : LentLists) (s : Controller) (c : ControllerCall) → All (SamePart s (controllerCall l s c .left)) (untaken c)
+unfolding controllerCall
+call-untouched l s (building c) = (refl, tt)
+call-untouched l s (simplifying i d b) = (refl, tt)
+call-untouched l s (pruning i t) = (refl, tt)
+call-untouched l s (pruningBySetting i n) = (refl, tt)
+call-untouched l s (naming c) = (refl, tt)
+call-untouched l s (reading text) = tt
 
 fresh-whole : Whole emptyController
 fresh-whole = record { nodes = λ i h. absurd (omega arith); names = none-listed }
@@ -182,6 +195,10 @@ module _ (l : LentLists) where
   unfolding controllerCall
   text-refused s text number h = ap (onText l s) (verdict-refuses h)
 
+  text-made : (s : Controller) (text : List ℕ) (e : Expr) → Denotes text e → controllerCall l s (reading text) ≡ fromMade (make l e s)
+  unfolding controllerCall
+  text-made s text e h = ap (onText l s) (verdict-denotes h)
+
 -- ---- the promise over the plain machine
 pub plain-promise : (l : LentLists) (cs : List ControllerCall) → Promise l cs (controllerAnswers l emptyController cs) (controllers l emptyController cs)
 plain-promise l cs = record {
@@ -214,6 +231,15 @@ plain-promise l cs = record {
       let f = left-at l emptyController cs i (reading text) s ec e0 in
       let q : controllerCall l s (reading text) .left ≡ s' = cc in
       (answer-at l emptyController cs i (reading text) s ec e0 ∙ ap (λ (x : AfterCall). some (x .answer)) r, sym q ∙ ap (λ (x : AfterCall). x .left) r);
+  reads-made = λ i text e a s s' ec h ea e0 es.
+      let q = at-call l emptyController cs i (reading text) a s s' ec ea e0 es in
+      let r = text-made l s text e h in
+      (sym (q .0) ∙ ap (λ (x : AfterCall). x .answer) r, sym (q .1) ∙ ap (λ (x : AfterCall). x .left) r);
+  reads-stopped = λ i number text e ec h ea.
+      let (s, e0) = some-before l emptyController cs i (reading text) ec in
+      let f = answer-at l emptyController cs i (reading text) s ec e0 in
+      let q : controllerCall l s (reading text) .answer ≡ refused number = cc in
+      reading-stops l text e s number h (sym (ap (λ (x : AfterCall). x .answer) (text-made l s text e h)) ∙ q);
   others-stay = λ i c s s' ec e0 es.
       let g = left-at l emptyController cs i c s ec e0 in
       let q : controllerCall l s c .left ≡ s' = cc in

@@ -1,6 +1,6 @@
 -- The promise at a list of calls: a variable by its name in ((flow + 0.25) + 0.5) * 1, simplified, then other calls, then pruned at 1.
 use Prim.Native.Nat.{ℕ}
-use mathlib.Core.Path.{_≡_, refl}
+use mathlib.Core.Path.{_≡_, refl, subst}
 use mathlib.Core.Bool.{false}
 use mathlib.Core.Option.{some}
 use mathlib.Core.List.{List, [], _∷_, map}
@@ -9,14 +9,17 @@ use lib.ListN.{getD}
 use lib.Ieee.{binary64, ofBits, le, lt, eq, add as addFloat, mul as mulFloat, toBits}
 use Rattle.definitions.specs.Machine.{variable, constant, add, mul, call}
 use Rattle.definitions.specs.Names.{internName, lookupName, sameName}
-use Rattle.definitions.specs.Controller.{LentLists, Controller, emptyController, ControllerCall, building, simplifying, pruning, naming, reading, stored, refused, numbered, controllerCall, controllerAnswers, controllers, takes}
+use Rattle.definitions.specs.Controller.{LentLists, Controller, emptyController, ControllerCall, building, simplifying, pruning, naming, reading, stored, refused, numbered, controllerCall, controllerAnswers, controllers, takes, SamePart}
 use Rattle.definitions.specs.Formula.{tree, nil, cons, formula}
 use Rattle.definitions.specs.Exact.{Exact, bound}
-use Rattle.definitions.specs.Promise.{ControllerModel, ControllerCalled, FreshController, History, done, next, nth, Balanced, Promise}
+use Rattle.definitions.specs.Promise.{ControllerModel, ControllerCalled, FreshController, History, done, next, nth, Balanced, Promise, ReadTo, StopsReading}
 use Rattle.definitions.specs.Value.{Reading, valueOf}
 use Rattle.definitions.specs.Moved.{Moved}
+use Rattle.text_language.specs.Grammar.{Expr, linked, sums, variable as name}
 use Rattle.text_language.specs.Reader.{after}
-use Rattle.definitions.proofs.Histories.{demand3, all-of}
+use Rattle.text_language.specs.Reading.{denotes, verdict, Judged}
+use Rattle.text_language.proofs.Reading.{judged}
+use Rattle.definitions.proofs.Histories.{demand3, all-of, call-untouched}
 use Rattle.definitions.proofs.Moved.{dropped-count-bounds}
 
 abbrev lent : LentLists
@@ -24,10 +27,10 @@ lent = record { store = record { nodes = 512; slots = 1024 }; names = 1 }
 
 -- the plain machine is a controller of its own
 abbrev plainModel : LentLists → ControllerModel
-plainModel l = record { Memory = Controller; Sound = λ s p. Unit {0}; view = λ s. s; lent = λ s. l }
+plainModel l = record { Memory = Controller; Sound = λ s p. Unit {0}; Same = SamePart; view = λ s. s; lent = λ s. l }
 
 plain-called : (l : LentLists) (s : Controller) (c : ControllerCall) → ControllerCalled (plainModel l) c s (controllerCall l s c .answer) (controllerCall l s c .left)
-plain-called l s c = record { unsound = λ u. absurd (u (all-of (λ p. Unit {0}) (λ p. tt) (takes c))); answer = λ u. refl; left = λ u. refl; sound = λ u p h. tt; same-lent = refl }
+plain-called l s c = record { unsound = λ u. absurd (u (all-of (λ p. Unit {0}) (λ p. tt) (takes c))); answer = λ u. refl; left = λ u. refl; sound = λ u p h. tt; untouched = call-untouched l s c; same-lent = refl }
 
 plain-history : (l : LentLists) (s : Controller) (cs : List ControllerCall) → History (plainModel l) s cs (controllerAnswers l s cs) (controllers l s cs)
 unfolding controllerAnswers controllers
@@ -80,3 +83,26 @@ texts = reading (120 ∷ 43 ∷ 50 ∷ []) ∷ reading (120 ∷ 43 ∷ 121 ∷ [
 pub instance-read : controllerAnswers lent emptyController texts ≡ stored 2 ∷ refused 24 ∷ refused 11 ∷ []
 unfolding controllerAnswers sameName after
 instance-read = refl
+
+kept-texts : Promise lent texts (controllerAnswers lent emptyController texts) (map (λ (s : Controller). s) (controllers lent emptyController texts))
+kept-texts =
+    demand3 (plainModel lent) emptyController texts (controllerAnswers lent emptyController texts) (controllers lent emptyController texts)
+    (record { sound = λ p. tt; view = refl }) (plain-history lent emptyController texts) .0
+
+abbrev textsAfter : ℕ → Controller
+textsAfter n = getD (emptyController ∷ controllers lent emptyController texts) n emptyController
+
+-- the premises of the promise's fields on readings can be met: x+2 is read to its formula, and x+y is stopped by 24
+pub instance-reads : ReadTo (120 ∷ 43 ∷ 50 ∷ []) (textsAfter 1) 2
+unfolding controllerAnswers controllers sameName after
+instance-reads = kept-texts .reads 0 2 (120 ∷ 43 ∷ 50 ∷ []) (textsAfter 1) refl refl refl
+
+second-denotes : verdict (120 ∷ 43 ∷ 121 ∷ []) ≡ denotes (linked sums false (name (120 ∷ [])) (name (121 ∷ [])))
+unfolding verdict after
+second-denotes = refl
+
+pub instance-stopped : StopsReading 24
+unfolding controllerAnswers controllers sameName after
+instance-stopped =
+    let e : Expr = linked sums false (name (120 ∷ [])) (name (121 ∷ [])) in
+    kept-texts .reads-stopped 1 24 (120 ∷ 43 ∷ 121 ∷ []) e refl (subst (Judged (120 ∷ 43 ∷ 121 ∷ [])) second-denotes (judged (120 ∷ 43 ∷ 121 ∷ []))) refl

@@ -18,6 +18,8 @@ pub mod NameLists
 pub mod Going
 pub mod Making
 pub mod Readings
+pub mod ReadingStops
+pub mod ReadingCalls
 pub mod Histories
 pub mod Lifting
 pub mod StoreLists

@@ -1,12 +1,12 @@
 -- What a call says of its own part is what its contract says of a controller: the other parts stay as they are.
 use Prim.Native.Nat.{ℕ}
 use mathlib.Core.Path.{_≡_, refl, sym, ap, _∙_, subst}
-use mathlib.Core.List.{List, [], _∷_}
+use mathlib.Core.List.{[], _∷_}
 use Rattle.definitions.specs.Machine.{Call, store, simplify, prune, pruneBySetting, Answer, State}
 use Rattle.definitions.specs.Names.{NameCall, NameAnswer}
-use Rattle.definitions.specs.Controller.{LentLists, Controller, naming, fromStore, fromNames, AfterCall, onStore, controllerCall, asked, Part, storePart, namesPart, takes}
-use Rattle.definitions.specs.Promise.{Model, Called, Fresh, ControllerModel, ControllerCalled, FreshController, All}
-use Rattle.definitions.specs.Beside.{NameModel, NamesCalled, FreshNames, Beside, beside, SoundPart, controllerModel}
+use Rattle.definitions.specs.Controller.{LentLists, Controller, naming, fromStore, fromNames, AfterCall, onStore, controllerCall, asked, Part, storePart, namesPart, takes, untaken}
+use Rattle.definitions.specs.Promise.{Model, Called, Fresh, ControllerCalled, FreshController, All}
+use Rattle.definitions.specs.Beside.{NameModel, NamesCalled, FreshNames, beside, SoundPart, SamePartOf, controllerModel}
 
 -- ---- a call of the store, as the controller's
 
@@ -15,6 +15,12 @@ takes-store (store c) = refl
 takes-store (simplify i depth budget) = refl
 takes-store (prune i t) = refl
 takes-store (pruneBySetting i n) = refl
+
+untaken-store : (c : Call) → untaken (asked c) ≡ namesPart ∷ []
+untaken-store (store c) = refl
+untaken-store (simplify i depth budget) = refl
+untaken-store (prune i t) = refl
+untaken-store (pruneBySetting i n) = refl
 
 pub call-store : (l : LentLists) (s : Controller) (c : Call) → controllerCall l s (asked c) ≡ onStore l s c
 unfolding controllerCall
@@ -34,6 +40,7 @@ module _ (M : Model) (N : NameModel) where
     answer = λ t. ap fromStore (h .answer (taken t)) ∙ sym (ap (λ (r : AfterCall). r .answer) (call-store l s c));
     left = λ t. ap (λ (x : State). record { nodes = x .nodes; names = N .view n }) (h .left (taken t)) ∙ sym (ap (λ (r : AfterCall). r .left) (call-store l s c));
     sound = λ t. sounds (taken t);
+    untouched = subst (All (SamePartOf M N (beside M N m n) (beside M N m' n))) (sym (untaken-store c)) (refl, tt);
     same-lent = ap (λ x. record { store = x; names = N .lent n }) (h .same-lent);
   }
     where
@@ -62,6 +69,7 @@ module _ (M : Model) (N : NameModel) where
     answer = λ t. ap fromNames (h .answer (t .0));
     left = λ t. ap (λ x. record { nodes = M .view m .nodes; names = x }) (h .left (t .0));
     sound = λ t. sounds (t .0);
+    untouched = (refl, tt);
     same-lent = ap (λ (x : ℕ). record { store = M .lent m; names = x }) (h .same-lent);
   }
     where

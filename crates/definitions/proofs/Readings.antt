@@ -1,22 +1,23 @@
 -- A reading keeps what every call keeps, and answers the formula of its text's expression.
 use Prim.Native.Nat.{ℕ, _<_}
-use mathlib.Core.Path.{_≡_, refl, sym, ap, _∙_, subst}
+use mathlib.Core.Path.{_≡_, refl, sym, _∙_, subst}
+use mathlib.Core.Bool.{Bool, true, false}
 use mathlib.Core.Option.{some}
-use mathlib.Core.List.{List, [], _∷_}
+use mathlib.Core.List.{List}
 use lib.ListN.{length}
 use native.Mathlib.Omega.{arith}
-use Rattle.text_language.specs.Grammar.{Expr, constant, variable, negated, linked, raised}
+use Rattle.text_language.specs.Grammar.{Chain, sums, products, Expr, constant, variable, negated, linked, raised}
 use Rattle.text_language.specs.Program as Program
 use Rattle.text_language.specs.Program.{Join, joinOf}
-use Rattle.text_language.specs.Reading.{Verdict, refuses, denotes, Judged, Denotes}
-use Rattle.text_language.proofs.Reading.{one-expression}
-use Rattle.definitions.specs.Node.{Node}
+use Rattle.text_language.specs.Reading.{Verdict, refuses, denotes, Judged}
+use Rattle.text_language.proofs.Complete.{one-reading}
+use Rattle.definitions.specs.Node.{Node, addKind, subKind, mulKind, divKind, powKind, bothFlags}
 use Rattle.definitions.specs.Machine as M
 use Rattle.definitions.specs.Names as N
 use Rattle.definitions.specs.Making.{LentLists, Controller, controller, Made, made, stopped, bind, storedAs, storing, namedAs, naming, joined, make}
-use Rattle.definitions.specs.Controller.{stored, refused, fromMade, onText}
+use Rattle.definitions.specs.Controller.{stored, fromMade, onText}
 use Rattle.definitions.specs.Formula.{Tree, tree, nil, cons, formula}
-use Rattle.definitions.specs.Promise.{nth, joinKind, joinFlags, Spells, number, name, minus, link, power, ReadTo}
+use Rattle.definitions.specs.Promise.{nth, Spells, number, name, minus, sum, difference, product, quotient, power, ReadTo}
 use Rattle.definitions.proofs.Intern.{over}
 use Rattle.definitions.proofs.Calls.{Done, StoreSays, builds}
 use Rattle.definitions.proofs.NameLists.{NameSays, name-says}
@@ -98,8 +99,33 @@ later : {names names' : List (List ℕ)} {e : Expr} {t : Tree} → ((i : ℕ) (w
 later f number = number
 later f (name h) = name (f _ _ h)
 later f (minus h) = minus (later f h)
-later f (link h k) = link (later f h) (later f k)
+later f (sum h k) = sum (later f h) (later f k)
+later f (difference h k) = difference (later f h) (later f k)
+later f (product h k) = product (later f h) (later f k)
+later f (quotient h k) = quotient (later f h) (later f k)
 later f (power h k) = power (later f h) (later f k)
+
+-- the kind and "the constructors' flags" of a sign
+abbrev joinKind : Join → ℕ
+joinKind Program.plus = addKind
+joinKind Program.minus = subKind
+joinKind Program.times = mulKind
+joinKind Program.over = divKind
+joinKind Program.raise = powKind
+
+abbrev joinFlags : Join → ℕ
+joinFlags Program.plus = bothFlags
+joinFlags Program.minus = 0
+joinFlags Program.times = bothFlags
+joinFlags Program.over = 0
+joinFlags Program.raise = 0
+
+linked-spells : (k : Chain) (x : Bool) (a b : Expr) (names : List (List ℕ)) (t u : Tree) → Spells names a t → Spells names b u
+    → Spells names (linked k x a b) (tree (joinKind (joinOf k x)) 0 (joinFlags (joinOf k x)) (cons t (cons u nil)))
+linked-spells sums false a b names t u p q = sum p q
+linked-spells sums true a b names t u p q = difference p q
+linked-spells products false a b names t u p q = product p q
+linked-spells products true a b names t u p q = quotient p q
 
 joined-is : (ns : List Node) (o : Join) (i j : ℕ) → over ns (M.requested (joined o i j) .node) ≡ tree (joinKind o) 0 (joinFlags o) (cons (formula ns i) (cons (formula ns j) nil))
 joined-is ns Program.plus i j = refl
@@ -135,7 +161,7 @@ make-says l (variable b) s w =
 make-says l (negated a) s w =
     then (λ i t. storing l (M.neg i) t) (make-says l a s w)
     (λ i t v x. said (storing-says l (M.neg i) t v) (λ j u g y. (y .0, subst (Spells (u .names) (negated a)) (sym (y .1)) (minus (later (g .kept) (x .1))))))
-make-says l (linked k x a b) s w = both-say l (joinOf k x) a b (linked k x a b) s (make-says l a s w) (make-says l b) (λ _ _ _ p q. link p q)
+make-says l (linked k x a b) s w = both-say l (joinOf k x) a b (linked k x a b) s (make-says l a s w) (make-says l b) (linked-spells k x a b)
 make-says l (raised a b) s w = both-say l Program.raise a b (raised a b) s (make-says l a s w) (make-says l b) (λ _ _ _ p q. power p q)
 
 -- ---- a text
@@ -157,5 +183,5 @@ reading-says l s s' text id (denotes e) w j ea es = go (make l e s) (make-says l
     go (made i t) (answers g x) fa fs =
         let q : i ≡ id = cc in
         subst (λ y. ReadTo text y id) fs
-        (subst (ReadTo text t) q (record { expr = e; denotes = j; one = λ a h. one-expression h j; known = x .0; spells = x .1 }))
+        (subst (ReadTo text t) q (record { expr = e; denotes = j; one = λ a d h. one-reading h (j .text) .0; known = x .0; spells = x .1 }))
     go (stopped r t) (stops g) fa fs = let z : _≡_ {A = ℕ} 0 1 = cc in absurd (omega arith)

@@ -40,10 +40,15 @@ abbrev pub SoundPart : (M : Model) (N : NameModel) → Beside M N → Part → T
 SoundPart M N m storePart = M .Sound (m .store)
 SoundPart M N m namesPart = N .Sound (m .names)
 
+abbrev pub SamePartOf : (M : Model) (N : NameModel) → Beside M N → Beside M N → Part → Type 0
+SamePartOf M N m m' storePart = m' .store ≡ m .store
+SamePartOf M N m m' namesPart = m' .names ≡ m .names
+
 abbrev pub controllerModel : Model → NameModel → ControllerModel
 controllerModel M N = record {
   Memory = Beside M N;
   Sound = SoundPart M N;
+  Same = SamePartOf M N;
   view = λ m. record { nodes = M .view (m .store) .nodes; names = N .view (m .names) };
   lent = λ m. record { store = M .lent (m .store); names = N .lent (m .names) };
 }

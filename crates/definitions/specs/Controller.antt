@@ -121,6 +121,15 @@ takes (pruningBySetting i n) = storePart ∷ []
 takes (naming c) = namesPart ∷ []
 takes (reading text) = storePart ∷ namesPart ∷ []
 
+-- the parts that a call is not lent
+abbrev pub untaken : ControllerCall → List Part
+untaken (building c) = namesPart ∷ []
+untaken (simplifying i depth budget) = namesPart ∷ []
+untaken (pruning i t) = namesPart ∷ []
+untaken (pruningBySetting i n) = namesPart ∷ []
+untaken (naming c) = storePart ∷ []
+untaken (reading text) = []
+
 -- the parts that a call leaves as they are, whatever it answers: a name call changes no node, a store call no name; a reading may change both
 abbrev pub spares : ControllerCall → List Part
 spares (building c) = namesPart ∷ []

@@ -19,6 +19,7 @@ pub mod Names
 pub mod Lists
 pub mod Making
 pub mod Controller
+pub mod ReadingCalls
 pub mod Promise
 pub mod Beside
 pub mod Moved

@@ -7,7 +7,7 @@ use mathlib.Core.Option.{Option, none, some}
 use lib.ListN.{length}
 use lib.Dec.{T}
 use lib.Ieee.{Float, binary64, ofBits, le}
-use Rattle.definitions.specs.Refusals.{notSound}
+use Rattle.definitions.specs.Refusals.{notSound, noNamePlace, noNodePlace, noSlotPlace}
 use Rattle.definitions.specs.Intern.{Lent}
 use Rattle.definitions.specs.Patterns.{one64}
 use Rattle.definitions.specs.Settings.{threshold}
@@ -15,15 +15,14 @@ use Rattle.definitions.specs.Node.{Node, variableKind, constantKind, add
 use Rattle.definitions.specs.Machine.{Store, Call, Answer, requested, State, empty, call}
 use Rattle.definitions.specs.Machine as Machine
 use Rattle.definitions.specs.Names.{NameCall, internName, lookupName, nameOf}
-use Rattle.definitions.specs.Controller.{LentLists, Controller, emptyController, ControllerCall, building, simplifying, pruning, pruningBySetting, naming, reading, ControllerAnswer, stored, simplified, pruned, numbered, named, refused, controllerCall, controllerAnswers, controllers, Part, takes, spares, SamePart}
+use Rattle.definitions.specs.Controller.{LentLists, Controller, emptyController, ControllerCall, building, simplifying, pruning, pruningBySetting, naming, reading, ControllerAnswer, stored, simplified, pruned, numbered, named, refused, fromMade, controllerCall, controllerAnswers, controllers, Part, takes, untaken, spares, SamePart}
 use Rattle.definitions.specs.Formula.{Tree, tree, nil, cons, forest, formula}
 use Rattle.definitions.specs.Dyadic.{plus}
 use Rattle.definitions.specs.Value.{Reading, sumOf, valueOf}
 use Rattle.definitions.specs.Exact.{Exact}
-use Rattle.text_language.specs.Grammar.{Chain, Expr, constant, variable, negated, linked, raised}
-use Rattle.text_language.specs.Program as Program
-use Rattle.text_language.specs.Program.{Join, joinOf}
+use Rattle.text_language.specs.Grammar.{sums, products, Expr, constant, variable, negated, linked, raised, Text}
 use Rattle.text_language.specs.Reading.{Refuses, Denotes}
+use Rattle.definitions.specs.Making.{make}
 use Rattle.definitions.specs.Chain.{isAdd, dropped, kept, Remains}
 
 -- ---- what one store call's contract says
@@ -55,10 +54,12 @@ abbrev pub All : {A : Type 0} → (A → Type 0) → List A → Type 0
 All P [] = Unit {0}
 All P (x ∷ xs) = P x × All P xs
 
--- A controller as code has it: what its memory is, when each part of it is sound, what the plain machine has in it, and how much is lent.
+-- A controller as code has it: what its memory is, when each part of it is sound, when a part is the same in two memories, word for word and
+-- byte for byte, what the plain machine has in it, and how much is lent.
 pub record ControllerModel : Type 1 where
   pub Memory : Type 0
   pub Sound : Memory → Part → Type 0
+  pub Same : Memory → Memory → Part → Type 0
   pub view : Memory → Controller
   pub lent : Memory → LentLists
 
@@ -69,6 +70,8 @@ pub record ControllerCalled (M : ControllerModel) (c : ControllerCall) (m : M .M
   pub answer : All (M .Sound m) (takes c) → a ≡ controllerCall (M .lent m) (M .view m) c .answer
   pub left : All (M .Sound m) (takes c) → M .view m' ≡ controllerCall (M .lent m) (M .view m) c .left
   pub sound : All (M .Sound m) (takes c) → (p : Part) → M .Sound m p → M .Sound m' p
+  -- sound or not, the parts that the call is not lent are as they were
+  pub untouched : All (M .Same m m') (untaken c)
   pub same-lent : M .lent m' ≡ M .lent m
 
 -- "the first gets a fresh store", with the lists "empty at first": every part is sound, and nothing stands in it
@@ -120,37 +123,35 @@ requestedFormula ns c =
     let n = requested c .node in
     tree (n .kind) (n .payload) (n .flags) (forest (formula ns) (n .children))
 
--- the kind and "the constructors' flags" of a sign
-abbrev pub joinKind : Join → ℕ
-joinKind Program.plus = addKind
-joinKind Program.minus = subKind
-joinKind Program.times = mulKind
-joinKind Program.over = divKind
-joinKind Program.raise = powKind
-
-abbrev pub joinFlags : Join → ℕ
-joinFlags Program.plus = bothFlags
-joinFlags Program.minus = 0
-joinFlags Program.times = bothFlags
-joinFlags Program.over = 0
-joinFlags Program.raise = 0
-
--- the formula of an expression under names: a constant by its bits, a name by its number
+-- the formula of an expression under names: a constant by its bits, a name by its number, a sign by its kind with "the constructors' flags"
 pub data Spells (names : List (List ℕ)) : Expr → Tree → Type 0 where
   number : {b : ℕ} → Spells names (constant b) (tree constantKind b 0 nil)
   name : {w : List ℕ} {n : ℕ} → nth names n ≡ some w → Spells names (variable w) (tree variableKind n 0 nil)
   minus : {a : Expr} {t : Tree} → Spells names a t → Spells names (negated a) (tree negKind 0 0 (cons t nil))
-  link : {k : Chain} {x : Bool} {a b : Expr} {t u : Tree} → Spells names a t → Spells names b u
-      → Spells names (linked k x a b) (tree (joinKind (joinOf k x)) 0 (joinFlags (joinOf k x)) (cons t (cons u nil)))
-  power : {a b : Expr} {t u : Tree} → Spells names a t → Spells names b u → Spells names (raised a b) (tree powKind 0 0 (cons t (cons u nil)))
+  sum : {a b : Expr} {t u : Tree} → Spells names a t → Spells names b u
+      → Spells names (linked sums false a b) (tree addKind 0 bothFlags (cons t (cons u nil)))
+  difference : {a b : Expr} {t u : Tree} → Spells names a t → Spells names b u
+      → Spells names (linked sums true a b) (tree subKind 0 0 (cons t (cons u nil)))
+  product : {a b : Expr} {t u : Tree} → Spells names a t → Spells names b u
+      → Spells names (linked products false a b) (tree mulKind 0 bothFlags (cons t (cons u nil)))
+  quotient : {a b : Expr} {t u : Tree} → Spells names a t → Spells names b u
+      → Spells names (linked products true a b) (tree divKind 0 0 (cons t (cons u nil)))
+  power : {a b : Expr} {t u : Tree} → Spells names a t → Spells names b u
+      → Spells names (raised a b) (tree powKind 0 0 (cons t (cons u nil)))
 
 -- a text was read to an id: "each text has one reading", and the id's formula is that of the one expression
 pub record ReadTo (text : List ℕ) (s : Controller) (id : ℕ) : Type 0 where
   pub expr : Expr
   pub denotes : Denotes text expr
-  pub one : (e : Expr) → Denotes text e → e ≡ expr
+  pub one : (e : Expr) (d : ℕ) → Text text e d → e ≡ expr
   pub known : id < length (s .nodes)
   pub spells : Spells (s .names) expr (formula (s .nodes) id)
+
+-- "Stopped by 24, 21 or 22"
+pub data StopsReading : ℕ → Type 0 where
+  noName : StopsReading noNamePlace
+  noNode : StopsReading noNodePlace
+  noSlots : StopsReading noSlotPlace
 
 -- Of a list of calls from the empty controller: `al` are the answers, and `ss` what stands after each call. Position i of `emptyController ∷ ss` is
 -- what stands before call i, position i of `ss` what stands after it.
@@ -205,6 +206,14 @@ pub record Promise (l : LentLists) (cs : List ControllerCall) (al : List Control
   pub reads-refused : (i number : ℕ) (text : List ℕ) (s s' : Controller)
       → nth cs i ≡ some (reading text) → Refuses text number → nth (emptyController ∷ ss) i ≡ some s → nth ss i ≡ some s'
       → (nth al i ≡ some (refused number)) × (s' ≡ s)
+  -- a text that meets none of these makes the names and nodes of its expression; "Stopped by 24, 21 or 22, it keeps the names and nodes made
+  -- before"
+  pub reads-made : (i : ℕ) (text : List ℕ) (e : Expr) (a : ControllerAnswer) (s s' : Controller)
+      → nth cs i ≡ some (reading text) → Denotes text e → nth al i ≡ some a → nth (emptyController ∷ ss) i ≡ some s → nth ss i ≡ some s'
+      → (a ≡ fromMade (make l e s) .answer) × (s' ≡ fromMade (make l e s) .left)
+  -- and nothing else stops it
+  pub reads-stopped : (i number : ℕ) (text : List ℕ) (e : Expr)
+      → nth cs i ≡ some (reading text) → Denotes text e → nth al i ≡ some (refused number) → StopsReading number
   -- a name call changes no node, and a store call no name
   pub others-stay : (i : ℕ) (c : ControllerCall) (s s' : Controller)
       → nth cs i ≡ some c → nth (emptyController ∷ ss) i ≡ some s → nth ss i ≡ some s' → All (SamePart s s') (spares c)

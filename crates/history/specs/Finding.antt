@@ -5,8 +5,8 @@ use mathlib.Core.Option.{Option, none, some}
 use mathlib.Core.List.{List}
 use lib.ListN.{length, getD, take, drop}
 use Rattle.definitions.specs.Controller.{ControllerCall}
-use Rattle.calls.specs.declared.handing.Handed.{Handed}
-use Rattle.calls.specs.Memory.{Memory}
+use Rattle.text.specs.Memory.{ControllerMemory}
+use Rattle.calls.specs.declared.handing.CallResult.{CallResult}
 use Rattle.calls.specs.Encoding.{headerWords, lastCode, callOfCode, firstCall}
 use Rattle.calls.specs.Calling.{RunsCall}
 use Rattle.history.specs.declared.finding.Next.{Next}
@@ -18,7 +18,7 @@ callBetween calls at end =
     callOfCode (getD calls at 0) (getD calls (at + 1) 0) (getD calls (at + 2) 0) (getD calls (at + 3) 0) (getD calls (at + 4) 0)
     (take (end - (at + headerWords)) (drop (at + headerWords) calls))
 
-abbrev pub RunsCallAt : List ℕ → ℕ → ℕ → Memory → Handed → Memory → Type 0
+abbrev pub RunsCallAt : List ℕ → ℕ → ℕ → ControllerMemory → CallResult → ControllerMemory → Type 0
 RunsCallAt calls at end m r m′ = RunsCall (callBetween calls at end) m r m′
 
 -- a whole call with a known code stands between two places, and it is the first of the words from there on

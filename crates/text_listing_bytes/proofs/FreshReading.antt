@@ -25,7 +25,7 @@ use Rattle.names.specs.Sound.{lentEntries}
 use Rattle.names.proofs.Modelled.{no-names}
 use Rattle.listing_lines.specs.declared.Outcome as Outcome
 use Rattle.listing_lines.specs.declared.Outcome.the-variants as outcome
-use Rattle.text.specs.Making.{Desk, desk}
+use Rattle.text.specs.Memory.{ControllerMemory, controllerMemory}
 use Rattle.text.specs.Reading.{Reads}
 use Rattle.text.proofs.Calling.{read-called}
 use Rattle.text_place.specs.Stopping.{StopsAt}
@@ -45,12 +45,12 @@ pub never-refused : (words slots slots₁ : List ℕ) (o : FreshStore) (number :
 never-refused words slots slots₁ o number l h e =
     false≢true (sym (ap isStore e) ∙ ap isStore (h .answer) ∙ ap (λ (b : Bool). isStore (freshAnswer b)) (le-ltb (length slots) 64 l))
 
-pub read-fresh : (s words slots slots₁ entries : List ℕ) (o : FreshStore) (arena : DagArena) (a : Answer) (d : Desk) → 64 ≤ length slots → Opens words slots o slots₁
-    → o ≡ fresh.Store arena → Reads s (desk words slots₁ arena entries 0) a d → ReadsFresh s (lentLists words slots entries) a d
+pub read-fresh : (s words slots slots₁ entries : List ℕ) (o : FreshStore) (arena : DagArena) (a : Answer) (d : ControllerMemory) → 64 ≤ length slots → Opens words slots o slots₁
+    → o ≡ fresh.Store arena → Reads s (controllerMemory words slots₁ arena entries 0) a d → ReadsFresh s (lentLists words slots entries) a d
 unfolding lentLists
 read-fresh s words slots slots₁ entries o arena a d l h e r =
     let both = fresh-beside model nameModel (memory words slots₁ arena) (nameMemory entries 0) (h .fresh arena e) (no-names entries) in
-    let called = read-called s (desk words slots₁ arena entries 0) d a r in
+    let called = read-called s (controllerMemory words slots₁ arena entries 0) d a r in
     let parts : All (SoundPart model nameModel _) (storePart ∷ namesPart ∷ []) = (both .sound storePart, (both .sound namesPart, tt)) in
     let long : length slots₁ ≡ length slots = ap length (h .slots-after) ∙ fresh-long (freshRefused (lent words slots)) slots l in
     let same : lentLists words slots₁ entries ≡ lentLists words slots entries = ap (λ (n : ℕ). record { store = record { nodes = length words / 10; slots = n }; names = lentEntries entries }) long in

@@ -21,7 +21,7 @@ use Rattle.listing_lines.specs.Outcome as Shown
 use Rattle.listing_lines.specs.Outcome.{allLines}
 use Rattle.listing_lines.specs.Filling.{Puts, Fills}
 use Rattle.listing_lines.proofs.Lines.{later-rest, listing-of-memory}
-use Rattle.text.specs.Making.{Desk, desk}
+use Rattle.text.specs.Memory.{ControllerMemory, controllerMemory}
 use Rattle.text_listing_bytes.specs.Names.{nameLines}
 use Rattle.listing_lines.specs.declared.Outcome as Outcome
 use Rattle.text.specs.Calling.{answered}
@@ -59,7 +59,7 @@ nodes-left (Id id) place ns = refl
 nodes-left (Refused number) place ns = refl
 
 module _ (s words slots entries : List ℕ) (a : Answer) (words′ slots′ : List ℕ) (arena : DagArena) (entries′ : List ℕ) (names : ℕ)
-    (h : ReadsFresh s (lentLists words slots entries) a (desk words′ slots′ arena entries′ names)) (w : length words ≡ 5120) (l : length slots ≡ 1024) (e : length entries ≡ 4224) where
+    (h : ReadsFresh s (lentLists words slots entries) a (controllerMemory words′ slots′ arena entries′ names)) (w : length words ≡ 5120) (l : length slots ≡ 1024) (e : length entries ≡ 4224) where
   after : readText (lentLists words slots entries) s ≡ readText textLent s
   after = ap (λ (x : LentLists). readText x s) (lent-is words slots entries w l e)
 

@@ -21,7 +21,7 @@ use Rattle.listing_lines.specs.declared.Outcome as Outcome
 use Rattle.listing_lines.specs.declared.Outcome.the-variants as outcome
 use Rattle.listing_lines.specs.Line.{lineBytes}
 use Rattle.listing_lines.specs.Outcome.{allLines}
-use Rattle.text.specs.Making.{Desk, Held, viewed}
+use Rattle.text.specs.Memory.{ControllerMemory, BothSound, controllerOf}
 use Rattle.text.specs.Calling.{answered}
 use Rattle.text_place.specs.Stopping.{StopsAt}
 use Rattle.text_listing_bytes.specs.declared.TextListing.{TextListing}
@@ -44,10 +44,10 @@ abbrev pub readText : LentLists → List ℕ → AfterCall
 readText l s = controllerCall l emptyController (reading s)
 
 -- the answer is the plain machine's, and so are the nodes and names left, in sound lists
-pub record ReadsFresh (s : List ℕ) (l : LentLists) (a : Answer) (d : Desk) : Type 0 where
+pub record ReadsFresh (s : List ℕ) (l : LentLists) (a : Answer) (d : ControllerMemory) : Type 0 where
   pub answer : answered a ≡ readText l s .answer
-  pub left : viewed d ≡ readText l s .left
-  pub sound : Held d
+  pub left : controllerOf d ≡ readText l s .left
+  pub sound : BothSound d
 
 -- the place of a refusal: that of the first byte with which no text of the language goes on for 11, else 0
 abbrev pub PlaceOf : List ℕ → Answer → ℕ → Type 0

@@ -3,13 +3,13 @@ ghost use mathlib.Core.Path.{_≡_};
 ghost use Prim.Native.Nat.{_≤_};
 ghost use lib.ListN.{length};
 ghost use Rattle.definitions.specs.Limits.{firstTableSize};
-ghost use Rattle.text.specs.Making.{desk};
+ghost use Rattle.text.specs.Memory.{controllerMemory};
 ghost use Rattle.text_listing_bytes.specs.Listed.{lentLists, ReadsFresh, PlaceOf, outcomeOf};
 use arena::DagArena;
 use builder::FreshStore;
 use listing_lines::Outcome;
 use store::Answer;
-use text::Made;
+use text::ReadOutcome;
 use text_language::OUTSIDE_LANGUAGE;
 use text_place::stops_at;
 
@@ -19,14 +19,14 @@ pub(crate) fn read_fresh(
     nodes: &mut [u64],
     slots: &mut [u32],
     entries: &mut [u8],
-) -> Made
+) -> ReadOutcome
     requires { ⌜ firstTableSize ≤ length (now slots) ⌝ }
-    ensures { λ r. ⌜ ReadsFresh (now (text .entry)) (lentLists (now (nodes .entry)) (now (slots .entry)) (now (entries .entry))) (r .answer) (desk (now (nodes .exit)) (now (slots .exit)) (r .arena) (now (entries .exit)) (r .names)) ⌝ }
+    ensures { λ r. ⌜ ReadsFresh (now (text .entry)) (lentLists (now (nodes .entry)) (now (slots .entry)) (now (entries .entry))) (r .answer) (controllerMemory (now (nodes .exit)) (now (slots .exit)) (r .arena) (now (entries .exit)) (r .names)) ⌝ }
 {
     let opened = builder::fresh(nodes, slots);
     match opened {
         FreshStore::Store(arena) => text::read(text, nodes, slots, arena, entries, 0),
-        FreshStore::Refused(number) => Made {
+        FreshStore::Refused(number) => ReadOutcome {
             answer: Answer::Refused(number),
             arena: DagArena { count: 0, size: 0 },
             names: 0,
