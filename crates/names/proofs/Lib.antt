@@ -8,3 +8,4 @@ pub mod Listing
 pub mod Storing
 pub mod Calling
 pub mod Modelled
+pub mod Determined
