@@ -4,26 +4,30 @@ use mathlib.Core.Path.{_≡_, refl, sym, ap, _∙_, subst}
 use mathlib.Core.Bool.{Bool, true, false, cond}
 use mathlib.Core.Option.{Option, none, some}
 use mathlib.Core.List.{List}
+use lib.ListN.{replicate}
 use lib.Dec.{eqb}
 use native.Mathlib.Omega.{arith}
 use borrow.Author.Tests.{eqb-false, leb-true, leb-false, ne-eqb}
 use Rattle.arena.specs.declared.DagArena.{DagArena}
 use Rattle.definitions.specs.Machine.{Call, Answer}
-use Rattle.definitions.specs.Names.{NameCall}
+use Rattle.definitions.specs.Names.{NameCall, longestName}
 use Rattle.definitions.specs.Controller.{ControllerCall, naming, reading, fromStore, fromNames, asked}
-use Rattle.store.specs.Memory.{Memory, memory, Leaves}
+use Rattle.store.specs.Memory.{Memory, memory, model, Leaves}
 use Rattle.names.specs.Calls.{answerOf, Called}
-use Rattle.names.specs.Memory.{nameMemory}
-use Rattle.text.specs.declared.making.Made.{Made}
-use Rattle.text.specs.Making.{Desk, desk}
+use Rattle.names.specs.Memory.{nameMemory, nameModel}
+use Rattle.text.specs.declared.making.ReadOutcome.{ReadOutcome}
 use Rattle.text.specs.Reading.{Reads}
 use Rattle.text.specs.Calling as Text
 use Rattle.history.specs.declared.reply.Answered.{Answered}
-use Rattle.history.specs.declared.handing.Handed.{Handed}
+use Rattle.history.specs.declared.handing.CallResult.{CallResult}
+use Rattle.history.specs.declared.reply.Reply.{Reply}
+use Rattle.history.specs.declared.handing.LastReply.{LastReply}
 use Rattle.history.specs.declared.handing.LastReply.the-variants as Last
 use Rattle.history.specs.declared.naming.Named.{Named}
-use Rattle.history.specs.Memory.{held, Left, by-store, by-names, by-text}
-use Rattle.history.specs.Calling.{replyOf, maybeFromStore, lastReplyOf, RunsStoreCall, RunsNameCall, RunsCall}
+use Rattle.text.specs.Memory.{ControllerMemory, controllerMemory}
+use Rattle.definitions.specs.Beside.{beside}
+use Rattle.history.specs.Memory.{CallLeaves, by-store, by-names, by-text}
+use Rattle.history.specs.Calling.{replyOf, maybeFromStore, lastReplyOf, NameBeside, RunsStoreCall, RunsNameCall, RunsCall}
 use Rattle.history.specs.Encoding.{firstWithOperands, firstRewriting, firstNaming, firstReading, lastCode, bytesOf, callOfCode, known}
 
 -- a function's answer and counts, handed on as the reply of its code
@@ -39,57 +43,65 @@ runs code k a b high low operands x m words slots answer r arena e h (same, kept
 }
 
 pub runs-names : (code k a : ℕ) (operands : List ℕ) (x : NameCall) (bytes bytes′ : List ℕ) (count : ℕ) (r : Named)
-    → code ≡ k → Called bytes count x (answerOf (r .answer) (r .bytes)) bytes′ (r .count) → ((b high low : ℕ) → callOfCode k a b high low operands ≡ some (naming x))
+    → code ≡ k → Called bytes count x (answerOf (r .answer) (r .bytes)) bytes′ (r .count) → NameBeside (Last.Names (r .answer)) (r .bytes) → ((b high low : ℕ) → callOfCode k a b high low operands ≡ some (naming x))
     → (b high low : ℕ) → RunsNameCall (callOfCode code a b high low operands) bytes count r bytes′
-runs-names code k a operands x bytes bytes′ count r e h table b high low = record {
+runs-names code k a operands x bytes bytes′ count r e h name table b high low = record {
   ran = x;
   is = ap (λ n. callOfCode n a b high low operands) e ∙ table b high low;
   called = h;
+  name = name;
 }
 
+-- beside the reply of a store call stand 0s
+pub store-beside : (reply : LastReply) (r : Reply) (name : List ℕ) → reply ≡ Last.Store r → name ≡ replicate longestName 0 → NameBeside reply name
+store-beside reply r name e h = subst (λ x. NameBeside x name) (sym e) h
+
 -- the same of the whole memory: what is not lent to a call stays
-pub runs-store : (call : Option ControllerCall) (m : Memory) (words slots bytes : List ℕ) (count : ℕ) (r : Answered) (h : Handed)
-    → RunsStoreCall call m r (memory words slots (r .arena)) → (h .reply ≡ Last.Store (r .reply)) × (h .arena ≡ r .arena) × (h .names ≡ count)
-    → RunsCall call (held m (nameMemory bytes count)) h (held (memory words slots (h .arena)) (nameMemory bytes (h .names)))
-runs-store call m words slots bytes count r h f (same, kept, many) = record {
+pub runs-store : (call : Option ControllerCall) (m : Memory) (words slots bytes : List ℕ) (count : ℕ) (r : Answered) (h : CallResult)
+    → RunsStoreCall call m r (memory words slots (r .arena)) → (h .reply ≡ Last.Store (r .reply)) × (h .name ≡ replicate longestName 0) × (h .arena ≡ r .arena) × (h .names ≡ count)
+    → RunsCall call (beside model nameModel m (nameMemory bytes count)) h (controllerMemory words slots (h .arena) bytes (h .names))
+runs-store call m words slots bytes count r h f (same, zeros, kept, many) = record {
   ran = asked (f .ran);
   is = f .is;
   answer = fromStore (f .answer);
   reply = ap (λ x. lastReplyOf x (h .name)) same ∙ ap maybeFromStore (f .reply);
-  left = subst (λ (n : ℕ). Left (asked (f .ran)) (held m (nameMemory bytes count)) (fromStore (f .answer)) (held (memory words slots (h .arena)) (nameMemory bytes n))) (sym many)
+  name = store-beside (h .reply) (r .reply) (h .name) same zeros;
+  left = subst (λ (n : ℕ). CallLeaves (asked (f .ran)) (beside model nameModel m (nameMemory bytes count)) (fromStore (f .answer)) (controllerMemory words slots (h .arena) bytes n)) (sym many)
       (by-store (subst (λ y. Leaves (f .ran) m (f .answer) (memory words slots y)) (sym kept) (f .leaves)));
 }
 
-pub runs-naming : (call : Option ControllerCall) (m : Memory) (words slots bytes bytes′ : List ℕ) (arena : DagArena) (count : ℕ) (r : Named) (h : Handed)
+pub runs-naming : (call : Option ControllerCall) (m : Memory) (words slots bytes bytes′ : List ℕ) (arena : DagArena) (count : ℕ) (r : Named) (h : CallResult)
     → m ≡ memory words slots arena → RunsNameCall call bytes count r bytes′
     → (h .reply ≡ Last.Names (r .answer)) × (h .name ≡ r .bytes) × (h .arena ≡ arena) × (h .names ≡ r .count)
-    → RunsCall call (held m (nameMemory bytes count)) h (held (memory words slots (h .arena)) (nameMemory bytes′ (h .names)))
-runs-naming call m words slots bytes bytes′ arena count r h at f (same, beside, kept, many) = record {
+    → RunsCall call (beside model nameModel m (nameMemory bytes count)) h (controllerMemory words slots (h .arena) bytes′ (h .names))
+runs-naming call m words slots bytes bytes′ arena count r h at f (same, named, kept, many) = record {
   ran = naming (f .ran);
   is = f .is;
   answer = fromNames (answerOf (r .answer) (r .bytes));
-  reply = λ i. lastReplyOf (same i) (beside i);
-  left = subst (λ s. Left (naming (f .ran)) (held m (nameMemory bytes count)) (fromNames (answerOf (r .answer) (r .bytes))) (held s (nameMemory bytes′ (h .names))))
+  reply = λ i. lastReplyOf (same i) (named i);
+  name = subst (λ x. NameBeside x (h .name)) (sym same) (subst (NameBeside (Last.Names (r .answer))) (sym named) (f .name));
+  left = subst (λ s. CallLeaves (naming (f .ran)) (beside model nameModel m (nameMemory bytes count)) (fromNames (answerOf (r .answer) (r .bytes))) (beside model nameModel s (nameMemory bytes′ (h .names))))
       (at ∙ ap (memory words slots) (sym kept))
-      (subst (λ (n : ℕ). Left (naming (f .ran)) (held m (nameMemory bytes count)) (fromNames (answerOf (r .answer) (r .bytes))) (held m (nameMemory bytes′ n))) (sym many) (by-names (f .called)));
+      (subst (λ (n : ℕ). CallLeaves (naming (f .ran)) (beside model nameModel m (nameMemory bytes count)) (fromNames (answerOf (r .answer) (r .bytes))) (beside model nameModel m (nameMemory bytes′ n))) (sym many) (by-names (f .called)));
 }
 
 -- a reading, by what it was lent
-pub runs-reading : (code a b high low : ℕ) (operands : List ℕ) (d : Desk) (words slots bytes : List ℕ) (r : Made) (h : Handed)
-    → code ≡ 21 → Reads (bytesOf operands) d (r .answer) (desk words slots (r .arena) bytes (r .names))
-    → (lastReplyOf (h .reply) (h .name) ≡ some (Text.answered (r .answer))) × (h .arena ≡ r .arena) × (h .names ≡ r .names)
-    → RunsCall (callOfCode code a b high low operands) (Text.memoryOf d) h (held (memory words slots (h .arena)) (nameMemory bytes (h .names)))
+pub runs-reading : (code a b high low : ℕ) (operands : List ℕ) (d : ControllerMemory) (words slots bytes : List ℕ) (r : ReadOutcome) (h : CallResult)
+    → code ≡ firstReading → Reads (bytesOf operands) d (r .answer) (controllerMemory words slots (r .arena) bytes (r .names))
+    → (lastReplyOf (h .reply) (h .name) ≡ some (Text.answered (r .answer))) × NameBeside (h .reply) (h .name) × (h .arena ≡ r .arena) × (h .names ≡ r .names)
+    → RunsCall (callOfCode code a b high low operands) d h (controllerMemory words slots (h .arena) bytes (h .names))
 unfolding callOfCode
-runs-reading code a b high low operands d words slots bytes r h e t (same, kept, many) = record {
+runs-reading code a b high low operands d words slots bytes r h e t (same, name, kept, many) = record {
   ran = reading (bytesOf operands);
   is = ap (λ (n : ℕ). callOfCode n a b high low operands) e;
   answer = Text.answered (r .answer);
   reply = same;
-  left = subst (λ x. Left (reading (bytesOf operands)) (Text.memoryOf d) (Text.answered (r .answer)) (held (memory words slots x) (nameMemory bytes (h .names)))) (sym kept)
-      (subst (λ (n : ℕ). Left (reading (bytesOf operands)) (Text.memoryOf d) (Text.answered (r .answer)) (held (memory words slots (r .arena)) (nameMemory bytes n))) (sym many) (by-text t));
+  name = name;
+  left = subst (λ x. CallLeaves (reading (bytesOf operands)) d (Text.answered (r .answer)) (controllerMemory words slots x bytes (h .names))) (sym kept)
+      (subst (λ (n : ℕ). CallLeaves (reading (bytesOf operands)) d (Text.answered (r .answer)) (controllerMemory words slots (r .arena) bytes n)) (sym many) (by-text t));
 }
 
-pub last-reading : (code : ℕ) → firstReading ≤ code → code ≤ lastCode → code ≡ 21
+pub last-reading : (code : ℕ) → firstReading ≤ code → code ≤ lastCode → code ≡ firstReading
 last-reading code h l = omega arith
 
 -- ---- the last code of those below a bound

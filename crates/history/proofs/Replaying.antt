@@ -10,9 +10,10 @@ use native.Mathlib.Omega.{arith}
 use Rattle.arena.specs.declared.DagArena.{DagArena}
 use Rattle.definitions.specs.Machine as M
 use Rattle.definitions.specs.Limits.{firstTableSize}
+use Rattle.definitions.specs.Names.{longestName}
 use Rattle.definitions.specs.Refusals.{noSlotPlace}
-use Rattle.definitions.specs.Controller.{ControllerCall, storePart}
-use Rattle.definitions.specs.Promise.{Fresh, FreshController, Promise}
+use Rattle.definitions.specs.Controller.{ControllerCall}
+use Rattle.definitions.specs.Promise.{Fresh, Promise}
 use Rattle.definitions.proofs.Histories.{demand3}
 use Rattle.definitions.proofs.Lifting.{fresh-beside}
 use Rattle.definitions.proofs.Listing.{last-more}
@@ -26,22 +27,24 @@ use Rattle.builder.specs.Opens.{freshAnswer, freshSlots, freshMemory, Opens}
 use Rattle.names.specs.Sound.{lentEntries}
 use Rattle.names.specs.Memory.{nameMemory, nameModel}
 use Rattle.names.proofs.Modelled.{no-names}
-use Rattle.history.specs.declared.handing.Handed.{Handed}
+use Rattle.history.specs.declared.handing.CallResult.{CallResult}
 use Rattle.history.specs.declared.handing.LastReply.the-variants as Last
 use Rattle.history.specs.declared.reply.Reply.the-variants.{Nothing}
-use Rattle.history.specs.Memory.{Memory, held, freshHeld, lentController, Left, done}
+use Rattle.text.specs.Memory.{ControllerMemory, controllerMemory, lentController}
+use Rattle.definitions.specs.Beside.{beside}
+use Rattle.history.specs.Memory.{freshControllerMemory, CallLeaves, done}
 use Rattle.history.specs.declared.Run.{Run}
-use Rattle.history.specs.declared.Replayed.{Replayed}
 use Rattle.history.specs.declared.Opening.the-variants.{Opened, Refused}
 use Rattle.history.specs.Encoding.{firstCall, decode, unread, readWords}
 use Rattle.history.specs.Calling.{lastReplyOf, RunsCallAt, WholeCall}
-use Rattle.history.specs.Replaying.{after, Continues, RunsAll, Promised, Replays}
+use Rattle.history.specs.Replaying.{after, Continues, RunsAll, Promised, NothingRun, Replays}
 use Rattle.history.proofs.Keeping.{history-of}
+use Rattle.history.proofs.CodeCalls.{store-beside}
 use Rattle.history.proofs.Turns.{turns-more, stays-in-turn, NamesStay, names-in-turn, last-is}
 use Rattle.history.proofs.Decoding.{decode-none, decode-some, unread-none, unread-some, none-in-nothing}
 
 -- the calls before a place were run, so many of them, and with those from there on they are all
-pub record RunTo (m : Memory) (calls : List ℕ) (at : ℕ) (r : Handed) (many : ℕ) (m′ : Memory) : Type 0 where
+pub record RunTo (m : ControllerMemory) (calls : List ℕ) (at : ℕ) (r : CallResult) (many : ℕ) (m′ : ControllerMemory) : Type 0 where
   pub before : List ControllerCall
   pub split : decode calls ≡ before ++ decode (drop at calls)
   pub left : unread calls ≡ unread (drop at calls)
@@ -49,19 +52,26 @@ pub record RunTo (m : Memory) (calls : List ℕ) (at : ℕ) (r : Handed) (many :
   pub counted : length before ≡ many
   pub few : many ≤ at
 
-module _ (m : Memory) (calls : List ℕ) where
-  pub none-run : (r : Handed) → r .reply ≡ Last.Store Nothing → RunTo m calls 0 r 0 m
-  none-run r e = record {
+module _ (m : ControllerMemory) (calls : List ℕ) where
+  pub none-run : (r : CallResult) → r .reply ≡ Last.Store Nothing → r .name ≡ replicate longestName 0 → RunTo m calls 0 r 0 m
+  none-run r e zeros = record {
     before = [];
     split = refl;
     left = refl;
-    run = record { answers = []; memories = []; left = done; last-memory = refl; last-answer = sym (ap (λ x. lastReplyOf x (r .name)) e) };
+    run = record {
+      answers = [];
+      memories = [];
+      left = done;
+      last-memory = refl;
+      last-answer = sym (ap (λ x. lastReplyOf x (r .name)) e);
+      last-name = store-beside (r .reply) Nothing (r .name) e zeros;
+    };
     counted = refl;
     few = omega arith;
   }
 
   -- one call more
-  pub one-more : (at end many : ℕ) (r r′ : Handed) (m′ m″ : Memory) → WholeCall calls at end → RunTo m calls at r many m′ → RunsCallAt calls at end m′ r′ m″
+  pub one-more : (at end many : ℕ) (r r′ : CallResult) (m′ m″ : ControllerMemory) → WholeCall calls at end → RunTo m calls at r many m′ → RunsCallAt calls at end m′ r′ m″
       → RunTo m calls end r′ (many + 1) m″
   one-more at end many r r′ m′ m″ w h f =
       let c = f .ran in
@@ -80,16 +90,17 @@ module _ (m : Memory) (calls : List ℕ) where
         run = record {
           answers = so-far .answers ++ f .answer ∷ [];
           memories = so-far .memories ++ m″ ∷ [];
-          left = turns-more (so-far .left) (subst (λ x. Left c x (f .answer) m″) (sym (so-far .last-memory)) (f .left));
+          left = turns-more (so-far .left) (subst (λ x. CallLeaves c x (f .answer) m″) (sym (so-far .last-memory)) (f .left));
           last-memory = last-more m (so-far .memories) m″;
           last-answer = last-is (so-far .answers) (f .answer) ∙ sym (f .reply);
+          last-name = f .name;
         };
         counted = omega (arith, length-append (h .before) (c ∷ []));
         few = omega arith;
       }
 
   -- no call is left
-  pub all-run : (r : Run) (m′ : Memory) → r .words ≤ length calls → firstCall (drop (r .words) calls) ≡ none → RunTo m calls (r .words) (r .last) (r .calls) m′ → RunsAll m calls r m′
+  pub all-run : (r : Run) (m′ : ControllerMemory) → r .words ≤ length calls → firstCall (drop (r .words) calls) ≡ none → RunTo m calls (r .words) (r .last) (r .calls) m′ → RunsAll m calls r m′
   unfolding readWords
   all-run r m′ k e h =
       let all : decode calls ≡ h .before = h .split ∙ ap (λ l. h .before ++ l) (decode-none (drop (r .words) calls) e) ∙ append-nil (h .before) in
@@ -100,26 +111,26 @@ module _ (m : Memory) (calls : List ℕ) where
       }
 
   -- and none at the end of the words
-  pub all-run-at-end : (r : Run) (m′ : Memory) → r .words ≤ length calls → length calls ≤ r .words → RunTo m calls (r .words) (r .last) (r .calls) m′ → RunsAll m calls r m′
+  pub all-run-at-end : (r : Run) (m′ : ControllerMemory) → r .words ≤ length calls → length calls ≤ r .words → RunTo m calls (r .words) (r .last) (r .calls) m′ → RunsAll m calls r m′
   all-run-at-end r m′ k l h = all-run r m′ k (ap firstCall (drop-of-length-le calls l) ∙ none-in-nothing) h
 
 -- what the first call gets is the lent memory without names
-pub from-first : (words slots bytes calls : List ℕ) (h : Handed) (arena : DagArena) (r : Run) (m′ : Memory) → (h .reply ≡ Last.Store Nothing) × (h .arena ≡ arena) × (h .names ≡ 0)
-    → RunsAll (after words slots bytes h) calls r m′ → RunsAll (held (memory words slots arena) (nameMemory bytes 0)) calls r m′
-from-first words slots bytes calls h arena r m′ (e, f, g) k = subst (λ m. RunsAll m calls r m′) (λ i. held (memory words slots (f i)) (nameMemory bytes (g i))) k
+pub from-first : (words slots bytes calls : List ℕ) (h : CallResult) (arena : DagArena) (r : Run) (m′ : ControllerMemory) → (h .reply ≡ Last.Store Nothing) × (h .name ≡ replicate longestName 0) × (h .arena ≡ arena) × (h .names ≡ 0)
+    → RunsAll (after words slots bytes h) calls r m′ → RunsAll (controllerMemory words slots arena bytes 0) calls r m′
+from-first words slots bytes calls h arena r m′ (e, z, f, g) k = subst (λ m. RunsAll m calls r m′) (λ i. controllerMemory words slots (f i) bytes (g i)) k
 
 -- past the first 64 slots a fresh store leaves all as it was
 fresh-slots-past : (slots : List ℕ) (size : ℕ) → firstTableSize ≤ size → drop size (freshSlots false slots) ≡ drop size slots
 fresh-slots-past slots size h = later (freshSlots false slots) slots firstTableSize size h (drop-at (replicate firstTableSize 0) (drop firstTableSize slots) firstTableSize (length-replicate {A = ℕ} firstTableSize 0))
 
 -- the promise, by demand 3
-pub promised : (words slots bytes : List ℕ) (cs : List ControllerCall) (r : Handed) (words′ slots′ bytes′ : List ℕ) → Fresh model (freshMemory words slots)
-    → model .lent (freshMemory words slots) ≡ lent words slots → Continues (freshHeld words slots bytes) cs r (after words′ slots′ bytes′ r) → Promised words slots bytes cs r words′ slots′ bytes′
+pub promised : (words slots bytes : List ℕ) (cs : List ControllerCall) (r : CallResult) (words′ slots′ bytes′ : List ℕ) → Fresh model (freshMemory words slots)
+    → model .lent (freshMemory words slots) ≡ lent words slots → Continues (freshControllerMemory words slots bytes) cs r (after words′ slots′ bytes′ r) → Promised words slots bytes cs r words′ slots′ bytes′
 promised words slots bytes cs r words′ slots′ bytes′ f e h =
     let fresh = fresh-beside model nameModel (freshMemory words slots) (nameMemory bytes 0) f (no-names bytes) in
-    let p = demand3 lentController (freshHeld words slots bytes) cs (h .answers) (h .memories) fresh (history-of (h .left)) in
-    let s : Stays (freshMemory words slots) (memory words′ slots′ (r .arena)) = subst (λ (m : Memory). Stays (freshMemory words slots) (m .store)) (h .last-memory) (stays-in-turn (h .left) (f .sound)) in
-    let n = subst (λ (m : Memory). NamesStay (nameMemory bytes 0) (m .names)) (h .last-memory) (names-in-turn (h .left) (no-names bytes .sound)) in
+    let p = demand3 lentController (freshControllerMemory words slots bytes) cs (h .answers) (h .memories) fresh (history-of (h .left)) in
+    let s : Stays (freshMemory words slots) (memory words′ slots′ (r .arena)) = subst (λ (m : ControllerMemory). Stays (freshMemory words slots) (m .store)) (h .last-memory) (stays-in-turn (h .left) (f .sound)) in
+    let n = subst (λ (m : ControllerMemory). NamesStay (nameMemory bytes 0) (m .names)) (h .last-memory) (names-in-turn (h .left) (no-names bytes .sound)) in
     record {
       fresh = fresh;
       run = h;
@@ -139,19 +150,25 @@ bool-clash A e = let z : _≡_ {A = ℕ} 0 1 = cc in absurd (omega arith)
 fresh-clash : (A : Type 0) (arena : DagArena) (number : ℕ) → F.Store arena ≡ F.Refused number → A
 fresh-clash A arena number e = let z : _≡_ {A = ℕ} 0 1 = cc in absurd (omega arith)
 
-pub replays-refused : (words slots bytes calls slots′ : List ℕ) (f : FreshStore) (number : ℕ) (run : Run) → Opens words slots f slots′ → f ≡ F.Refused number
-    → Replays words slots bytes calls (record { opening = Refused number; run = run }) words slots′ bytes
-replays-refused words slots bytes calls slots′ f number run o e = go (M.freshRefused (lent words slots)) refl (o .answer) (o .slots-after)
+pub replays-refused : (words slots bytes calls slots′ : List ℕ) (f : FreshStore) (number : ℕ) (h : CallResult) → Opens words slots f slots′ → f ≡ F.Refused number
+    → (h .reply ≡ Last.Store Nothing) × (h .name ≡ replicate longestName 0) × (h .arena ≡ record { count = 0; size = 0 }) × (h .names ≡ 0)
+    → Replays words slots bytes calls (record { opening = Refused number; run = record { last = h; calls = 0; words = 0 } }) words slots′ bytes
+replays-refused words slots bytes calls slots′ f number h o e (reply, zeros, none-stored, none-named) =
+    go (M.freshRefused (lent words slots)) refl (o .answer) (o .slots-after)
   where
-    go : (b : Bool) → M.freshRefused (lent words slots) ≡ b → f ≡ freshAnswer b → slots′ ≡ freshSlots b slots → Replays words slots bytes calls (record { opening = Refused number; run = run }) words slots′ bytes
+    nothing : NothingRun (record { last = h; calls = 0; words = 0 })
+    nothing = record { reply = reply; name = zeros; arena = none-stored; names = none-named; calls = refl; words = refl }
+
+    go : (b : Bool) → M.freshRefused (lent words slots) ≡ b → f ≡ freshAnswer b → slots′ ≡ freshSlots b slots
+        → Replays words slots bytes calls (record { opening = Refused number; run = record { last = h; calls = 0; words = 0 } }) words slots′ bytes
     go true q a s =
         let n : number ≡ noSlotPlace = cc in
-        record { refused = λ _. (ap Refused n, refl, s, refl); promised = λ q′. bool-clash _ (sym q ∙ q′) }
+        record { refused = λ _. (ap Refused n, nothing, refl, s, refl); promised = λ q′. bool-clash _ (sym q ∙ q′) }
     go false q a s = fresh-clash _ (record { count = 0; size = firstTableSize }) number (sym a ∙ e)
 
 pub replays-done : (words slots bytes calls slots₁ words′ slots′ bytes′ : List ℕ) (f : FreshStore) (arena : DagArena) (r : Run)
     → Opens words slots f slots₁ → f ≡ F.Store arena → length slots₁ ≡ length slots
-    → RunsAll (held (memory words slots₁ arena) (nameMemory bytes 0)) calls r (after words′ slots′ bytes′ (r .last)) → Replays words slots bytes calls (record { opening = Opened; run = r }) words′ slots′ bytes′
+    → RunsAll (controllerMemory words slots₁ arena bytes 0) calls r (after words′ slots′ bytes′ (r .last)) → Replays words slots bytes calls (record { opening = Opened; run = r }) words′ slots′ bytes′
 replays-done words slots bytes calls slots₁ words′ slots′ bytes′ f arena r o e l h = go (M.freshRefused (lent words slots)) refl (o .answer) (o .slots-after)
   where
     go : (b : Bool) → M.freshRefused (lent words slots) ≡ b → f ≡ freshAnswer b → slots₁ ≡ freshSlots b slots → Replays words slots bytes calls (record { opening = Opened; run = r }) words′ slots′ bytes′
@@ -166,7 +183,7 @@ replays-done words slots bytes calls slots₁ words′ slots′ bytes′ f arena
           promised = λ _. (
             refl,
             promised words slots bytes (decode calls) (r .last) words′ slots′ bytes′ (subst (Fresh model) at-first (o .fresh arena e)) same
-                (subst (λ m. Continues (held m (nameMemory bytes 0)) (decode calls) (r .last) (after words′ slots′ bytes′ (r .last))) at-first (h .continues)),
+                (subst (λ m. Continues (beside model nameModel m (nameMemory bytes 0)) (decode calls) (r .last) (after words′ slots′ bytes′ (r .last))) at-first (h .continues)),
             h .counts,
           );
         }

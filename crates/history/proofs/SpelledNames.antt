@@ -1,26 +1,24 @@
 -- A name spelled by operands, and the call that its first 33 bytes stand for.
-use Prim.Native.Nat.{ℕ, suc, _+_, _≤_, _<_, min}
+use Prim.Native.Nat.{ℕ, _+_, _≤_, _<_, min}
 use mathlib.Core.Path.{_≡_, refl, sym, ap, _∙_, subst}
 use mathlib.Core.Bool.{Bool, true, false, cond}
-use mathlib.Core.Logic.{_⊎_, ⊎-elim}
 use mathlib.Core.Option.{Option, none, some}
 use mathlib.Core.List.{List, [], _∷_, _++_}
-use lib.ListN.{length, getD, take, set, length-set, length-map, List·getD-map}
-use lib.Seq.{take-all, take-suc, take-suc-set, length-take-le}
-use lib.Dec.{leb, ltb}
-use native.Mathlib.Numerals.{add-one}
+use lib.ListN.{length, take, replicate}
+use lib.Seq.{take-all, length-take-le}
+use lib.Dec.{ltb}
 use native.Mathlib.Omega.{arith}
 use native.Mathlib.Decide.{decLe}
 use borrow.Author.Tests.{le-leb, lt-leb}
 use Rattle.definitions.specs.Refusals.{badNameLength, notSound, noNamePlace}
-use Rattle.definitions.specs.Names.{NameCall, internName, lookupName, NameAnswer, numbered, unknown, named, refused, NameResult, answers, nameCall, internAt, lookupAt, numberFrom, lengthAllowed, shortestName, longestName, mostNames}
+use Rattle.definitions.specs.Names.{NameCall, internName, lookupName, NameAnswer, numbered, named, refused, NameResult, answers, nameCall, internAt, lookupAt, numberFrom, lengthAllowed, shortestName, longestName, mostNames}
 use Rattle.names.specs.declared.Answer.{Answer}
 use Rattle.names.specs.declared.Answer.the-variants.{Numbered, Unknown, Named, Refused}
-use Rattle.names.specs.Sound.{Sound, namesOf, lentEntries}
+use Rattle.names.specs.Sound.{namesOf, lentEntries}
 use Rattle.names.specs.Calls.{answerOf, Called, plainly}
-use Rattle.history.specs.declared.naming.Spelled.{Spelled}
-use Rattle.history.specs.Encoding.{lowestByte, bytesOf}
-use Rattle.history.specs.Calling.{mostSpelled}
+use Rattle.history.specs.declared.handing.LastReply.the-variants as Last
+use Rattle.history.specs.Encoding.{bytesOf}
+use Rattle.history.specs.Calling.{mostNameBytes, NameBeside}
 
 -- ---- a name that is longer than 32 bytes is refused by its first 33
 
@@ -36,22 +34,22 @@ module _ (lent : ℕ) (names : List (List ℕ)) (name : List ℕ) where
   unfolding nameCall
   refused-long-lookup l = rw (too-long name l) refl
 
-first-long : (name : List ℕ) → (length name ≤ mostSpelled → ⊥) → longestName < length (take mostSpelled name)
-first-long name l = let e : length (take mostSpelled name) ≡ mostSpelled = length-take-le mostSpelled name (omega arith) in omega arith
+first-long : (name : List ℕ) → (length name ≤ mostNameBytes → ⊥) → longestName < length (take mostNameBytes name)
+first-long name l = let e : length (take mostNameBytes name) ≡ mostNameBytes = length-take-le mostNameBytes name (omega arith) in omega arith
 
-pub intern-first : (lent : ℕ) (names : List (List ℕ)) (name : List ℕ) → nameCall lent names (internName (take mostSpelled name)) ≡ nameCall lent names (internName name)
-intern-first lent names name = go (decLe (length name) mostSpelled)
+pub intern-first : (lent : ℕ) (names : List (List ℕ)) (name : List ℕ) → nameCall lent names (internName (take mostNameBytes name)) ≡ nameCall lent names (internName name)
+intern-first lent names name = go (decLe (length name) mostNameBytes)
   where
-    go : Dec (length name ≤ mostSpelled) → nameCall lent names (internName (take mostSpelled name)) ≡ nameCall lent names (internName name)
-    go (yes p) = ap (λ (x : List ℕ). nameCall lent names (internName x)) (take-all mostSpelled name p)
-    go (no p) = refused-long lent names (take mostSpelled name) (first-long name p) ∙ sym (refused-long lent names name (omega arith))
+    go : Dec (length name ≤ mostNameBytes) → nameCall lent names (internName (take mostNameBytes name)) ≡ nameCall lent names (internName name)
+    go (yes p) = ap (λ (x : List ℕ). nameCall lent names (internName x)) (take-all mostNameBytes name p)
+    go (no p) = refused-long lent names (take mostNameBytes name) (first-long name p) ∙ sym (refused-long lent names name (omega arith))
 
-pub lookup-first : (lent : ℕ) (names : List (List ℕ)) (name : List ℕ) → nameCall lent names (lookupName (take mostSpelled name)) ≡ nameCall lent names (lookupName name)
-lookup-first lent names name = go (decLe (length name) mostSpelled)
+pub lookup-first : (lent : ℕ) (names : List (List ℕ)) (name : List ℕ) → nameCall lent names (lookupName (take mostNameBytes name)) ≡ nameCall lent names (lookupName name)
+lookup-first lent names name = go (decLe (length name) mostNameBytes)
   where
-    go : Dec (length name ≤ mostSpelled) → nameCall lent names (lookupName (take mostSpelled name)) ≡ nameCall lent names (lookupName name)
-    go (yes p) = ap (λ (x : List ℕ). nameCall lent names (lookupName x)) (take-all mostSpelled name p)
-    go (no p) = refused-long-lookup lent names (take mostSpelled name) (first-long name p) ∙ sym (refused-long-lookup lent names name (omega arith))
+    go : Dec (length name ≤ mostNameBytes) → nameCall lent names (lookupName (take mostNameBytes name)) ≡ nameCall lent names (lookupName name)
+    go (yes p) = ap (λ (x : List ℕ). nameCall lent names (lookupName x)) (take-all mostNameBytes name p)
+    go (no p) = refused-long-lookup lent names (take mostNameBytes name) (first-long name p) ∙ sym (refused-long-lookup lent names name (omega arith))
 
 -- ---- interning and looking up answer no name's bytes
 
@@ -92,6 +90,13 @@ module _ (bytes : List ℕ) (count : ℕ) (c d : NameCall) (a : Answer) (out byt
   beside (Named n) k = absurd (k n refl)
   beside (Refused r) k = refl
 
+  -- 0s stand beside an answer that is no name's length
+  zeros-beside : (x : Answer) → ((n : ℕ) → x ≡ Named n → ⊥) → NameBeside (Last.Names x) (replicate longestName 0)
+  zeros-beside (Numbered n) k = (refl, tt)
+  zeros-beside Unknown k = (refl, tt)
+  zeros-beside (Named n) k = absurd (k n refl)
+  zeros-beside (Refused r) k = (refl, tt)
+
   -- a call that the plain registry takes for another, whatever bytes stand beside its answer
   as-another : ((b : List ℕ) → plainly bytes count c .answer ≡ named b → ⊥) → plainly bytes count c ≡ plainly bytes count d
       → Called bytes count c (answerOf a []) bytes′ count′ → Called bytes count d (answerOf a out) bytes′ count′
@@ -107,7 +112,7 @@ module _ (bytes : List ℕ) (count : ℕ) (c d : NameCall) (a : Answer) (out byt
         refusal = h .refusal;
       })
 
-module _ (bytes : List ℕ) (count : ℕ) (operands name : List ℕ) (a : Answer) (out bytes′ : List ℕ) (count′ : ℕ) (is : name ≡ take mostSpelled (bytesOf operands)) where
+module _ (bytes : List ℕ) (count : ℕ) (operands name : List ℕ) (a : Answer) (out bytes′ : List ℕ) (count′ : ℕ) (is : name ≡ take mostNameBytes (bytesOf operands)) where
   pub interns-spelled : Called bytes count (internName name) (answerOf a []) bytes′ count′ → Called bytes count (internName (bytesOf operands)) (answerOf a out) bytes′ count′
   interns-spelled =
       as-another bytes count (internName name) (internName (bytesOf operands)) a out bytes′ count′
@@ -119,3 +124,15 @@ module _ (bytes : List ℕ) (count : ℕ) (operands name : List ℕ) (a : Answer
       as-another bytes count (lookupName name) (lookupName (bytesOf operands)) a out bytes′ count′
       (lookup-unnamed (lentEntries bytes) (namesOf bytes count) name)
       (ap (λ (x : List ℕ). plainly bytes count (lookupName x)) is ∙ lookup-first (lentEntries bytes) (namesOf bytes count) (bytesOf operands))
+
+-- 0s stand beside the answers of interning and looking up
+module _ (bytes : List ℕ) (count : ℕ) (name : List ℕ) (a : Answer) (bytes′ : List ℕ) (count′ : ℕ) where
+  pub interned-beside : Called bytes count (internName name) (answerOf a []) bytes′ count′ → NameBeside (Last.Names a) (replicate longestName 0)
+  interned-beside h =
+      zeros-beside bytes count (internName name) (internName name) a [] bytes′ count′ a
+      (no-name bytes count (internName name) (internName name) a [] bytes′ count′ (intern-unnamed (lentEntries bytes) (namesOf bytes count) name) h)
+
+  pub looked-up-beside : Called bytes count (lookupName name) (answerOf a []) bytes′ count′ → NameBeside (Last.Names a) (replicate longestName 0)
+  looked-up-beside h =
+      zeros-beside bytes count (lookupName name) (lookupName name) a [] bytes′ count′ a
+      (no-name bytes count (lookupName name) (lookupName name) a [] bytes′ count′ (lookup-unnamed (lentEntries bytes) (namesOf bytes count) name) h)

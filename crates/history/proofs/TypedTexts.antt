@@ -1,35 +1,34 @@
 -- A text typed by operands, and the reading that its first 8,193 bytes stand for.
 use Prim.Native.Nat.{ℕ, _≤_, _<_}
-use mathlib.Core.Path.{_≡_, refl, sym, ap, _∙_, subst}
+use mathlib.Core.Path.{_≡_, subst}
 use mathlib.Core.List.{List}
 use lib.ListN.{length, take}
 use lib.Seq.{take-all, length-take-le}
 use native.Mathlib.Omega.{arith}
 use native.Mathlib.Decide.{decLe}
 use Rattle.store.specs.declared.Answer.{Answer}
-use Rattle.store.specs.declared.Answer.the-variants.{Refused}
 use Rattle.text_language.specs.Reading.{mostBytes, Refuses, long}
 use Rattle.text_language.proofs.Reading.{one-refusal, not-both}
-use Rattle.text.specs.Making.{Desk}
+use Rattle.text.specs.Memory.{ControllerMemory}
 use Rattle.text.specs.Reading.{Reads, unsound, refused, read}
 use Rattle.history.specs.Encoding.{bytesOf}
-use Rattle.history.specs.Calling.{mostTyped}
+use Rattle.history.specs.Calling.{mostTextBytes}
 
 -- a longer text is refused whatever stands past its first bytes
-both-long : (s t : List ℕ) (d d′ : Desk) (a : Answer) → mostBytes < length s → mostBytes < length t → Reads s d a d′ → Reads t d a d′
+both-long : (s t : List ℕ) (d d′ : ControllerMemory) (a : Answer) → mostBytes < length s → mostBytes < length t → Reads s d a d′ → Reads t d a d′
 both-long s t d d′ a h k (unsound n) = unsound n
 both-long s t d d′ a h k (refused {k = j} w r) = let e : 1 ≡ j = one-refusal (long h) r in refused w (subst (Refuses t) e (long k))
 both-long s t d d′ a h k (read w e m) = absurd (not-both (long h) e)
 
-first-long : (text : List ℕ) → (length text ≤ mostTyped → ⊥) → mostBytes < length (take mostTyped text)
-first-long text l = let e : length (take mostTyped text) ≡ mostTyped = length-take-le mostTyped text (omega arith) in omega arith
+first-long : (text : List ℕ) → (length text ≤ mostTextBytes → ⊥) → mostBytes < length (take mostTextBytes text)
+first-long text l = let e : length (take mostTextBytes text) ≡ mostTextBytes = length-take-le mostTextBytes text (omega arith) in omega arith
 
-pub reads-typed : (operands s : List ℕ) (d d′ : Desk) (a : Answer) → s ≡ take mostTyped (bytesOf operands) → Reads s d a d′ → Reads (bytesOf operands) d a d′
-reads-typed operands s d d′ a e h = go (decLe (length (bytesOf operands)) mostTyped)
+pub reads-typed : (operands s : List ℕ) (d d′ : ControllerMemory) (a : Answer) → s ≡ take mostTextBytes (bytesOf operands) → Reads s d a d′ → Reads (bytesOf operands) d a d′
+reads-typed operands s d d′ a e h = go (decLe (length (bytesOf operands)) mostTextBytes)
   where
-    first : Reads (take mostTyped (bytesOf operands)) d a d′
+    first : Reads (take mostTextBytes (bytesOf operands)) d a d′
     first = subst (λ (x : List ℕ). Reads x d a d′) e h
 
-    go : Dec (length (bytesOf operands) ≤ mostTyped) → Reads (bytesOf operands) d a d′
-    go (yes p) = subst (λ (x : List ℕ). Reads x d a d′) (take-all mostTyped (bytesOf operands) p) first
-    go (no p) = both-long (take mostTyped (bytesOf operands)) (bytesOf operands) d d′ a (first-long (bytesOf operands) p) (omega arith) first
+    go : Dec (length (bytesOf operands) ≤ mostTextBytes) → Reads (bytesOf operands) d a d′
+    go (yes p) = subst (λ (x : List ℕ). Reads x d a d′) (take-all mostTextBytes (bytesOf operands) p) first
+    go (no p) = both-long (take mostTextBytes (bytesOf operands)) (bytesOf operands) d d′ a (first-long (bytesOf operands) p) (omega arith) first

@@ -88,7 +88,8 @@ firstCall ws =
     let n = getD ws 5 0 in
     cond (leb headerWords (length ws))
     (cond (leb n (length ws - headerWords))
-    (withRest (callOfCode (getD ws 0 0) (getD ws 1 0) (getD ws 2 0) (getD ws 3 0) (getD ws 4 0) (take n (drop headerWords ws))) (drop (headerWords + n) ws))
+    (withRest (callOfCode (getD ws 0 0) (getD ws 1 0) (getD ws 2 0) (getD ws 3 0) (getD ws 4 0) (take n (drop headerWords ws)))
+    (drop (headerWords + n) ws))
     none)
     none
 

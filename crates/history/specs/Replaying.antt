@@ -4,26 +4,27 @@ use mathlib.Core.Path.{_≡_}
 use mathlib.Core.Bool.{true, false}
 use mathlib.Core.Option.{Option, none, some}
 use mathlib.Core.List.{List, [], _∷_, map}
-use lib.ListN.{length, drop}
+use lib.ListN.{length, drop, replicate}
 use Rattle.arena.specs.Layout.{nodeWords}
 use Rattle.definitions.specs.Refusals.{noSlotPlace}
 use Rattle.definitions.specs.Intern.{tableSize}
 use Rattle.definitions.specs.Machine as M
-use Rattle.definitions.specs.Names.{entryBytes}
+use Rattle.definitions.specs.Names.{entryBytes, longestName}
 use Rattle.definitions.specs.Listing.{lastOf}
 use Rattle.definitions.specs.Controller.{ControllerCall, ControllerAnswer, Part}
 use Rattle.definitions.specs.Promise.{FreshController, Promise, All}
 use Rattle.store.specs.View.{lent}
-use Rattle.store.specs.Memory.{memory}
 use Rattle.names.specs.Sound.{lentEntries}
-use Rattle.names.specs.Memory.{nameMemory}
-use Rattle.history.specs.declared.handing.Handed.{Handed}
+use Rattle.history.specs.declared.handing.CallResult.{CallResult}
+use Rattle.history.specs.declared.handing.LastReply.the-variants as Last
+use Rattle.history.specs.declared.reply.Reply.the-variants.{Nothing}
 use Rattle.history.specs.declared.Run.{Run}
 use Rattle.history.specs.declared.Replayed.{Replayed}
 use Rattle.history.specs.declared.Opening.the-variants.{Opened, Refused}
-use Rattle.history.specs.Memory.{Memory, held, freshHeld, lentController, LeftInTurn}
+use Rattle.text.specs.Memory.{ControllerMemory, controllerMemory, lentController}
+use Rattle.history.specs.Memory.{freshControllerMemory, LeavesInTurn}
 use Rattle.history.specs.Encoding.{firstCall, decode, readWords}
-use Rattle.history.specs.Calling.{lastReplyOf}
+use Rattle.history.specs.Calling.{lastReplyOf, NameBeside}
 
 -- the last of a list, if there is one
 abbrev pub last : {A : Type 0} → List A → Option A
@@ -31,16 +32,17 @@ last [] = none
 last (x ∷ xs) = some (lastOf x xs)
 
 -- the memory that was lent, after a call
-abbrev pub after : List ℕ → List ℕ → List ℕ → Handed → Memory
-after words slots bytes r = held (memory words slots (r .arena)) (nameMemory bytes (r .names))
+abbrev pub after : List ℕ → List ℕ → List ℕ → CallResult → ControllerMemory
+after words slots bytes r = controllerMemory words slots (r .arena) bytes (r .names)
 
 -- Calls on any memory: the answers, the memory after each, and the last of both.
-pub record Continues (m : Memory) (cs : List ControllerCall) (r : Handed) (m′ : Memory) : Type 0 where
+pub record Continues (m : ControllerMemory) (cs : List ControllerCall) (r : CallResult) (m′ : ControllerMemory) : Type 0 where
   pub answers : List ControllerAnswer
-  pub memories : List Memory
-  pub left : LeftInTurn m cs answers memories
+  pub memories : List ControllerMemory
+  pub left : LeavesInTurn m cs answers memories
   pub last-memory : lastOf m memories ≡ m′
   pub last-answer : last answers ≡ lastReplyOf (r .reply) (r .name)
+  pub last-name : NameBeside (r .reply) (r .name)
 
 -- How many calls were run, and how many words they take, so that a caller sees whether all words were read. No whole call with a known code
 -- stands at the rest.
@@ -50,16 +52,18 @@ pub record Counts (calls : List ℕ) (r : Run) : Type 0 where
   pub no-more : firstCall (drop (r .words) calls) ≡ none
 
 -- every call of the words was run, and nothing else
-pub record RunsAll (m : Memory) (calls : List ℕ) (r : Run) (m′ : Memory) : Type 0 where
+pub record RunsAll (m : ControllerMemory) (calls : List ℕ) (r : Run) (m′ : ControllerMemory) : Type 0 where
   pub continues : Continues m (decode calls) (r .last) m′
   pub counts : Counts calls r
 
 -- "the first gets a fresh store", and the names are "empty at first": the calls were run from there, and keep the promise of demand 3, with store
 -- and names sound on the way.
-pub record Promised (words slots bytes : List ℕ) (cs : List ControllerCall) (r : Handed) (words′ slots′ bytes′ : List ℕ) : Type 0 where
-  pub fresh : FreshController lentController (freshHeld words slots bytes)
-  pub run : Continues (freshHeld words slots bytes) cs r (after words′ slots′ bytes′ r)
-  pub promise : Promise (record { store = lent words slots; names = lentEntries bytes }) cs (run .answers) (map (lentController .view) (run .memories))
+pub record Promised (words slots bytes : List ℕ) (cs : List ControllerCall) (r : CallResult) (words′ slots′ bytes′ : List ℕ)
+    : Type 0 where
+  pub fresh : FreshController lentController (freshControllerMemory words slots bytes)
+  pub run : Continues (freshControllerMemory words slots bytes) cs r (after words′ slots′ bytes′ r)
+  pub promise : Promise (record { store = lent words slots; names = lentEntries bytes }) cs (run .answers)
+      (map (lentController .view) (run .memories))
   pub sound : All (λ m. (p : Part) → lentController .Sound m p) (run .memories)
   -- "Words and slots past the used ones stay."
   pub words-past : drop (r .arena .count * nodeWords) words′ ≡ drop (r .arena .count * nodeWords) words
@@ -69,8 +73,18 @@ pub record Promised (words slots bytes : List ℕ) (cs : List ControllerCall) (r
   -- the table is the least "of 64, 128, 256 and so on" that holds the nodes
   pub size : r .arena .size ≡ tableSize (r .arena .count)
 
--- 22 and nothing changed where a fresh store is refused, else the promise
+-- no call was run: there is no reply, no store and no name
+pub record NothingRun (r : Run) : Type 0 where
+  pub reply : r .last .reply ≡ Last.Store Nothing
+  pub name : r .last .name ≡ replicate longestName 0
+  pub arena : r .last .arena ≡ record { count = 0; size = 0 }
+  pub names : r .last .names ≡ 0
+  pub calls : r .calls ≡ 0
+  pub words : r .words ≡ 0
+
+-- 22, nothing run and nothing changed where a fresh store is refused, else the promise
 pub record Replays (words slots bytes calls : List ℕ) (r : Replayed) (words′ slots′ bytes′ : List ℕ) : Type 0 where
-  pub refused : M.freshRefused (lent words slots) ≡ true → (r .opening ≡ Refused noSlotPlace) × (words′ ≡ words) × (slots′ ≡ slots) × (bytes′ ≡ bytes)
+  pub refused : M.freshRefused (lent words slots) ≡ true
+      → (r .opening ≡ Refused noSlotPlace) × NothingRun (r .run) × (words′ ≡ words) × (slots′ ≡ slots) × (bytes′ ≡ bytes)
   pub promised : M.freshRefused (lent words slots) ≡ false
       → (r .opening ≡ Opened) × Promised words slots bytes (decode calls) (r .run .last) words′ slots′ bytes′ × Counts calls (r .run)

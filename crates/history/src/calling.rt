@@ -2,13 +2,12 @@
 ghost use mathlib.Core.Path.{_≡_};
 ghost use Prim.Native.Nat.{_≤_, _<_};
 ghost use Rattle.store.specs.Memory.{memory};
-ghost use Rattle.names.specs.Memory.{nameMemory};
-ghost use Rattle.history.specs.Memory.{held};
+ghost use Rattle.text.specs.Memory.{controllerMemory};
 ghost use Rattle.history.specs.Encoding as Encoding;
 ghost use Rattle.history.specs.Encoding.{firstWithOperands, firstRewriting, firstNaming, lastCode, callOfCode};
 ghost use Rattle.history.specs.Calling.{RunsStoreCall, RunsCall};
 use crate::codes;
-use crate::handing::Handed;
+use crate::handing::CallResult;
 use crate::handing::of_names;
 use crate::handing::of_reading;
 use crate::handing::of_store;
@@ -54,7 +53,8 @@ fn call_small(
     operands: &[u32],
 ) -> Answered
     requires { ⌜ code < firstWithOperands ⌝ }
-    ensures { λ r. ⌜ RunsStoreCall (callOfCode code a b high low (now (operands .entry))) (memory (now (nodes .entry)) (now (slots .entry)) arena) r (memory (now (nodes .exit)) (now (slots .exit)) (r .arena)) ⌝ }
+    ensures { λ r. ⌜ RunsStoreCall (callOfCode code a b high low (now (operands .entry)))
+        (memory (now (nodes .entry)) (now (slots .entry)) arena) r (memory (now (nodes .exit)) (now (slots .exit)) (r .arena)) ⌝ }
 {
     if code == codes::VARIABLE {
         return stored(builder::variable(nodes, slots, arena, a));
@@ -96,7 +96,8 @@ fn call_with_operands(
     operands: &[u32],
 ) -> Answered
     requires { ⌜ (firstWithOperands ≤ code) × (code < firstRewriting) ⌝ }
-    ensures { λ r. ⌜ RunsStoreCall (callOfCode code a b high low (now (operands .entry))) (memory (now (nodes .entry)) (now (slots .entry)) arena) r (memory (now (nodes .exit)) (now (slots .exit)) (r .arena)) ⌝ }
+    ensures { λ r. ⌜ RunsStoreCall (callOfCode code a b high low (now (operands .entry)))
+        (memory (now (nodes .entry)) (now (slots .entry)) arena) r (memory (now (nodes .exit)) (now (slots .exit)) (r .arena)) ⌝ }
 {
     if code == codes::OPERATOR {
         return stored(builder::operator(nodes, slots, arena, a, b, operands));
@@ -129,7 +130,8 @@ fn call_rewriting(
     operands: &[u32],
 ) -> Answered
     requires { ⌜ (firstRewriting ≤ code) × (code < firstNaming) ⌝ }
-    ensures { λ r. ⌜ RunsStoreCall (callOfCode code a b high low (now (operands .entry))) (memory (now (nodes .entry)) (now (slots .entry)) arena) r (memory (now (nodes .exit)) (now (slots .exit)) (r .arena)) ⌝ }
+    ensures { λ r. ⌜ RunsStoreCall (callOfCode code a b high low (now (operands .entry)))
+        (memory (now (nodes .entry)) (now (slots .entry)) arena) r (memory (now (nodes .exit)) (now (slots .exit)) (r .arena)) ⌝ }
 {
     if code == codes::SIMPLIFY {
         return simplified(walk::simplify(nodes, slots, arena, a, b, wide(high, low)));
@@ -153,7 +155,8 @@ fn call_store(
     operands: &[u32],
 ) -> Answered
     requires { ⌜ code < firstNaming ⌝ }
-    ensures { λ r. ⌜ RunsStoreCall (callOfCode code a b high low (now (operands .entry))) (memory (now (nodes .entry)) (now (slots .entry)) arena) r (memory (now (nodes .exit)) (now (slots .exit)) (r .arena)) ⌝ }
+    ensures { λ r. ⌜ RunsStoreCall (callOfCode code a b high low (now (operands .entry)))
+        (memory (now (nodes .entry)) (now (slots .entry)) arena) r (memory (now (nodes .exit)) (now (slots .exit)) (r .arena)) ⌝ }
 {
     if code < FIRST_WITH_OPERANDS {
         return call_small(nodes, slots, arena, code, a, b, high, low, operands);
@@ -177,9 +180,11 @@ pub(crate) fn call(
     high: u32,
     low: u32,
     operands: &[u32],
-) -> Handed
+) -> CallResult
     requires { ⌜ code ≤ lastCode ⌝ }
-    ensures { λ r. ⌜ RunsCall (callOfCode code a b high low (now (operands .entry))) (held (memory (now (nodes .entry)) (now (slots .entry)) arena) (nameMemory (now (entries .entry)) names)) r (held (memory (now (nodes .exit)) (now (slots .exit)) (r .arena)) (nameMemory (now (entries .exit)) (r .names))) ⌝ }
+    ensures { λ r. ⌜ RunsCall (callOfCode code a b high low (now (operands .entry)))
+        (controllerMemory (now (nodes .entry)) (now (slots .entry)) arena (now (entries .entry)) names) r
+        (controllerMemory (now (nodes .exit)) (now (slots .exit)) (r .arena) (now (entries .exit)) (r .names)) ⌝ }
 {
     if code < FIRST_NAMING {
         let answered = call_store(nodes, slots, arena, code, a, b, high, low, operands);

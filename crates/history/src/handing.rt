@@ -1,8 +1,10 @@
 // What is handed on from call to call.
 ghost use mathlib.Core.Path.{_≡_};
 ghost use mathlib.Core.Option.{some};
+ghost use lib.ListN.{replicate};
+ghost use Rattle.definitions.specs.Names.{longestName};
 ghost use Rattle.text.specs.Calling as Text;
-ghost use Rattle.history.specs.Calling.{lastReplyOf};
+ghost use Rattle.history.specs.Calling.{lastReplyOf, NameBeside};
 ghost use Rattle.history.specs.declared.handing.LastReply.the-variants as Last;
 ghost use Rattle.history.specs.declared.reply.Reply.the-variants.{Nothing};
 use crate::naming::LONGEST_NAME;
@@ -12,7 +14,7 @@ use crate::reply::Reply;
 use crate::reply::stored;
 use arena::DagArena;
 use store::Built;
-use text::Made;
+use text::ReadOutcome;
 
 // The last call's reply.
 pub enum LastReply {
@@ -22,7 +24,7 @@ pub enum LastReply {
 }
 
 // A reply, the bytes of a name that it gives the length of, the store's count and size, and how many names there are.
-pub struct Handed {
+pub struct CallResult {
     pub reply: LastReply,
     pub name: [u8; LONGEST_NAME],
     pub arena: DagArena,
@@ -30,10 +32,10 @@ pub struct Handed {
 }
 
 // What the first call gets: no reply, and no names.
-pub(crate) fn at_first(arena: DagArena) -> Handed
-    ensures { λ r. ⌜ (r .reply ≡ Last.Store Nothing) × (r .arena ≡ arena) × (r .names ≡ 0) ⌝ }
+pub(crate) fn at_first(arena: DagArena) -> CallResult
+    ensures { λ r. ⌜ (r .reply ≡ Last.Store Nothing) × (r .name ≡ replicate longestName 0) × (r .arena ≡ arena) × (r .names ≡ 0) ⌝ }
 {
-    Handed {
+    CallResult {
         reply: LastReply::Store(Reply::Nothing),
         name: [0u8; LONGEST_NAME],
         arena,
@@ -42,12 +44,13 @@ pub(crate) fn at_first(arena: DagArena) -> Handed
 }
 
 // What a call of the store hands on.
-pub(crate) fn of_store(answered: Answered, names: usize) -> Handed
-    ensures { λ r. ⌜ (r .reply ≡ Last.Store (answered .reply)) × (r .arena ≡ answered .arena) × (r .names ≡ names) ⌝ }
+pub(crate) fn of_store(answered: Answered, names: usize) -> CallResult
+    ensures { λ r. ⌜ (r .reply ≡ Last.Store (answered .reply)) × (r .name ≡ replicate longestName 0)
+        × (r .arena ≡ answered .arena) × (r .names ≡ names) ⌝ }
 {
     let reply = answered.reply;
     let arena = answered.arena;
-    Handed {
+    CallResult {
         reply: LastReply::Store(reply),
         name: [0u8; LONGEST_NAME],
         arena,
@@ -56,13 +59,14 @@ pub(crate) fn of_store(answered: Answered, names: usize) -> Handed
 }
 
 // What a name call hands on.
-pub(crate) fn of_names(named: Named, arena: DagArena) -> Handed
-    ensures { λ r. ⌜ (r .reply ≡ Last.Names (named .answer)) × (r .name ≡ named .bytes) × (r .arena ≡ arena) × (r .names ≡ named .count) ⌝ }
+pub(crate) fn of_names(named: Named, arena: DagArena) -> CallResult
+    ensures { λ r. ⌜ (r .reply ≡ Last.Names (named .answer)) × (r .name ≡ named .bytes)
+        × (r .arena ≡ arena) × (r .names ≡ named .count) ⌝ }
 {
     let answer = named.answer;
     let name = named.bytes;
     let names = named.count;
-    Handed {
+    CallResult {
         reply: LastReply::Names(answer),
         name,
         arena,
@@ -71,8 +75,9 @@ pub(crate) fn of_names(named: Named, arena: DagArena) -> Handed
 }
 
 // What a reading hands on.
-pub(crate) fn of_reading(made: Made) -> Handed
-    ensures { λ r. ⌜ (lastReplyOf (r .reply) (r .name) ≡ some (Text.answered (made .answer))) × (r .arena ≡ made .arena) × (r .names ≡ made .names) ⌝ }
+pub(crate) fn of_reading(made: ReadOutcome) -> CallResult
+    ensures { λ r. ⌜ (lastReplyOf (r .reply) (r .name) ≡ some (Text.answered (made .answer))) × NameBeside (r .reply) (r .name)
+        × (r .arena ≡ made .arena) × (r .names ≡ made .names) ⌝ }
 {
     let answer = made.answer;
     let arena = made.arena;

@@ -1,4 +1,5 @@
-// A list of calls, run on one store and one name list: the request's demand 3 as the contract of code. Calls are words, as specs/Encoding.antt says.
+// A list of calls, run on one store and one name list: the request's demand 3 as the contract of code. Calls are words, as specs/Encoding.antt
+// says.
 mod calling;
 pub mod codes;
 mod finding;
@@ -9,9 +10,7 @@ mod reply;
 
 ghost use Prim.Native.Nat.{_+_, _≤_};
 ghost use lib.ListN.{length, getD};
-ghost use Rattle.store.specs.Memory.{memory};
-ghost use Rattle.names.specs.Memory.{nameMemory};
-ghost use Rattle.history.specs.Memory.{held};
+ghost use Rattle.text.specs.Memory.{controllerMemory};
 ghost use Rattle.history.specs.Encoding.{headerWords, lastCode};
 ghost use Rattle.history.specs.Calling.{RunsCallAt};
 ghost use Rattle.history.specs.Replaying.{after, RunsAll, Replays};
@@ -22,14 +21,14 @@ use calling::call;
 use finding::HEADER_WORDS;
 use finding::Next;
 use finding::next_call;
-pub use handing::Handed;
+pub use handing::CallResult;
 pub use handing::LastReply;
 use handing::at_first;
 pub use reply::Reply;
 
 pub struct Run {
     // The reply of the last call, and the store's count and size and the number of names after it.
-    pub last: Handed,
+    pub last: CallResult,
     // How many calls were run.
     pub calls: usize,
     // How many words those calls take. The words past them begin with no whole call with a known code, and nothing of them was run.
@@ -59,9 +58,11 @@ fn call_at(
     calls: &[u32],
     at: usize,
     end: usize,
-) -> Handed
+) -> CallResult
     requires { ⌜ (at + headerWords ≤ end) × (end ≤ length (now calls)) × (getD (now calls) at 0 ≤ lastCode) ⌝ }
-    ensures { λ r. ⌜ RunsCallAt (now (calls .entry)) at end (held (memory (now (nodes .entry)) (now (slots .entry)) arena) (nameMemory (now (entries .entry)) names)) r (after (now (nodes .exit)) (now (slots .exit)) (now (entries .exit)) r) ⌝ }
+    ensures { λ r. ⌜ RunsCallAt (now (calls .entry)) at end
+        (controllerMemory (now (nodes .entry)) (now (slots .entry)) arena (now (entries .entry)) names) r
+        (after (now (nodes .exit)) (now (slots .exit)) (now (entries .exit)) r) ⌝ }
 {
     let start = at + HEADER_WORDS;
     let operands = &calls[start..end];
@@ -88,7 +89,8 @@ fn replay_from(
     arena: DagArena,
     calls: &[u32],
 ) -> Run
-    ensures { λ r. ⌜ RunsAll (held (memory (now (nodes .entry)) (now (slots .entry)) arena) (nameMemory (now (entries .entry)) 0)) (now (calls .entry)) r (after (now (nodes .exit)) (now (slots .exit)) (now (entries .exit)) (r .last)) ⌝ }
+    ensures { λ r. ⌜ RunsAll (controllerMemory (now (nodes .entry)) (now (slots .entry)) arena (now (entries .entry)) 0)
+        (now (calls .entry)) r (after (now (nodes .exit)) (now (slots .exit)) (now (entries .exit)) (r .last)) ⌝ }
 {
     let mut last = at_first(arena);
     let mut run: usize = 0;
@@ -117,7 +119,8 @@ fn replay_from(
 
 // A fresh store and an empty name list, then every call of the list.
 pub fn replay(nodes: &mut [u64], slots: &mut [u32], entries: &mut [u8], calls: &[u32]) -> Replayed
-    ensures { λ r. ⌜ Replays (now (nodes .entry)) (now (slots .entry)) (now (entries .entry)) (now (calls .entry)) r (now (nodes .exit)) (now (slots .exit)) (now (entries .exit)) ⌝ }
+    ensures { λ r. ⌜ Replays (now (nodes .entry)) (now (slots .entry)) (now (entries .entry)) (now (calls .entry)) r
+        (now (nodes .exit)) (now (slots .exit)) (now (entries .exit)) ⌝ }
 {
     match fresh(nodes, slots) {
         FreshStore::Refused(number) => {

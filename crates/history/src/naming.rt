@@ -2,19 +2,19 @@
 ghost use mathlib.Core.Path.{_≡_};
 ghost use Prim.Native.Nat.{_≤_, _<_};
 ghost use Rattle.history.specs.Encoding.{lowestByte, firstNaming, firstReading};
-ghost use Rattle.history.specs.Calling.{Spells, RunsNameCode};
+ghost use Rattle.history.specs.Calling.{IsName, RunsNameCode};
 use crate::codes;
 
 pub(crate) const LONGEST_NAME: usize = 32;
 
 // One byte more than a name has, so that a longer one is refused.
-const MOST_SPELLED: usize = 33;
+const MOST_NAME_BYTES: usize = LONGEST_NAME + 1;
 
 const BYTE_VALUES: u32 = 256;
 
 // The first bytes of a name.
-pub(crate) struct Spelled {
-    pub bytes: [u8; MOST_SPELLED],
+pub(crate) struct NameArgument {
+    pub bytes: [u8; MOST_NAME_BYTES],
     pub length: usize,
 }
 
@@ -32,19 +32,19 @@ pub(crate) fn lowest_byte(word: u32) -> u8
 }
 
 // The name that operands spell.
-fn spell(operands: &[u32]) -> Spelled
-    ensures { λ r. ⌜ Spells (now (operands .entry)) r ⌝ }
+fn spell(operands: &[u32]) -> NameArgument
+    ensures { λ r. ⌜ IsName (now (operands .entry)) r ⌝ }
 {
-    let mut bytes = [0u8; MOST_SPELLED];
+    let mut bytes = [0u8; MOST_NAME_BYTES];
     let mut i: usize = 0;
-    while i < MOST_SPELLED {
+    while i < MOST_NAME_BYTES {
         if operands.len() <= i {
-            return Spelled { bytes, length: i };
+            return NameArgument { bytes, length: i };
         }
         bytes[i] = lowest_byte(operands[i]);
         i += 1;
     }
-    Spelled { bytes, length: i }
+    NameArgument { bytes, length: i }
 }
 
 pub(crate) fn call_names(

@@ -1,13 +1,12 @@
 -- The id that a store call answers is one of the nodes after it.
-use Prim.Native.Nat.{ℕ, zero, suc, _+_, _<_}
-use mathlib.Core.Path.{_≡_, refl, subst}
+use Prim.Native.Nat.{ℕ, suc, _+_, _<_}
+use mathlib.Core.Path.{_≡_, refl}
 use mathlib.Core.Bool.{Bool, true, false, cond}
 use mathlib.Core.Option.{Option, none, some}
 use mathlib.Core.List.{List, [], _∷_, _++_}
 use lib.ListN.{length, length-append}
 use native.Mathlib.Omega.{arith}
 use Rattle.definitions.specs.Node.{Node, same, childCountListed}
-use Rattle.definitions.specs.Intern as I
 use Rattle.definitions.specs.Intern.{Lent, find, noPlace, intern, addNew, foundOrNew}
 use Rattle.definitions.specs.Machine as M
 

@@ -3,20 +3,21 @@ use Prim.Native.Nat.{ℕ}
 use mathlib.Core.Path.{_≡_, refl, sym, ap, _∙_}
 use mathlib.Core.List.{List, [], _∷_}
 use Rattle.definitions.specs.Making.{Controller, LentLists, Made}
-use Rattle.definitions.specs.Controller.{ControllerAnswer, AfterCall, reading, controllerCall, onText, fromMade, Part, storePart, namesPart}
-use Rattle.definitions.specs.Promise.{ControllerCalled, All}
-use Rattle.definitions.specs.Beside.{controllerModel, SoundPart}
+use Rattle.definitions.specs.Controller.{AfterCall, reading, controllerCall, onText, fromMade, Part, storePart, namesPart}
+use Rattle.definitions.specs.Promise.{All}
+use Rattle.definitions.specs.Beside.{SoundPart}
 use Rattle.store.specs.declared.Answer.{Answer}
 use Rattle.store.specs.declared.Answer.the-variants.{Id, Refused}
 use Rattle.store.specs.Memory.{model}
 use Rattle.names.specs.Memory.{nameModel}
 use Rattle.text_language.specs.Grammar.{Expr}
-use Rattle.text_language.specs.Reading.{Verdict, Refuses, Denotes, refuses, denotes, verdict}
+use Rattle.text_language.specs.Reading.{Refuses, Denotes, refuses, denotes}
 use Rattle.text_language.proofs.Reading.{verdict-refuses, verdict-denotes}
-use Rattle.text.specs.Making.{Desk, Held, viewed, places, outcome, Makes}
-use Rattle.text.specs.Reading.{Reads, unsound, refused, read}
-use Rattle.text.specs.Calling.{memoryOf, answered, ReadsAsCalled}
-use Rattle.text.proofs.Performing.{same-places}
+use Rattle.text.specs.Memory.{ControllerMemory, BothSound, controllerOf, lentOf}
+use Rattle.text.specs.Making.{outcome}
+use Rattle.text.specs.Reading.{unsound, refused, read}
+use Rattle.text.specs.Calling.{answered, ReadsAsCalled}
+use Rattle.text.proofs.Performing.{same-lent-of}
 
 -- the plain machine's reading, by what the text meets
 plain-refused : (l : LentLists) (s : Controller) {text : List ℕ} {k : ℕ} → Refuses text k → controllerCall l s (reading text) ≡ onText l s (refuses k)
@@ -35,11 +36,11 @@ left-of : (a : Answer) (s : Controller) → s ≡ fromMade (outcome a s) .left
 left-of (Id i) s = refl
 left-of (Refused r) s = refl
 
-module _ (d : Desk) where
-  held-of : All (SoundPart model nameModel (memoryOf d)) (storePart ∷ namesPart ∷ []) → Held d
+module _ (d : ControllerMemory) where
+  held-of : All (SoundPart model nameModel d) (storePart ∷ namesPart ∷ []) → BothSound d
   held-of t = record { store = t .0; names = t .1 .0 }
 
-  taken : Held d → All (SoundPart model nameModel (memoryOf d)) (storePart ∷ namesPart ∷ [])
+  taken : BothSound d → All (SoundPart model nameModel d) (storePart ∷ namesPart ∷ [])
   taken h = (h .store, (h .names, tt))
 
 pub read-called : ReadsAsCalled
@@ -53,21 +54,21 @@ read-called s d d′ a (unsound n) = record {
 }
 read-called s d d′ a (refused h r) = record {
   unsound = λ u. absurd (u (taken d h));
-  answer = λ t. sym (ap (λ (x : AfterCall). x .answer) (plain-refused (places d) (viewed d) r));
-  left = λ t. sym (ap (λ (x : AfterCall). x .left) (plain-refused (places d) (viewed d) r));
+  answer = λ t. sym (ap (λ (x : AfterCall). x .answer) (plain-refused (lentOf d) (controllerOf d) r));
+  left = λ t. sym (ap (λ (x : AfterCall). x .left) (plain-refused (lentOf d) (controllerOf d) r));
   sound = λ t p g. g;
   untouched = tt;
   same-lent = refl;
 }
 read-called s d d′ a (read h e m) = record {
   unsound = λ u. absurd (u (taken d h));
-  answer = λ t. answer-of a (viewed d′) ∙ ap (λ (x : Made). fromMade x .answer) (m .is) ∙ sym (ap (λ (x : AfterCall). x .answer) (plain-read (places d) (viewed d) e));
-  left = λ t. left-of a (viewed d′) ∙ ap (λ (x : Made). fromMade x .left) (m .is) ∙ sym (ap (λ (x : AfterCall). x .left) (plain-read (places d) (viewed d) e));
+  answer = λ t. answer-of a (controllerOf d′) ∙ ap (λ (x : Made). fromMade x .answer) (m .is) ∙ sym (ap (λ (x : AfterCall). x .answer) (plain-read (lentOf d) (controllerOf d) e));
+  left = λ t. left-of a (controllerOf d′) ∙ ap (λ (x : Made). fromMade x .left) (m .is) ∙ sym (ap (λ (x : AfterCall). x .left) (plain-read (lentOf d) (controllerOf d) e));
   sound = λ t. sounds;
   untouched = tt;
-  same-lent = same-places d d′ (m .follows);
+  same-lent = same-lent-of d d′ (m .extends);
 }
   where
-    sounds : (p : Part) → SoundPart model nameModel (memoryOf d) p → SoundPart model nameModel (memoryOf d′) p
-    sounds storePart g = m .follows .store .sound
-    sounds namesPart g = m .follows .names
+    sounds : (p : Part) → SoundPart model nameModel d p → SoundPart model nameModel d′ p
+    sounds storePart g = m .extends .store .sound
+    sounds namesPart g = m .extends .names

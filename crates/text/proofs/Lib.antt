@@ -2,13 +2,7 @@ pub mod Performing
 pub mod Tags
 pub mod Operators
 pub mod Running
-pub mod Digits
-pub mod Whole
-pub mod Constants
-pub mod Emitting
-pub mod Steps
-pub mod Turns
-pub mod Compiling
 pub mod Answering
 pub mod Below
 pub mod Calling
+pub mod Determined

@@ -1,9 +1,9 @@
 -- The loop over a program: what is still to run, over the lists and the results as they are now, gives what the whole program gives.
-use Prim.Native.Nat.{ℕ, zero, suc, _+_, _-_, _*_, _≤_, _<_}
+use Prim.Native.Nat.{ℕ, zero, suc, _+_, _-_, _≤_, _<_}
 use mathlib.Core.Path.{_≡_, refl, sym, ap, _∙_, subst}
-use mathlib.Core.List.{List, [], _∷_, _++_, map}
+use mathlib.Core.List.{List, [], _∷_, map}
 use lib.ListN.{length, length-take, length-set, getD, take, drop, set, drop-of-length-le}
-use lib.Seq.{drop-cons, getD-take, length-take-le, getD-set-same, getD-set-other, drop-nil}
+use lib.Seq.{drop-cons, getD-take, length-take-le, getD-set-same, getD-set-other}
 use native.Mathlib.Omega.{arith}
 use native.Mathlib.Numerals.{add-one}
 use Rattle.store.specs.declared.Answer.{Answer}
@@ -11,42 +11,43 @@ use Rattle.store.specs.declared.Answer.the-variants.{Id, Refused}
 use Rattle.text_language.specs.Program.{Token, number, name, negate, join, mostWaiting, Fits, tokenAt, tokens, operands}
 use Rattle.definitions.specs.Making as Plain
 use Rattle.definitions.specs.Making.{Controller, LentLists, bind}
-use Rattle.text.specs.Making.{Desk, Held, viewed, places, Follows, outcome, Low, Makes, pile}
-use Rattle.text.proofs.Performing.{follows-refl, follows-trans, same-places, held}
+use Rattle.text.specs.Memory.{ControllerMemory, BothSound, controllerOf, lentOf, Extends}
+use Rattle.text.specs.Making.{outcome, FitsId, Makes, stackOf, idValues}
+use Rattle.text.proofs.Performing.{extends-refl, extends-trans, same-lent-of}
 
 -- ---- the results that wait
 
-pub drop-pile : (stack : List ℕ) (h k : ℕ) → drop k (pile stack h) ≡ pile stack (h - k)
-unfolding pile
-drop-pile stack h zero = let e : h ≡ h - 0 = omega arith in ap (pile stack) e
-drop-pile stack zero (suc k) = let e : 0 ≡ 0 - suc k = omega arith in ap (pile stack) e
-drop-pile stack (suc h) (suc k) = let e : h - k ≡ suc h - suc k = omega arith in drop-pile stack h k ∙ ap (pile stack) e
+pub drop-stack : (stack : List ℕ) (h k : ℕ) → drop k (stackOf stack h) ≡ stackOf stack (h - k)
+unfolding stackOf
+drop-stack stack h zero = let e : h ≡ h - 0 = omega arith in ap (stackOf stack) e
+drop-stack stack zero (suc k) = let e : 0 ≡ 0 - suc k = omega arith in ap (stackOf stack) e
+drop-stack stack (suc h) (suc k) = let e : h - k ≡ suc h - suc k = omega arith in drop-stack stack h k ∙ ap (stackOf stack) e
 
-pub pile-set : (stack : List ℕ) (h p v : ℕ) → h ≤ p → pile (set stack p v) h ≡ pile stack h
-unfolding pile
-pile-set stack zero p v l = refl
-pile-set stack (suc h) p v l =
-    ap (λ (x : ℕ). x ∷ pile (set stack p v) h) (getD-set-other stack p h v 0 (λ e. omega arith))
-    ∙ ap (λ (x : List ℕ). getD stack h 0 ∷ x) (pile-set stack h p v (omega arith))
+pub stack-set : (stack : List ℕ) (h p v : ℕ) → h ≤ p → stackOf (set stack p v) h ≡ stackOf stack h
+unfolding stackOf
+stack-set stack zero p v l = refl
+stack-set stack (suc h) p v l =
+    ap (λ (x : ℕ). x ∷ stackOf (set stack p v) h) (getD-set-other stack p h v 0 (λ e. omega arith))
+    ∙ ap (λ (x : List ℕ). getD stack h 0 ∷ x) (stack-set stack h p v (omega arith))
 
-pub pile-put : (stack : List ℕ) (p v : ℕ) → p < length stack → pile (set stack p v) (p + 1) ≡ v ∷ pile stack p
-unfolding pile
-pile-put stack p v l =
-    ap (pile (set stack p v)) (add-one p)
-    ∙ ap (λ (x : ℕ). x ∷ pile (set stack p v) p) (getD-set-same stack p v 0 l)
-    ∙ ap (λ (x : List ℕ). v ∷ x) (pile-set stack p p v (omega arith))
+pub stack-put : (stack : List ℕ) (p v : ℕ) → p < length stack → stackOf (set stack p v) (p + 1) ≡ v ∷ stackOf stack p
+unfolding stackOf
+stack-put stack p v l =
+    ap (stackOf (set stack p v)) (add-one p)
+    ∙ ap (λ (x : ℕ). x ∷ stackOf (set stack p v) p) (getD-set-same stack p v 0 l)
+    ∙ ap (λ (x : List ℕ). v ∷ x) (stack-set stack p p v (omega arith))
 
-pub pile-at : (stack : List ℕ) (h back : ℕ) → back < h → getD (pile stack h) back 0 ≡ getD stack (h - 1 - back) 0
-unfolding pile
-pile-at stack zero back l = absurd (omega arith)
-pile-at stack (suc h) zero l = let e : h ≡ suc h - 1 - 0 = omega arith in ap (λ (k : ℕ). getD stack k 0) e
-pile-at stack (suc h) (suc back) l = let e : h - 1 - back ≡ suc h - 1 - suc back = omega arith in pile-at stack h back (omega arith) ∙ ap (λ (k : ℕ). getD stack k 0) e
+pub stack-at : (stack : List ℕ) (h back : ℕ) → back < h → getD (stackOf stack h) back 0 ≡ getD stack (h - 1 - back) 0
+unfolding stackOf
+stack-at stack zero back l = absurd (omega arith)
+stack-at stack (suc h) zero l = let e : h ≡ suc h - 1 - 0 = omega arith in ap (λ (k : ℕ). getD stack k 0) e
+stack-at stack (suc h) (suc back) l = let e : h - 1 - back ≡ suc h - 1 - suc back = omega arith in stack-at stack h back (omega arith) ∙ ap (λ (k : ℕ). getD stack k 0) e
 
-pub pile-none : (stack : List ℕ) (h back : ℕ) → h ≤ back → getD (pile stack h) back 0 ≡ 0
-unfolding pile
-pile-none stack zero back l = refl
-pile-none stack (suc h) zero l = absurd (omega arith)
-pile-none stack (suc h) (suc back) l = pile-none stack h back (omega arith)
+pub stack-none : (stack : List ℕ) (h back : ℕ) → h ≤ back → getD (stackOf stack h) back 0 ≡ 0
+unfolding stackOf
+stack-none stack zero back l = refl
+stack-none stack (suc h) zero l = absurd (omega arith)
+stack-none stack (suc h) (suc back) l = stack-none stack h back (omega arith)
 
 -- ---- a token finds its operands, and its result a place
 
@@ -79,30 +80,30 @@ module _ (s program : List ℕ) (size : ℕ) where
   rest-none : (i : ℕ) → size ≤ i → rest i ≡ []
   rest-none i l = let e = length-take size program in ap (map (tokenAt s)) (drop-of-length-le (take size program) {i = i} (omega arith))
 
-  abbrev pub whole : Desk → Plain.Made
-  whole d = Plain.run (places d) (tokens s program size) [] (viewed d)
+  abbrev pub whole : ControllerMemory → Plain.Made
+  whole d = Plain.run (lentOf d) (tokens s program size) [] (controllerOf d)
 
-  pub record Running (d₀ d : Desk) (stack : List ℕ) (height i : ℕ) : Type 0 where
-    pub same : Plain.run (places d₀) (rest i) (pile stack height) (viewed d) ≡ whole d₀
-    pub follows : Follows d₀ d
+  pub record Running (d₀ d : ControllerMemory) (stack : List ℕ) (height i : ℕ) : Type 0 where
+    pub same : Plain.run (lentOf d₀) (rest i) (stackOf stack height) (controllerOf d) ≡ whole d₀
+    pub extends : Extends d₀ d
     pub fits : Fits height (rest i)
     pub high : height ≤ mostWaiting
     pub wide : length stack ≡ mostWaiting
 
-  pub running-start : (d : Desk) (stack : List ℕ) → Held d → Fits 0 (tokens s program size) → length stack ≡ mostWaiting → Running d d stack 0 0
-  unfolding tokens pile
-  running-start d stack h f w = record { same = refl; follows = follows-refl d h; fits = f; high = omega arith; wide = w }
+  pub running-start : (d : ControllerMemory) (stack : List ℕ) → BothSound d → Fits 0 (tokens s program size) → length stack ≡ mostWaiting → Running d d stack 0 0
+  unfolding tokens stackOf
+  running-start d stack h f w = record { same = refl; extends = extends-refl d h; fits = f; high = omega arith; wide = w }
 
-  module _ (d₀ d : Desk) (stack : List ℕ) (height i : ℕ) (r : Running d₀ d stack height i) where
-    pub running-end : size ≤ i → (last : ℕ) → last ≡ getD (pile stack height) 0 0 → last < 4294967296 → Makes (whole d₀) d₀ (Id last) d
+  module _ (d₀ d : ControllerMemory) (stack : List ℕ) (height i : ℕ) (r : Running d₀ d stack height i) where
+    pub running-end : size ≤ i → (last : ℕ) → last ≡ getD (stackOf stack height) 0 0 → last < idValues → Makes (whole d₀) d₀ (Id last) d
     unfolding Plain.run
     running-end l last e low = record {
-      is = ap (λ (x : ℕ). Plain.made x (viewed d)) e ∙ ap (λ (ts : List Token). Plain.run (places d₀) ts (pile stack height) (viewed d)) (sym (rest-none i l)) ∙ r .same;
-      follows = r .follows;
-      low = low;
+      is = ap (λ (x : ℕ). Plain.made x (controllerOf d)) e ∙ ap (λ (ts : List Token). Plain.run (lentOf d₀) ts (stackOf stack height) (controllerOf d)) (sym (rest-none i l)) ∙ r .same;
+      extends = r .extends;
+      fits = low;
     }
 
-    module _ (l : i < size) (m : size ≤ length program) (first second : ℕ) (p : first ≡ getD (pile stack height) 0 0) (q : second ≡ getD (pile stack height) 1 0) where
+    module _ (l : i < size) (m : size ≤ length program) (first second : ℕ) (p : first ≡ getD (stackOf stack height) 0 0) (q : second ≡ getD (stackOf stack height) 1 0) where
       abbrev token : Token
       token = tokenAt s (getD program i 0)
 
@@ -110,34 +111,34 @@ module _ (s program : List ℕ) (size : ℕ) where
       here = room height token (rest (i + 1)) (r .high) (subst (Fits height) (rest-cons i l m) (r .fits))
 
       abbrev onward : ℕ → Controller → Plain.Made
-      onward j u = Plain.run (places d₀) (rest (i + 1)) (j ∷ drop (operands token) (pile stack height)) u
+      onward j u = Plain.run (lentOf d₀) (rest (i + 1)) (j ∷ drop (operands token) (stackOf stack height)) u
 
-      module _ (a : Answer) (d′ : Desk) (made : Makes (Plain.perform (places d) token first second (viewed d)) d a d′) where
-        performed : bind (outcome a (viewed d′)) onward ≡ whole d₀
+      module _ (a : Answer) (d′ : ControllerMemory) (made : Makes (Plain.perform (lentOf d) token first second (controllerOf d)) d a d′) where
+        performed : bind (outcome a (controllerOf d′)) onward ≡ whole d₀
         unfolding Plain.run
         performed =
             ap (λ (x : Plain.Made). bind x onward)
             (made .is
-            ∙ ap (λ (x : LentLists). Plain.perform x token first second (viewed d)) (same-places d₀ d (r .follows))
-            ∙ ap (λ (x : ℕ). Plain.perform (places d₀) token x second (viewed d)) p
-            ∙ ap (λ (x : ℕ). Plain.perform (places d₀) token (getD (pile stack height) 0 0) x (viewed d)) q)
-            ∙ ap (λ (ts : List Token). Plain.run (places d₀) ts (pile stack height) (viewed d)) (sym (rest-cons i l m))
+            ∙ ap (λ (x : LentLists). Plain.perform x token first second (controllerOf d)) (same-lent-of d₀ d (r .extends))
+            ∙ ap (λ (x : ℕ). Plain.perform (lentOf d₀) token x second (controllerOf d)) p
+            ∙ ap (λ (x : ℕ). Plain.perform (lentOf d₀) token (getD (stackOf stack height) 0 0) x (controllerOf d)) q)
+            ∙ ap (λ (ts : List Token). Plain.run (lentOf d₀) ts (stackOf stack height) (controllerOf d)) (sym (rest-cons i l m))
             ∙ r .same
 
         -- a refusal ends it, and what was made before stays
         pub running-stopped : (k : ℕ) → a ≡ Refused k → Makes (whole d₀) d₀ a d′
         unfolding bind
         running-stopped k e = record {
-          is = ap (λ (x : Answer). outcome x (viewed d′)) e ∙ ap (λ (x : Answer). bind (outcome x (viewed d′)) onward) (sym e) ∙ performed;
-          follows = follows-trans d₀ d d′ (r .follows) (made .follows);
-          low = made .low;
+          is = ap (λ (x : Answer). outcome x (controllerOf d′)) e ∙ ap (λ (x : Answer). bind (outcome x (controllerOf d′)) onward) (sym e) ∙ performed;
+          extends = extends-trans d₀ d d′ (r .extends) (made .extends);
+          fits = made .fits;
         }
 
         pub running-room : (taken : ℕ) → taken ≡ operands token → (taken ≤ height) × (height - taken < mostWaiting)
         running-room taken e = let h = here in (omega (arith, e, h .enough), omega (arith, e, h .place))
 
-        pub running-low : (id : ℕ) → a ≡ Id id → id < 4294967296
-        running-low id e = subst Low e (made .low)
+        pub running-fits : (id : ℕ) → a ≡ Id id → id < idValues
+        running-fits id e = subst FitsId e (made .fits)
 
         -- its result waits in its operands' place
         pub running-on : (id taken : ℕ) → a ≡ Id id → taken ≡ operands token → Running d₀ d′ (set stack (height - taken) id) (height - taken + 1) (i + 1)
@@ -148,10 +149,10 @@ module _ (s program : List ℕ) (size : ℕ) where
             let k = h .place in
             record {
               same =
-                  ap (λ (x : List ℕ). Plain.run (places d₀) (rest (i + 1)) x (viewed d′)) (pile-put stack (height - taken) id (omega (arith, t, k, w)) ∙ ap (λ (x : ℕ). id ∷ pile stack (height - x)) t ∙ ap (λ (x : List ℕ). id ∷ x) (sym (drop-pile stack height (operands token))))
-                  ∙ ap (λ (x : Answer). bind (outcome x (viewed d′)) onward) (sym e)
+                  ap (λ (x : List ℕ). Plain.run (lentOf d₀) (rest (i + 1)) x (controllerOf d′)) (stack-put stack (height - taken) id (omega (arith, t, k, w)) ∙ ap (λ (x : ℕ). id ∷ stackOf stack (height - x)) t ∙ ap (λ (x : List ℕ). id ∷ x) (sym (drop-stack stack height (operands token))))
+                  ∙ ap (λ (x : Answer). bind (outcome x (controllerOf d′)) onward) (sym e)
                   ∙ performed;
-              follows = follows-trans d₀ d d′ (r .follows) (made .follows);
+              extends = extends-trans d₀ d d′ (r .extends) (made .extends);
               fits = subst (λ (x : ℕ). Fits (height - x + 1) (rest (i + 1))) (sym t) (h .fits);
               high = omega (arith, t, k);
               wide = length-set stack (height - taken) id ∙ r .wide;

@@ -1,25 +1,18 @@
-// Formulas typed as text: a text is checked and compiled to a postfix program by four readers that call each other, and the program is run
-// over the name list and the store by one loop.
-mod bytes;
-mod checking;
+// Formulas typed as text: a text is checked and compiled to a program, and one loop runs the program over the name list and the store.
 mod making;
-mod numbers;
-mod places;
-mod readers;
-mod scanning;
 
-ghost use Rattle.text.specs.Making.{desk};
+ghost use Rattle.text.specs.Memory.{controllerMemory};
 ghost use Rattle.text.specs.Reading.{Reads};
 use arena::DagArena;
-use checking::Checked;
-use checking::any_nan;
-use checking::compile;
 use definitions::refusals::NOT_SOUND;
-pub use making::Made;
+pub use making::ReadOutcome;
 use making::run_program;
 use store::Answer;
 use text_language::MOST_BYTES;
 use text_language::NOT_A_NUMBER;
+use text_program::Checked;
+use text_program::any_nan;
+use text_program::compile;
 
 // The node of a text, or 20, 1, 11, 12, 10, and then 24, 21 or 22 with the names and nodes made before.
 pub fn read(
@@ -29,18 +22,20 @@ pub fn read(
     arena: DagArena,
     entries: &mut [u8],
     names: usize,
-) -> Made
-    ensures { λ r. ⌜ Reads (now (text .entry)) (desk (now (nodes .entry)) (now (slots .entry)) arena (now (entries .entry)) names) (r .answer) (desk (now (nodes .exit)) (now (slots .exit)) (r .arena) (now (entries .exit)) (r .names)) ⌝ }
+) -> ReadOutcome
+    ensures { λ r. ⌜ Reads (now (text .entry))
+        (controllerMemory (now (nodes .entry)) (now (slots .entry)) arena (now (entries .entry)) names) (r .answer)
+        (controllerMemory (now (nodes .exit)) (now (slots .exit)) (r .arena) (now (entries .exit)) (r .names)) ⌝ }
 {
     if !store::audit(nodes, slots, arena) {
-        return Made {
+        return ReadOutcome {
             answer: Answer::Refused(NOT_SOUND),
             arena,
             names,
         };
     }
     if !names::is_sound(entries, names) {
-        return Made {
+        return ReadOutcome {
             answer: Answer::Refused(NOT_SOUND),
             arena,
             names,
@@ -51,7 +46,7 @@ pub fn read(
     match checked {
         Checked::Program(size) => {
             if any_nan(text, &program, size) {
-                return Made {
+                return ReadOutcome {
                     answer: Answer::Refused(NOT_A_NUMBER),
                     arena,
                     names,
@@ -59,7 +54,7 @@ pub fn read(
             }
             run_program(text, &program, size, nodes, slots, arena, entries, names)
         }
-        Checked::Refused(number) => Made {
+        Checked::Refused(number) => ReadOutcome {
             answer: Answer::Refused(number),
             arena,
             names,

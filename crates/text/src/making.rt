@@ -1,21 +1,17 @@
 // A program run over the lent lists: each token is one name call, one store call, or a name call and then a store call.
 ghost use mathlib.Core.Path.{_≡_};
-ghost use mathlib.Core.List.{List, []};
-ghost use Prim.Native.Nat.{ℕ, _-_, _≤_, _<_};
+ghost use mathlib.Core.List.{[]};
+ghost use Prim.Native.Nat.{_-_, _≤_, _<_};
 ghost use lib.ListN.{length, getD, drop};
 ghost use Rattle.definitions.specs.Machine as M;
 ghost use Rattle.store.specs.Memory.{memory, answerOf};
 ghost use Rattle.store.specs.Sound.{Sound};
 ghost use Rattle.builder.specs.Stores.{BuildsSound};
 ghost use Rattle.names.specs.Calls.{Allowed};
-ghost use Rattle.text_language.specs.Grammar.{isLetter};
 ghost use Rattle.text_language.specs.Reader.{atomOf};
-ghost use Rattle.text_language.specs.Program.{mostWaiting, name, atomToken, operatorToken, tokenAt, tokens, operands, Fits};
-ghost use Rattle.definitions.specs.Making as Plain;
-ghost use Rattle.text.specs.Making.{desk, Held, viewed, places, Makes, called, flagsOf, refusalOf, pile};
-use crate::bytes::is_letter;
-use crate::numbers::bits_at;
-use crate::places::run;
+ghost use Rattle.text_language.specs.Program.{mostWaiting, name, atomToken, operatorToken, tokenAt, tokens, Fits};
+ghost use Rattle.text.specs.Memory.{controllerMemory, BothSound};
+ghost use Rattle.text.specs.Making.{Performs, RunsProgram, operatorCall, flagsOf, refusalOf, stackOf};
 use arena::DagArena;
 use arena::kind::ADD;
 use arena::kind::CONSTANT;
@@ -26,15 +22,18 @@ use arena::kind::VARIABLE;
 use builder::build_sound;
 use store::Answer;
 use store::Built;
-
-// A word below this is the place of a number or a name; above it stands a kind's code.
-pub(crate) const FIRST_OPERATOR: u16 = 8192;
+use text_language::MOST_NESTED;
+use text_program::FIRST_OPERATOR;
+use text_program::bits_at;
+use text_program::name_end;
+use text_program::name_starts;
+use text_program::operand_count;
 
 // The most results that wait: two for each level of nesting, and three.
-const MOST_WAITING: usize = 131;
+const MOST_WAITING: usize = 2 * MOST_NESTED + 3;
 
 // An answer, with the counts of the store and of the names after it.
-pub struct Made {
+pub struct ReadOutcome {
     pub answer: Answer,
     pub arena: DagArena,
     pub names: usize,
@@ -43,7 +42,8 @@ pub struct Made {
 // The constant of these bits.
 fn number(nodes: &mut [u64], slots: &mut [u32], arena: DagArena, bits: u64) -> Built
     requires { ⌜ Sound (now nodes) (now slots) arena ⌝ }
-    ensures { λ r. ⌜ BuildsSound (M.requested (M.constant bits)) (memory (now (nodes .entry)) (now (slots .entry)) arena) (answerOf (r .answer)) (memory (now (nodes .exit)) (now (slots .exit)) (r .arena)) ⌝ }
+    ensures { λ r. ⌜ BuildsSound (M.requested (M.constant bits)) (memory (now (nodes .entry)) (now (slots .entry)) arena)
+        (answerOf (r .answer)) (memory (now (nodes .exit)) (now (slots .exit)) (r .arena)) ⌝ }
 {
     build_sound(nodes, slots, arena, true, CONSTANT, bits, 0, &[])
 }
@@ -51,20 +51,24 @@ fn number(nodes: &mut [u64], slots: &mut [u32], arena: DagArena, bits: u64) -> B
 // The variable of a symbol.
 fn variable(nodes: &mut [u64], slots: &mut [u32], arena: DagArena, symbol: u32) -> Built
     requires { ⌜ Sound (now nodes) (now slots) arena ⌝ }
-    ensures { λ r. ⌜ BuildsSound (M.requested (M.variable symbol)) (memory (now (nodes .entry)) (now (slots .entry)) arena) (answerOf (r .answer)) (memory (now (nodes .exit)) (now (slots .exit)) (r .arena)) ⌝ }
+    ensures { λ r. ⌜ BuildsSound (M.requested (M.variable symbol)) (memory (now (nodes .entry)) (now (slots .entry)) arena)
+        (answerOf (r .answer)) (memory (now (nodes .exit)) (now (slots .exit)) (r .arena)) ⌝ }
 {
     build_sound(nodes, slots, arena, true, VARIABLE, symbol as u64, 0, &[])
 }
 
-// `add` and `mul` give flags 3, other constructors 0.
+// The flags of a kind whose operands may be swapped and regrouped.
+const BOTH_FLAGS: u64 = 3;
+
+// `add` and `mul` give both flags, other constructors none.
 fn flags_of(kind: u64) -> u64
     ensures { λ r. ⌜ r ≡ flagsOf kind ⌝ }
 {
     if kind == ADD {
-        return 3;
+        return BOTH_FLAGS;
     }
     if kind == MUL {
-        return 3;
+        return BOTH_FLAGS;
     }
     0
 }
@@ -79,7 +83,8 @@ fn operator(
     second: u32,
 ) -> Built
     requires { ⌜ Sound (now nodes) (now slots) arena ⌝ }
-    ensures { λ r. ⌜ BuildsSound (M.requested (called (operatorToken kind) first second)) (memory (now (nodes .entry)) (now (slots .entry)) arena) (answerOf (r .answer)) (memory (now (nodes .exit)) (now (slots .exit)) (r .arena)) ⌝ }
+    ensures { λ r. ⌜ BuildsSound (M.requested (operatorCall (operatorToken kind) first second))
+        (memory (now (nodes .entry)) (now (slots .entry)) arena) (answerOf (r .answer)) (memory (now (nodes .exit)) (now (slots .exit)) (r .arena)) ⌝ }
 {
     if kind < ADD {
         return build_sound(nodes, slots, arena, true, NEG, 0, 0, &[first]);
@@ -111,15 +116,17 @@ fn named(
     entries: &mut [u8],
     count: usize,
     bytes: &[u8],
-) -> Made
-    requires { ⌜ Held (desk (now nodes) (now slots) arena (now entries) count) × Allowed (length (now bytes)) ⌝ }
-    ensures { λ r. ⌜ Makes (Plain.perform (places (desk (now (nodes .entry)) (now (slots .entry)) arena (now (entries .entry)) count)) (name (now (bytes .entry))) 0 0 (viewed (desk (now (nodes .entry)) (now (slots .entry)) arena (now (entries .entry)) count))) (desk (now (nodes .entry)) (now (slots .entry)) arena (now (entries .entry)) count) (r .answer) (desk (now (nodes .exit)) (now (slots .exit)) (r .arena) (now (entries .exit)) (r .names)) ⌝ }
+) -> ReadOutcome
+    requires { ⌜ BothSound (controllerMemory (now nodes) (now slots) arena (now entries) count) × Allowed (length (now bytes)) ⌝ }
+    ensures { λ r. ⌜ Performs (name (now (bytes .entry))) 0 0
+        (controllerMemory (now (nodes .entry)) (now (slots .entry)) arena (now (entries .entry)) count) (r .answer)
+        (controllerMemory (now (nodes .exit)) (now (slots .exit)) (r .arena) (now (entries .exit)) (r .names)) ⌝ }
 {
     let interned = names::intern_allowed(entries, count, bytes);
     let answer = interned.answer;
     let after = interned.count;
     let names::Answer::Numbered(symbol) = answer else {
-        return Made {
+        return ReadOutcome {
             answer: Answer::Refused(refusal_of(answer)),
             arena,
             names: after,
@@ -128,7 +135,7 @@ fn named(
     let built = variable(nodes, slots, arena, symbol);
     let id = built.answer;
     let grown = built.arena;
-    Made {
+    ReadOutcome {
         answer: id,
         arena: grown,
         names: after,
@@ -144,12 +151,14 @@ fn leaf(
     arena: DagArena,
     entries: &mut [u8],
     count: usize,
-) -> Made
-    requires { ⌜ Held (desk (now nodes) (now slots) arena (now entries) count) ⌝ }
-    ensures { λ r. ⌜ Makes (Plain.perform (places (desk (now (nodes .entry)) (now (slots .entry)) arena (now (entries .entry)) count)) (atomToken (atomOf (drop at (now (text .entry))))) 0 0 (viewed (desk (now (nodes .entry)) (now (slots .entry)) arena (now (entries .entry)) count))) (desk (now (nodes .entry)) (now (slots .entry)) arena (now (entries .entry)) count) (r .answer) (desk (now (nodes .exit)) (now (slots .exit)) (r .arena) (now (entries .exit)) (r .names)) ⌝ }
+) -> ReadOutcome
+    requires { ⌜ BothSound (controllerMemory (now nodes) (now slots) arena (now entries) count) ⌝ }
+    ensures { λ r. ⌜ Performs (atomToken (atomOf (drop at (now (text .entry))))) 0 0
+        (controllerMemory (now (nodes .entry)) (now (slots .entry)) arena (now (entries .entry)) count) (r .answer)
+        (controllerMemory (now (nodes .exit)) (now (slots .exit)) (r .arena) (now (entries .exit)) (r .names)) ⌝ }
 {
     if name_starts(text, at) {
-        let end = run(text, at + 1, 1, 31);
+        let end = name_end(text, at);
         let bytes = &text[at..end];
         return named(nodes, slots, arena, entries, count, bytes);
     }
@@ -157,21 +166,11 @@ fn leaf(
     let built = number(nodes, slots, arena, bits);
     let id = built.answer;
     let grown = built.arena;
-    Made {
+    ReadOutcome {
         answer: id,
         arena: grown,
         names: count,
     }
-}
-
-// Whether a letter stands at a place.
-pub(crate) fn name_starts(text: &[u8], at: usize) -> bool
-    ensures { λ r. ⌜ r ≡ isLetter (getD (now (text .entry)) at 0) ⌝ }
-{
-    if at >= text.len() {
-        return false;
-    }
-    is_letter(text[at])
 }
 
 // One token: its call or calls, over the last two results.
@@ -185,9 +184,11 @@ fn perform(
     arena: DagArena,
     entries: &mut [u8],
     count: usize,
-) -> Made
-    requires { ⌜ Held (desk (now nodes) (now slots) arena (now entries) count) ⌝ }
-    ensures { λ r. ⌜ Makes (Plain.perform (places (desk (now (nodes .entry)) (now (slots .entry)) arena (now (entries .entry)) count)) (tokenAt (now (text .entry)) word) first second (viewed (desk (now (nodes .entry)) (now (slots .entry)) arena (now (entries .entry)) count))) (desk (now (nodes .entry)) (now (slots .entry)) arena (now (entries .entry)) count) (r .answer) (desk (now (nodes .exit)) (now (slots .exit)) (r .arena) (now (entries .exit)) (r .names)) ⌝ }
+) -> ReadOutcome
+    requires { ⌜ BothSound (controllerMemory (now nodes) (now slots) arena (now entries) count) ⌝ }
+    ensures { λ r. ⌜ Performs (tokenAt (now (text .entry)) word) first second
+        (controllerMemory (now (nodes .entry)) (now (slots .entry)) arena (now (entries .entry)) count) (r .answer)
+        (controllerMemory (now (nodes .exit)) (now (slots .exit)) (r .arena) (now (entries .exit)) (r .names)) ⌝ }
 {
     if word < FIRST_OPERATOR {
         return leaf(text, word as usize, nodes, slots, arena, entries, count);
@@ -196,34 +197,17 @@ fn perform(
     let built = operator(nodes, slots, arena, kind, first, second);
     let id = built.answer;
     let grown = built.arena;
-    Made {
+    ReadOutcome {
         answer: id,
         arena: grown,
         names: count,
     }
 }
 
-// How many results a token takes.
-fn taken(word: u16) -> usize
-    ensures { λ r. ⌜ ((text : List ℕ) → r ≡ operands (tokenAt text word)) ⌝ }
-{
-    if word < FIRST_OPERATOR {
-        return 0;
-    }
-    let kind = word - FIRST_OPERATOR;
-    if kind < 2 {
-        return 1;
-    }
-    if 6 < kind {
-        return 1;
-    }
-    2
-}
-
 // The last result but so many, or 0.
 fn waiting(stack: &[u32; MOST_WAITING], height: usize, back: usize) -> u32
     requires { ⌜ (length (now stack) ≡ mostWaiting) × (height ≤ mostWaiting) ⌝ }
-    ensures { λ r. ⌜ r ≡ getD (pile (now (stack .entry)) height) back 0 ⌝ }
+    ensures { λ r. ⌜ r ≡ getD (stackOf (now (stack .entry)) height) back 0 ⌝ }
 {
     if back < height {
         stack[height - 1 - back]
@@ -242,9 +226,12 @@ pub(crate) fn run_program(
     arena: DagArena,
     entries: &mut [u8],
     names: usize,
-) -> Made
-    requires { ⌜ Held (desk (now nodes) (now slots) arena (now entries) names) × (size ≤ length (now program)) × Fits 0 (tokens (now text) (now program) size) ⌝ }
-    ensures { λ r. ⌜ Makes (Plain.run (places (desk (now (nodes .entry)) (now (slots .entry)) arena (now (entries .entry)) names)) (tokens (now (text .entry)) (now (program .entry)) size) [] (viewed (desk (now (nodes .entry)) (now (slots .entry)) arena (now (entries .entry)) names))) (desk (now (nodes .entry)) (now (slots .entry)) arena (now (entries .entry)) names) (r .answer) (desk (now (nodes .exit)) (now (slots .exit)) (r .arena) (now (entries .exit)) (r .names)) ⌝ }
+) -> ReadOutcome
+    requires { ⌜ BothSound (controllerMemory (now nodes) (now slots) arena (now entries) names)
+        × (size ≤ length (now program)) × Fits 0 (tokens (now text) (now program) size) ⌝ }
+    ensures { λ r. ⌜ RunsProgram (tokens (now (text .entry)) (now (program .entry)) size)
+        (controllerMemory (now (nodes .entry)) (now (slots .entry)) arena (now (entries .entry)) names) (r .answer)
+        (controllerMemory (now (nodes .exit)) (now (slots .exit)) (r .arena) (now (entries .exit)) (r .names)) ⌝ }
 {
     let mut stack = [0u32; MOST_WAITING];
     let mut height: usize = 0;
@@ -274,13 +261,13 @@ pub(crate) fn run_program(
         let known = made.names;
         store = grown;
         count = known;
-        let place = height - taken(word);
+        let place = height - operand_count(word);
         stack[place] = id as u32;
         height = place + 1;
         i += 1;
     }
     let last = waiting(&stack, height, 0);
-    Made {
+    ReadOutcome {
         answer: Answer::Id(last as u64),
         arena: store,
         names: count,

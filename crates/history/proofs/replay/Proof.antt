@@ -25,7 +25,7 @@ same-length-2 : tie.Need-same-length-2
 same-length-2 c = search needs
 
 returns : tie.Need-returns
-returns c = replays-refused _ _ _ _ _ _ _ _ (c .before .before .before .before .before .before .fresh .ensures) (c .before .before .number .given .1)
+returns c = replays-refused _ _ _ _ _ _ _ _ (c .before .before .before .before .before .before .fresh .ensures) (c .before .before .number .given .1) (c .at-first .ensures)
 
 same-length-3 : tie.Need-same-length-3
 same-length-3 c = search needs

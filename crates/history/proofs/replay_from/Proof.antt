@@ -18,7 +18,7 @@ at-first-requires : tie.Need-at-first-requires Inv-loop μ-loop
 at-first-requires c κs = search needs
 
 loop-holds : tie.Need-loop-holds Inv-loop μ-loop
-loop-holds c = (omega arith, refl, refl, refl, none-run _ _ _ (c .at-first .ensures .0))
+loop-holds c = (omega arith, refl, refl, refl, none-run _ _ _ (c .at-first .ensures .0) (c .at-first .ensures .1))
 
 next-call-requires : tie.Need-next-call-requires Inv-loop μ-loop
 next-call-requires c κs = c .before .loop .inv .0

@@ -1,5 +1,4 @@
 use mathlib.Core.Path.{refl}
-use native.Mathlib.Omega.{arith}
 use Rattle.history.proofs.CodeCalls.{runs-store, runs-naming, runs-reading, last-reading}
 use borrow.Author.Needs.{needs}
 use Rattle.history.proofs.calling.call.Statement.{statement}

@@ -3,16 +3,16 @@ use mathlib.Core.Path.{refl}
 use mathlib.Core.Logic.{inl, inr}
 use native.Mathlib.Omega.{arith}
 use borrow.Author.Needs.{needs}
-use Rattle.history.specs.Calling.{mostSpelled}
+use Rattle.history.specs.Calling.{mostNameBytes}
 use Rattle.history.proofs.Spelling.{SpelledTo, spell-more, spelled-whole}
 use Rattle.history.proofs.naming.spell.Statement.{statement}
 use Rattle.history.proofs.naming.spell.Tie as tie
 
 abbrev Inv-loop : tie.InvT-loop
-Inv-loop operands bytes₀ i₀ bytes i = SpelledTo mostSpelled operands bytes i
+Inv-loop operands bytes₀ i₀ bytes i = SpelledTo mostNameBytes operands bytes i
 
 abbrev μ-loop : tie.MeasureT-loop
-μ-loop operands bytes₀ i₀ bytes i = mostSpelled - i
+μ-loop operands bytes₀ i₀ bytes i = mostNameBytes - i
 
 loop-holds : tie.Need-loop-holds Inv-loop μ-loop
 loop-holds c = record { few = omega arith; there = omega arith; size = refl; is = refl }

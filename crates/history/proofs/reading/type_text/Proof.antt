@@ -4,19 +4,19 @@ use mathlib.Core.Logic.{inl, inr}
 use lib.ListN.{length-replicate}
 use native.Mathlib.Omega.{arith}
 use borrow.Author.Needs.{needs}
-use Rattle.history.specs.Calling.{mostTyped}
+use Rattle.history.specs.Calling.{mostTextBytes}
 use Rattle.history.proofs.Spelling.{SpelledTo, spell-more, spelled-whole}
 use Rattle.history.proofs.reading.type_text.Statement.{statement}
 use Rattle.history.proofs.reading.type_text.Tie as tie
 
 abbrev Inv-loop : tie.InvT-loop
-Inv-loop operands bytes₀ i₀ bytes i = SpelledTo mostTyped operands bytes i
+Inv-loop operands bytes₀ i₀ bytes i = SpelledTo mostTextBytes operands bytes i
 
 abbrev μ-loop : tie.MeasureT-loop
-μ-loop operands bytes₀ i₀ bytes i = mostTyped - i
+μ-loop operands bytes₀ i₀ bytes i = mostTextBytes - i
 
 loop-holds : tie.Need-loop-holds Inv-loop μ-loop
-loop-holds c = record { few = omega arith; there = omega arith; size = length-replicate {A = ℕ} mostTyped 0; is = refl }
+loop-holds c = record { few = omega arith; there = omega arith; size = length-replicate {A = ℕ} mostTextBytes 0; is = refl }
 
 returns : tie.Need-returns Inv-loop μ-loop
 returns c = spelled-whole _ _ _ _ (c .before .before .loop .inv) (inr (c .if1 .taken))

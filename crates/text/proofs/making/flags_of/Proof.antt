@@ -1,5 +1,4 @@
-use mathlib.Core.Path.{refl, sym, ap}
-use mathlib.Core.Bool.{Bool, _||_, cond}
+use mathlib.Core.Path.{refl}
 use borrow.Author.Tests.{eq-eqb, ne-eqb}
 use Rattle.text.proofs.making.flags_of.Statement.{statement}
 use Rattle.text.proofs.making.flags_of.Tie as tie

@@ -1,9 +1,6 @@
-use mathlib.Core.Path.{sym, _∙_, subst}
+use mathlib.Core.Path.{sym, _∙_}
 use native.Mathlib.Omega.{arith}
-use Rattle.text_language.specs.Program.{Token}
-use Rattle.definitions.specs.Making.{perform}
 use Rattle.text_language.proofs.Tokens.{letter-inside, name-token, name-short}
-use Rattle.text.specs.Making.{Makes}
 use Rattle.text.proofs.Performing.{makes-number, makes-token}
 use borrow.Author.Needs.{needs}
 use Rattle.text.proofs.making.leaf.Statement.{statement}
@@ -12,11 +9,8 @@ use Rattle.text.proofs.making.leaf.Tie as tie
 name-starts-requires : tie.Need-name-starts-requires
 name-starts-requires c κs = search needs
 
-add-run : tie.Need-add-run
-add-run c = let l = letter-inside (c .before .before .before .before .before .before .args .text .now) (c .before .before .before .before .before .before .args .at) (sym (c .before .name-starts .ensures) ∙ c .if1 .taken) in omega (arith, l)
-
-run-requires : tie.Need-run-requires
-run-requires c κs = let l = letter-inside (c .before .before .before .before .before .before .args .text .now) (c .before .before .before .before .before .before .args .at) (sym (c .before .name-starts .ensures) ∙ c .if1 .taken) in omega (arith, l)
+name-end-requires : tie.Need-name-end-requires
+name-end-requires c κs = let l = letter-inside (c .before .before .before .before .before .before .args .text .now) (c .before .before .before .before .before .before .args .at) (sym (c .before .name-starts .ensures) ∙ c .if1 .taken) in omega (arith, l)
 
 sub-bytes : tie.Need-sub-bytes
 sub-bytes c = search needs
@@ -28,7 +22,7 @@ part-bytes-end : tie.Need-part-bytes-end
 part-bytes-end c = search needs
 
 named-requires : tie.Need-named-requires
-named-requires c κs = (c .before .before .before .before .before .before .before .before .before .before .before .pre, let n = name-short _ _ _ (letter-inside (c .before .before .before .before .before .before .before .before .before .before .before .args .text .now) (c .before .before .before .before .before .before .before .before .before .before .before .args .at) (sym (c .before .before .before .before .before .before .name-starts .ensures) ∙ c .before .before .before .before .before .if1 .taken)) (sym (c .before .before .before .before .before .before .name-starts .ensures) ∙ c .before .before .before .before .before .if1 .taken) (c .before .before .before .before .run .ensures) in record { shortest = n .0; longest = n .1 })
+named-requires c κs = (c .before .before .before .before .before .before .before .before .before .before .before .pre, let n = name-short _ _ _ (letter-inside (c .before .before .before .before .before .before .before .before .before .before .before .args .text .now) (c .before .before .before .before .before .before .before .before .before .before .before .args .at) (sym (c .before .before .before .before .before .before .name-starts .ensures) ∙ c .before .before .before .before .before .if1 .taken)) (sym (c .before .before .before .before .before .before .name-starts .ensures) ∙ c .before .before .before .before .before .if1 .taken) (c .before .before .before .before .name-end .ensures) in record { shortest = n .0; longest = n .1 })
 
 same-length : tie.Need-same-length
 same-length c = search needs
@@ -40,7 +34,7 @@ same-length-3 : tie.Need-same-length-3
 same-length-3 c = search needs
 
 returns : tie.Need-returns
-returns c = makes-token _ _ _ _ _ _ _ _ _ (sym (name-token _ _ _ (letter-inside (c .before .before .before .before .before .before .before .before .before .before .before .before .before .before .before .before .before .before .args .text .now) (c .before .before .before .before .before .before .before .before .before .before .before .before .before .before .before .before .before .before .args .at) (sym (c .before .before .before .before .before .before .before .before .before .before .before .before .before .name-starts .ensures) ∙ c .before .before .before .before .before .before .before .before .before .before .before .before .if1 .taken)) (sym (c .before .before .before .before .before .before .before .before .before .before .before .before .before .name-starts .ensures) ∙ c .before .before .before .before .before .before .before .before .before .before .before .before .if1 .taken) (c .before .before .before .before .before .before .before .before .before .before .before .run .ensures))) (c .before .before .before .before .before .before .named .ensures)
+returns c = makes-token _ _ _ _ _ _ _ _ _ (sym (name-token _ _ _ (letter-inside (c .before .before .before .before .before .before .before .before .before .before .before .before .before .before .before .before .before .before .args .text .now) (c .before .before .before .before .before .before .before .before .before .before .before .before .before .before .before .before .before .before .args .at) (sym (c .before .before .before .before .before .before .before .before .before .before .before .before .before .name-starts .ensures) ∙ c .before .before .before .before .before .before .before .before .before .before .before .before .if1 .taken)) (sym (c .before .before .before .before .before .before .before .before .before .before .before .before .before .name-starts .ensures) ∙ c .before .before .before .before .before .before .before .before .before .before .before .before .if1 .taken) (c .before .before .before .before .before .before .before .before .before .before .before .name-end .ensures))) (c .before .before .before .before .before .before .named .ensures)
 
 bits-at-requires : tie.Need-bits-at-requires
 bits-at-requires c κs = sym (c .before .name-starts .ensures) ∙ c .if1 .left
@@ -62,8 +56,7 @@ leaf-spec =
     tie.close
     (tie.spec
     name-starts-requires
-    add-run
-    run-requires
+    name-end-requires
     sub-bytes
     part-bytes-start
     part-bytes-end

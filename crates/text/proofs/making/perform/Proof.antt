@@ -1,7 +1,5 @@
-use mathlib.Core.Path.{sym, _∙_, subst}
 use Rattle.text_language.specs.Program.{operatorToken}
-use Rattle.definitions.specs.Making.{Made}
-use Rattle.text.specs.Making.{Makes, called}
+use Rattle.text.specs.Making.{operatorCall}
 use Rattle.text.proofs.Performing.{makes-store, makes-as, perform-place, perform-kind}
 use borrow.Author.Needs.{needs}
 use Rattle.text.proofs.making.perform.Statement.{statement}
@@ -35,7 +33,7 @@ same-length-5 : tie.Need-same-length-5
 same-length-5 c = search needs
 
 returns-2 : tie.Need-returns-2
-returns-2 c = makes-as _ _ _ _ _ (perform-kind _ _ (c .before .before .before .before .before .before .before .before .if1 .left) _ _ _ _) (makes-store (called (operatorToken _) _ _) _ (c .before .before .before .before .before .before .before .before .before .before .before .before .before .pre) _ _ _ _ (c .before .before .before .before .before .operator .ensures))
+returns-2 c = makes-as _ _ _ _ _ (perform-kind _ _ (c .before .before .before .before .before .before .before .before .if1 .left) _ _ _ _) (makes-store (operatorCall (operatorToken _) _ _) _ (c .before .before .before .before .before .before .before .before .before .before .before .before .before .pre) _ _ _ _ (c .before .before .before .before .before .operator .ensures))
 
 pub perform-spec : {M : Type 1} → statement M
 perform-spec =

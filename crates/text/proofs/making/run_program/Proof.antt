@@ -3,15 +3,15 @@ use mathlib.Core.Path.{_≡_}
 use lib.ListN.{length}
 use native.Mathlib.Omega.{arith}
 use borrow.Author.Needs.{needs}
-use Rattle.text.specs.Making.{desk}
-use Rattle.text.proofs.Performing.{held}
-use Rattle.text.proofs.Running.{Running, running-start, running-end, running-stopped, running-room, running-low, running-on}
+use Rattle.text.specs.Memory.{controllerMemory}
+use Rattle.text.proofs.Performing.{sound-after}
+use Rattle.text.proofs.Running.{Running, running-start, running-end, running-stopped, running-room, running-fits, running-on}
 use Rattle.text.proofs.making.run_program.Statement.{statement}
 use Rattle.text.proofs.making.run_program.Tie as tie
 
 abbrev Inv-loop : tie.InvT-loop
 Inv-loop text program size nodes₀ slots₀ entries₀ names stack₀ height₀ store₀ count₀ i₀ nodes slots entries stack height store count i =
-    Running text program size (desk nodes₀ slots₀ store₀ entries₀ names) (desk nodes slots store entries count) stack height i × (length nodes ≡ length nodes₀) × (length slots ≡ length slots₀) × (length entries ≡ length entries₀)
+    Running text program size (controllerMemory nodes₀ slots₀ store₀ entries₀ names) (controllerMemory nodes slots store entries count) stack height i × (length nodes ≡ length nodes₀) × (length slots ≡ length slots₀) × (length entries ≡ length entries₀)
 
 abbrev μ-loop : tie.MeasureT-loop
 μ-loop text program size nodes₀ slots₀ entries₀ names stack₀ height₀ store₀ count₀ i₀ nodes slots entries stack height store count i =
@@ -33,7 +33,7 @@ waiting-requires-2 : tie.Need-waiting-requires-2 Inv-loop μ-loop
 waiting-requires-2 c κs = (c .before .before .before .before .before .loop .inv .0 .wide, c .before .before .before .before .before .loop .inv .0 .high)
 
 perform-requires : tie.Need-perform-requires Inv-loop μ-loop
-perform-requires c κs = held _ _ (c .before .before .before .before .before .before .before .before .before .loop .inv .0 .follows)
+perform-requires c κs = sound-after _ _ (c .before .before .before .before .before .before .before .before .before .loop .inv .0 .extends)
 
 enum-known-answer : tie.Need-enum-known-answer Inv-loop μ-loop
 enum-known-answer c = search needs
@@ -53,23 +53,23 @@ same-length-3 c = search needs
 returns : tie.Need-returns Inv-loop μ-loop
 returns c = running-stopped _ _ _ _ _ _ _ _ (c .before .before .before .before .before .before .before .before .before .before .before .before .before .before .before .before .before .before .loop .inv .0) (c .before .before .before .before .before .before .before .before .before .before .before .before .before .before .before .before .before .loop-test .taken) (c .before .before .before .before .before .before .before .before .before .before .before .before .before .before .before .before .before .before .before .before .before .before .before .before .pre .1) _ _ (c .before .before .before .before .before .before .before .before .before .before .before .before .before .before .waiting .ensures) (c .before .before .before .before .before .before .before .before .before .before .before .before .waiting2 .ensures) _ _ (c .before .before .before .before .before .before .before .before .perform .ensures) _ (c .enum-told .given .1)
 
-taken-requires : tie.Need-taken-requires Inv-loop μ-loop
-taken-requires c κs = search needs
+operand-count-requires : tie.Need-operand-count-requires Inv-loop μ-loop
+operand-count-requires c κs = search needs
 
 sub-place : tie.Need-sub-place Inv-loop μ-loop
-sub-place c = running-room _ _ _ _ _ _ _ _ (c .before .before .before .before .before .before .before .before .before .before .before .before .before .before .before .before .before .before .before .before .before .loop .inv .0) (c .before .before .before .before .before .before .before .before .before .before .before .before .before .before .before .before .before .before .before .before .loop-test .taken) (c .before .before .before .before .before .before .before .before .before .before .before .before .before .before .before .before .before .before .before .before .before .before .before .before .before .before .before .pre .1) _ _ (c .before .before .before .before .before .before .before .before .before .before .before .before .before .before .before .before .before .waiting .ensures) (c .before .before .before .before .before .before .before .before .before .before .before .before .before .before .before .waiting2 .ensures) _ _ (c .before .before .before .before .before .before .before .before .before .before .before .perform .ensures) _ (c .taken .ensures _) .0
+sub-place c = running-room _ _ _ _ _ _ _ _ (c .before .before .before .before .before .before .before .before .before .before .before .before .before .before .before .before .before .before .before .before .before .loop .inv .0) (c .before .before .before .before .before .before .before .before .before .before .before .before .before .before .before .before .before .before .before .before .loop-test .taken) (c .before .before .before .before .before .before .before .before .before .before .before .before .before .before .before .before .before .before .before .before .before .before .before .before .before .before .before .pre .1) _ _ (c .before .before .before .before .before .before .before .before .before .before .before .before .before .before .before .before .before .waiting .ensures) (c .before .before .before .before .before .before .before .before .before .before .before .before .before .before .before .waiting2 .ensures) _ _ (c .before .before .before .before .before .before .before .before .before .before .before .perform .ensures) _ (c .operand-count .ensures _) .0
 
 cast-stack : tie.Need-cast-stack Inv-loop μ-loop
-cast-stack c = let l = running-low _ _ _ _ _ _ _ _ (c .before .before .before .before .before .before .before .before .before .before .before .before .before .before .before .before .before .before .before .before .before .loop .inv .0) (c .before .before .before .before .before .before .before .before .before .before .before .before .before .before .before .before .before .before .before .before .loop-test .taken) (c .before .before .before .before .before .before .before .before .before .before .before .before .before .before .before .before .before .before .before .before .before .before .before .before .before .before .before .pre .1) _ _ (c .before .before .before .before .before .before .before .before .before .before .before .before .before .before .before .before .before .waiting .ensures) (c .before .before .before .before .before .before .before .before .before .before .before .before .before .before .before .waiting2 .ensures) _ _ (c .before .before .before .before .before .before .before .before .before .before .before .perform .ensures) _ (c .before .before .before .answer .given .1) in omega (arith, l)
+cast-stack c = let l = running-fits _ _ _ _ _ _ _ _ (c .before .before .before .before .before .before .before .before .before .before .before .before .before .before .before .before .before .before .before .before .before .loop .inv .0) (c .before .before .before .before .before .before .before .before .before .before .before .before .before .before .before .before .before .before .before .before .loop-test .taken) (c .before .before .before .before .before .before .before .before .before .before .before .before .before .before .before .before .before .before .before .before .before .before .before .before .before .before .before .pre .1) _ _ (c .before .before .before .before .before .before .before .before .before .before .before .before .before .before .before .before .before .waiting .ensures) (c .before .before .before .before .before .before .before .before .before .before .before .before .before .before .before .waiting2 .ensures) _ _ (c .before .before .before .before .before .before .before .before .before .before .before .perform .ensures) _ (c .before .before .before .answer .given .1) in omega (arith, l)
 
 mul-stack : tie.Need-mul-stack Inv-loop μ-loop
 mul-stack c = search needs
 
 array-write-stack : tie.Need-array-write-stack Inv-loop μ-loop
-array-write-stack c = let w = c .before .before .before .before .before .before .before .before .before .before .before .before .before .before .before .before .before .before .before .before .before .loop .inv .0 .wide in let k = running-room _ _ _ _ _ _ _ _ (c .before .before .before .before .before .before .before .before .before .before .before .before .before .before .before .before .before .before .before .before .before .loop .inv .0) (c .before .before .before .before .before .before .before .before .before .before .before .before .before .before .before .before .before .before .before .before .loop-test .taken) (c .before .before .before .before .before .before .before .before .before .before .before .before .before .before .before .before .before .before .before .before .before .before .before .before .before .before .before .pre .1) _ _ (c .before .before .before .before .before .before .before .before .before .before .before .before .before .before .before .before .before .waiting .ensures) (c .before .before .before .before .before .before .before .before .before .before .before .before .before .before .before .waiting2 .ensures) _ _ (c .before .before .before .before .before .before .before .before .before .before .before .perform .ensures) _ (c .taken .ensures _) .1 in omega (arith, w, k)
+array-write-stack c = let w = c .before .before .before .before .before .before .before .before .before .before .before .before .before .before .before .before .before .before .before .before .before .loop .inv .0 .wide in let k = running-room _ _ _ _ _ _ _ _ (c .before .before .before .before .before .before .before .before .before .before .before .before .before .before .before .before .before .before .before .before .before .loop .inv .0) (c .before .before .before .before .before .before .before .before .before .before .before .before .before .before .before .before .before .before .before .before .loop-test .taken) (c .before .before .before .before .before .before .before .before .before .before .before .before .before .before .before .before .before .before .before .before .before .before .before .before .before .before .before .pre .1) _ _ (c .before .before .before .before .before .before .before .before .before .before .before .before .before .before .before .before .before .waiting .ensures) (c .before .before .before .before .before .before .before .before .before .before .before .before .before .before .before .waiting2 .ensures) _ _ (c .before .before .before .before .before .before .before .before .before .before .before .perform .ensures) _ (c .operand-count .ensures _) .1 in omega (arith, w, k)
 
 add-height : tie.Need-add-height Inv-loop μ-loop
-add-height c = let k = running-room _ _ _ _ _ _ _ _ (c .before .before .before .before .before .before .before .before .before .before .before .before .before .before .before .before .before .before .before .before .before .loop .inv .0) (c .before .before .before .before .before .before .before .before .before .before .before .before .before .before .before .before .before .before .before .before .loop-test .taken) (c .before .before .before .before .before .before .before .before .before .before .before .before .before .before .before .before .before .before .before .before .before .before .before .before .before .before .before .pre .1) _ _ (c .before .before .before .before .before .before .before .before .before .before .before .before .before .before .before .before .before .waiting .ensures) (c .before .before .before .before .before .before .before .before .before .before .before .before .before .before .before .waiting2 .ensures) _ _ (c .before .before .before .before .before .before .before .before .before .before .before .perform .ensures) _ (c .taken .ensures _) .1 in omega (arith, k)
+add-height c = let k = running-room _ _ _ _ _ _ _ _ (c .before .before .before .before .before .before .before .before .before .before .before .before .before .before .before .before .before .before .before .before .before .loop .inv .0) (c .before .before .before .before .before .before .before .before .before .before .before .before .before .before .before .before .before .before .before .before .loop-test .taken) (c .before .before .before .before .before .before .before .before .before .before .before .before .before .before .before .before .before .before .before .before .before .before .before .before .before .before .before .pre .1) _ _ (c .before .before .before .before .before .before .before .before .before .before .before .before .before .before .before .before .before .waiting .ensures) (c .before .before .before .before .before .before .before .before .before .before .before .before .before .before .before .waiting2 .ensures) _ _ (c .before .before .before .before .before .before .before .before .before .before .before .perform .ensures) _ (c .operand-count .ensures _) .1 in omega (arith, k)
 
 add-i : tie.Need-add-i Inv-loop μ-loop
 add-i c = let f = c .before .before .before .before .before .before .before .before .before .before .before .before .before .before .before .before .before .before .before .before .before .before .before .before .before .before .before .fits .size .fits in let t = c .before .before .before .before .before .before .before .before .before .before .before .before .before .before .before .before .before .before .before .before .loop-test .taken in omega (arith, f, t)
@@ -78,7 +78,7 @@ loop-less : tie.Need-loop-less Inv-loop μ-loop
 loop-less c = omega arith
 
 loop-again : tie.Need-loop-again Inv-loop μ-loop
-loop-again c = (running-on _ _ _ _ _ _ _ _ (c .before .before .before .before .before .before .before .before .before .before .before .before .before .before .before .before .before .before .before .before .before .loop .inv .0) (c .before .before .before .before .before .before .before .before .before .before .before .before .before .before .before .before .before .before .before .before .loop-test .taken) (c .before .before .before .before .before .before .before .before .before .before .before .before .before .before .before .before .before .before .before .before .before .before .before .before .before .before .before .pre .1) _ _ (c .before .before .before .before .before .before .before .before .before .before .before .before .before .before .before .before .before .waiting .ensures) (c .before .before .before .before .before .before .before .before .before .before .before .before .before .before .before .waiting2 .ensures) _ _ (c .before .before .before .before .before .before .before .before .before .before .before .perform .ensures) _ _ (c .before .before .before .answer .given .1) (c .taken .ensures _), search needs, search needs, search needs)
+loop-again c = (running-on _ _ _ _ _ _ _ _ (c .before .before .before .before .before .before .before .before .before .before .before .before .before .before .before .before .before .before .before .before .before .loop .inv .0) (c .before .before .before .before .before .before .before .before .before .before .before .before .before .before .before .before .before .before .before .before .loop-test .taken) (c .before .before .before .before .before .before .before .before .before .before .before .before .before .before .before .before .before .before .before .before .before .before .before .before .before .before .before .pre .1) _ _ (c .before .before .before .before .before .before .before .before .before .before .before .before .before .before .before .before .before .waiting .ensures) (c .before .before .before .before .before .before .before .before .before .before .before .before .before .before .before .waiting2 .ensures) _ _ (c .before .before .before .before .before .before .before .before .before .before .before .perform .ensures) _ _ (c .before .before .before .answer .given .1) (c .operand-count .ensures _), search needs, search needs, search needs)
 
 waiting-requires-3 : tie.Need-waiting-requires-3 Inv-loop μ-loop
 waiting-requires-3 c κs = (c .before .before .loop .inv .0 .wide, c .before .before .loop .inv .0 .high)
@@ -116,7 +116,7 @@ run-program-spec =
     same-length-2
     same-length-3
     returns
-    taken-requires
+    operand-count-requires
     sub-place
     cast-stack
     mul-stack

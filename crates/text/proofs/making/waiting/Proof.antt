@@ -1,5 +1,5 @@
 use mathlib.Core.Path.{sym}
-use Rattle.text.proofs.Running.{pile-at, pile-none}
+use Rattle.text.proofs.Running.{stack-at, stack-none}
 use borrow.Author.Needs.{needs}
 use Rattle.text.proofs.making.waiting.Statement.{statement}
 use Rattle.text.proofs.making.waiting.Tie as tie
@@ -17,10 +17,10 @@ element-copy-out-result : tie.Need-element-copy-out-result
 element-copy-out-result c = search needs
 
 returns : tie.Need-returns
-returns c = sym (pile-at _ _ _ (c .before .if1 .taken))
+returns c = sym (stack-at _ _ _ (c .before .if1 .taken))
 
 returns-2 : tie.Need-returns-2
-returns-2 c = sym (pile-none _ _ _ (c .if1 .left))
+returns-2 c = sym (stack-none _ _ _ (c .if1 .left))
 
 pub waiting-spec : {M : Type 1} → statement M
 waiting-spec =
