@@ -1,8 +1,9 @@
 /*
  * Builds the dosing formula of samples/dosing.txt by calls of the library,
- * simplifies it, prunes it, and reads its nodes back. Standard output gets the
- * listing that document 01 describes, which the loader reads; standard error
- * gets what simplify and prune report.
+ * simplifies it, prunes it with the knob fully down and then at a threshold, and
+ * reads its nodes back. Standard output gets the listing that document 01
+ * describes, which the loader reads; standard error gets what simplify and both
+ * prunes report.
  */
 #include "curvalique.h"
 
@@ -14,11 +15,12 @@
 #define NODES 64
 #define SLOTS 128
 
-/* The symbols of the variables, and what is asked of simplify and prune. */
+/* The symbols of the variables, and what is asked of simplify and of both prunes. */
 #define FLOW 1
 #define CHLORINE 2
 #define DEPTH 255
 #define BUDGET 1000000
+#define KNOB_DOWN 0
 #define THRESHOLD 0.01
 
 /* Places of a node's words. */
@@ -86,12 +88,23 @@ static uint32_t simplify(uint32_t root) {
     return (uint32_t)id;
 }
 
-static uint32_t prune(uint32_t root) {
-    uint64_t id, kept, dropped;
-    answered("prune", curvalique_prune(STORE, root, bits_of(THRESHOLD), &id, &kept, &dropped));
+static uint32_t pruned(uint32_t root, uint64_t id, uint64_t kept, uint64_t dropped) {
     fprintf(stderr, "pruned %" PRIu32 " to %" PRIu64, root, id);
     fprintf(stderr, ": kept %" PRIu64 ", dropped %" PRIu64 "\n", kept, dropped);
     return (uint32_t)id;
+}
+
+/* The knob fully down prunes nothing: the formula is answered itself. */
+static uint32_t prune_knob_down(uint32_t root) {
+    uint64_t id, kept, dropped;
+    answered("prune by setting", curvalique_prune_by_setting(STORE, root, KNOB_DOWN, &id, &kept, &dropped));
+    return pruned(root, id, kept, dropped);
+}
+
+static uint32_t prune(uint32_t root) {
+    uint64_t id, kept, dropped;
+    answered("prune", curvalique_prune(STORE, root, bits_of(THRESHOLD), &id, &kept, &dropped));
+    return pruned(root, id, kept, dropped);
 }
 
 static void print_node(uint32_t id) {
@@ -106,7 +119,7 @@ static void print_node(uint32_t id) {
 
 int main(void) {
     answered("fresh", curvalique_fresh(STORE));
-    uint32_t answer = prune(simplify(formula()));
+    uint32_t answer = prune(prune_knob_down(simplify(formula())));
     printf("ok %" PRIu32 "\n", answer);
     for (uint32_t id = 0; id < count; id++) {
         print_node(id);
