@@ -38,7 +38,7 @@ pub(crate) fn not_numbers() {
     text(b"\n");
 }
 
-// Over the thresholds of settings 100 and 10 and the numbers below them; 8 for 9 and 101, also for a root that is no sum.
+// Over the thresholds of settings 100 and 10 and the numbers below them; 9 prunes nothing; 8 for 101, also for a root that is no sum.
 pub(crate) fn settings() {
     let mut nodes = [0u64; 640];
     let mut slots = [0u32; 128];

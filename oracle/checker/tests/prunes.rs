@@ -259,7 +259,7 @@ fn not_sound() -> Test {
     let mut test = Test::with("not sound", &[], &[]);
     test.store.words[FLAGS_WORD] = 8;
     test.prune(1, NOT_A_NUMBER);
-    test.prune_by_setting(1, 0);
+    test.prune_by_setting(1, 101);
     test
 }
 
@@ -268,9 +268,9 @@ fn order() -> Test {
     test.variables(1);
     test.doubled(13);
     test.prune(14, NOT_A_NUMBER);
-    test.prune_by_setting(u32::MAX, 0);
+    test.prune_by_setting(u32::MAX, 101);
     test.prune(13, NOT_A_NUMBER);
-    test.prune_by_setting(13, 0);
+    test.prune_by_setting(13, 101);
     test.prune(13, INFINITY);
     test.prune(12, INFINITY);
     test
