@@ -90,7 +90,7 @@ pub(crate) fn store_calls() {
     next(&mut calls, at, VARIABLE, 7, 0, 0, 0);
 }
 
-// 1 + (x + 0): spent after 2 steps, simplified to 1 + x, which is simplified itself in 3 steps of a budget of 3; pruned at 1/2, by setting 20
+// 1 + (x + 0): spent after 2 steps, simplified to 1 + x, which is simplified itself in 3 steps of a budget of 3; pruned at 1/2, by setting 40
 // and at 2, which keeps nothing and gives 0; x has no chain.
 pub(crate) fn rewriting_calls() {
     let mut calls = [0u32; LONGEST];
@@ -103,7 +103,7 @@ pub(crate) fn rewriting_calls() {
     at = next(&mut calls, at, SIMPLIFY, 4, 8, 0, 100);
     at = next(&mut calls, at, SIMPLIFY, 5, 8, 0, 3);
     at = next(&mut calls, at, PRUNE, 4, 0, HALF, 0);
-    at = next(&mut calls, at, PRUNE_BY_SETTING, 4, 20, 0, 0);
+    at = next(&mut calls, at, PRUNE_BY_SETTING, 4, 40, 0, 0);
     at = next(&mut calls, at, PRUNE, 4, 0, TWO, 0);
     next(&mut calls, at, PRUNE, 0, 0, HALF, 0);
 }

@@ -10,6 +10,7 @@ pub use digits::DECIMAL_BASE;
 pub use digits::HEX_BASE;
 pub use digits::HEX_DIGITS;
 pub use digits::ZERO;
+pub use digits::hex_line;
 pub use line::LINE_BYTES;
 pub use line::Line;
 ghost use mathlib.Core.List.{[], _∷_, _++_};

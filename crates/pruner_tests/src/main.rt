@@ -8,7 +8,7 @@
 // nested sums: 4,096 terms under 1,366 sums, of which 1,024 are below the threshold; 4,097 are refused.
 // nested last: the same with each sum as the last child of the next.
 // unary sums: a chain of one term under 60 sums.
-// at the ends, not numbers, settings: thresholds 0, 1, infinity, -0.0 and NaN; settings 10, 100, 9 and 101.
+// at the ends, not numbers, settings: thresholds 0, 1, infinity, -0.0 and NaN; settings 20, 200, 19 and 201.
 // simplified: prunes of one formula before a walk, after walks that ran out, and after a whole one.
 // in a full store, at a higher threshold, without room, one kept: an answer pruned again, at the same threshold and at a higher one.
 // not sound, order, no node place, no slot place, node place first: 20, 4, 7, 8, 23, 21 and 22, each before the next.

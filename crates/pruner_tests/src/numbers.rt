@@ -1,6 +1,6 @@
 // Bits of binary64 numbers.
 pub(crate) const MINUS_ZERO: u64 = 0x8000_0000_0000_0000;
-// 10^-3.7, the threshold of setting 10.
+// 10^-3.7, the threshold of setting 20.
 pub(crate) const LOWEST_SETTING: u64 = 0x3f2a_26fd_4727_80c4;
 
 pub(crate) const HUNDREDTH: u64 = 0x3f84_7ae1_47ae_147b;

@@ -25,7 +25,7 @@ pub(crate) fn not_sound() {
     nodes[FIRST_FLAGS] = UNLISTED_FLAGS;
     text(b"not sound:");
     let first = prune(&mut nodes, &mut slots, stored, 1, NOT_A_NUMBER);
-    prune_by_setting(&mut nodes, &mut slots, first, 1, 101);
+    prune_by_setting(&mut nodes, &mut slots, first, 1, 201);
     text(b"\n");
 }
 
@@ -37,9 +37,9 @@ pub(crate) fn order() {
     let stored = put_row(&mut nodes, &mut slots, x, Row::Doubled, 13);
     text(b"order:");
     let first = prune(&mut nodes, &mut slots, stored, 14, NOT_A_NUMBER);
-    let second = prune_by_setting(&mut nodes, &mut slots, first, 0xffff_ffff, 101);
+    let second = prune_by_setting(&mut nodes, &mut slots, first, 0xffff_ffff, 201);
     let third = prune(&mut nodes, &mut slots, second, 13, NOT_A_NUMBER);
-    let fourth = prune_by_setting(&mut nodes, &mut slots, third, 13, 101);
+    let fourth = prune_by_setting(&mut nodes, &mut slots, third, 13, 201);
     let fifth = prune(&mut nodes, &mut slots, fourth, 13, INFINITY);
     prune(&mut nodes, &mut slots, fifth, 12, INFINITY);
     text(b"\n");

@@ -38,7 +38,7 @@ pub(crate) fn not_numbers() {
     text(b"\n");
 }
 
-// Over the thresholds of settings 100 and 10 and the numbers below them; 9 prunes nothing; 8 for 101, also for a root that is no sum.
+// Over the thresholds of settings 200 and 20 and the numbers below them; 19 prunes nothing; 8 for 201, also for a root that is no sum.
 pub(crate) fn settings() {
     let mut nodes = [0u64; 640];
     let mut slots = [0u32; 128];
@@ -49,10 +49,10 @@ pub(crate) fn settings() {
         &[1, 2, 5, 3, 6, 4],
     );
     text(b"settings:");
-    let highest = prune_by_setting(&mut nodes, &mut slots, stored, 7, 100);
-    let lowest = prune_by_setting(&mut nodes, &mut slots, highest, 7, 10);
-    let below = prune_by_setting(&mut nodes, &mut slots, lowest, 7, 9);
-    let above = prune_by_setting(&mut nodes, &mut slots, below, 7, 101);
-    prune_by_setting(&mut nodes, &mut slots, above, 0, 101);
+    let highest = prune_by_setting(&mut nodes, &mut slots, stored, 7, 200);
+    let lowest = prune_by_setting(&mut nodes, &mut slots, highest, 7, 20);
+    let below = prune_by_setting(&mut nodes, &mut slots, lowest, 7, 19);
+    let above = prune_by_setting(&mut nodes, &mut slots, below, 7, 201);
+    prune_by_setting(&mut nodes, &mut slots, above, 0, 201);
     text(b"\n");
 }

@@ -236,10 +236,10 @@ fn not_numbers() -> Test {
 fn settings() -> Test {
     let constants = [bits(0.1), bits(0.1) - 1, LOWEST_SETTING, LOWEST_SETTING - 1];
     let mut test = Test::with("settings", &constants, &[[1, 2], [5, 3], [6, 4]]);
-    for setting in [100, 10, 9, 101] {
+    for setting in [200, 20, 19, 201] {
         test.prune_by_setting(7, setting);
     }
-    test.prune_by_setting(0, 101);
+    test.prune_by_setting(0, 201);
     test
 }
 
@@ -259,7 +259,7 @@ fn not_sound() -> Test {
     let mut test = Test::with("not sound", &[], &[]);
     test.store.words[FLAGS_WORD] = 8;
     test.prune(1, NOT_A_NUMBER);
-    test.prune_by_setting(1, 101);
+    test.prune_by_setting(1, 201);
     test
 }
 
@@ -268,9 +268,9 @@ fn order() -> Test {
     test.variables(1);
     test.doubled(13);
     test.prune(14, NOT_A_NUMBER);
-    test.prune_by_setting(u32::MAX, 101);
+    test.prune_by_setting(u32::MAX, 201);
     test.prune(13, NOT_A_NUMBER);
-    test.prune_by_setting(13, 101);
+    test.prune_by_setting(13, 201);
     test.prune(13, INFINITY);
     test.prune(12, INFINITY);
     test
