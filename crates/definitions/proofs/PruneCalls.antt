@@ -9,7 +9,7 @@ use borrow.Author.Tests.{ltb-true, ltb-false, lt-ltb, leb-true}
 use lib.Dec.{T, eqb, leb, ltb}
 use lib.Ieee.{Float, binary64, ofBits, toBits, le}
 use Rattle.definitions.specs.Limits.{infinityBits, mostTerms}
-use Rattle.definitions.specs.Refusals.{badOperand, badThreshold, badSetting}
+use Rattle.definitions.specs.Refusals.{badThreshold, badSetting}
 use Rattle.definitions.specs.Node.{Node, at}
 use Rattle.definitions.specs.Intern.{Lent, Built, built, stopped}
 use Rattle.definitions.specs.Patterns.{zero64, one64}
@@ -28,7 +28,7 @@ use Rattle.definitions.proofs.Intern.{Sound, Step, Result, stay}
 use Rattle.definitions.proofs.Numbers.{plus-zero}
 use Rattle.definitions.proofs.Patterns.{constantly, zero-fits}
 use Rattle.definitions.proofs.Prune.{sum-terms, split-sum, split-length, Flat, terms-ok, balances, ExactEach, exact-terms, SmallThreshold, threshold-of, kept-is, flat-filter, filter-length}
-use Rattle.definitions.proofs.NearestSettings.{finite}
+use Rattle.thresholds.proofs.NearestThresholds.{finite}
 use Rattle.definitions.proofs.Calls.{Done}
 
 pub remains-of : (l : Lent) (ns : List Node) (ks : List ℕ) → Sound ns → Flat ns ks → length ks ≤ 4096 → Result ns (λ ms i. Remains (map (formula ns) ks) (formula ms i)) (balancedAdd 13 l ns ks)
@@ -156,16 +156,13 @@ setting-taken n = by (ltb n firstPruningSetting) (leb n lastSetting) refl refl
     by false true low high = let below = finite n (ltb-false _ _ low) (leb-true _ _ high) in omega arith
     by false false low high = tt
 
+-- whichever of two answers stands beside the nodes as they were
+either-stays : (ns : List Node) → Sound ns → (b : Bool) (first second : Answer) → Step ns (cond b (outcome first ns) (outcome second ns) .nodes)
+either-stays ns s true first second = stay ns s
+either-stays ns s false first second = stay ns s
+
 pub prune-steps : (l : Lent) (ns : List Node) (i : ℕ) (t : Threshold) → Taken t → Sound ns → Step ns (pruneCall l ns i t .nodes)
 unfolding pruneCall pruneAt
 prune-steps l ns i (bits t) h s = prunes-at l ns i t h s .step
-prune-steps l ns i untouched h s = by (ltb i (length ns))
-  where
-    by : (b : Bool) → Step ns (cond b (outcome (pruned i 1 0) ns) (outcome (refused badOperand) ns) .nodes)
-    by true = stay ns s
-    by false = stay ns s
-prune-steps l ns i (refusing number) h s = by (ltb i (length ns))
-  where
-    by : (b : Bool) → Step ns (cond b (outcome (refused number) ns) (outcome (refused badOperand) ns) .nodes)
-    by true = stay ns s
-    by false = stay ns s
+prune-steps l ns i untouched h s = either-stays ns s (ltb i (length ns)) _ _
+prune-steps l ns i (refusing number) h s = either-stays ns s (ltb i (length ns)) _ _

@@ -58,7 +58,7 @@ module _ (ns os : List Node) (i : ℕ) (s : Sound ns) (one : Inj ns) (h : i < le
       (filter-ext ns os grown (ofBits binary64 u) (chain ns i) (flat-chain ns i s h))
 
 -- what pruning the original at u does on the store after the first prune, and on the store after the second
-abbrev pub Both : Lent → List Node → List Node → ℕ → Threshold → ℕ → ℕ → Type 0
+abbrev Both : Lent → List Node → List Node → ℕ → Threshold → ℕ → ℕ → Type 0
 Both l ms os i u id k =
     ((d : ℕ) × (pruneCall l ms i u ≡ outcome (pruned id k d) os)) × ((d : ℕ) × (pruneCall l os i u ≡ outcome (pruned id k d) os))
 

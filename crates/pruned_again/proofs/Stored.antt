@@ -18,7 +18,7 @@ use Rattle.pruned_again.specs.Plain.{PlainlySound, pruneAtBits, leastKep
 use Rattle.pruned_again.specs.Stored.{Asks, by-bits, by-setting, SameStored, HigherStored}
 use Rattle.pruned_again.proofs.SoundStores.{sound-plainly}
 use Rattle.pruned_again.proofs.Same.{same-plainly}
-use Rattle.pruned_again.proofs.Higher.{Both, higher-plainly}
+use Rattle.pruned_again.proofs.Higher.{higher-plainly}
 
 -- ---- each prune is the plain machine's
 call-is : {c : Call} {i : ℕ} {t : Threshold} → Asks c i t → (l : Lent) (s : State) → call l s c ≡ onNodes s (pruneCall l (s .nodes) i t)
@@ -70,12 +70,16 @@ same-stored c c′ i id kept dropped t m m′ m″ a h q k q′ k′ =
       unchanged c′ m′ m″ a (k .called .sound h) k′ (sym (second .1) ∙ ap (λ (x : Outcome). x .nodes) there),
     )
 
+abbrev Both : Lent → List N.Node → List N.Node → ℕ → ℕ → ℕ → ℕ → Type 0
+Both l ms os i u id kept =
+    ((d : ℕ) × (pruneAtBits l ms i u ≡ outcome (pruned id kept d) os)) × ((d : ℕ) × (pruneAtBits l os i u ≡ outcome (pruned id kept d) os))
+
 higher-at : (l : Lent) (ns ms os : List N.Node) (i t u id kept dropped id′ kept′ dropped′ : ℕ) → PlainlySound ns
     → pruneAtBits l ns i t .answer ≡ pruned id kept dropped → pruneAtBits l ns i t .nodes ≡ ms → leastKept ≤ kept → NotBelow t u
-    → pruneAtBits l ms id u .answer ≡ pruned id′ kept′ dropped′ → pruneAtBits l ms id u .nodes ≡ os → Both l ms os i (given u) id′ kept′
+    → pruneAtBits l ms id u .answer ≡ pruned id′ kept′ dropped′ → pruneAtBits l ms id u .nodes ≡ os → Both l ms os i u id′ kept′
 higher-at l ns ms os i t u id kept dropped id′ kept′ dropped′ p ea en two up =
-    subst (λ (ms : List N.Node). pruneAtBits l ms id u .answer ≡ pruned id′ kept′ dropped′ → pruneAtBits l ms id u .nodes ≡ os → Both l ms os i (given u) id′ kept′) en
-    (λ fa fn. subst (λ (os : List N.Node). Both l (pruneAtBits l ns i t .nodes) os i (given u) id′ kept′) fn (higher-plainly l ns i t u id kept dropped id′ kept′ dropped′ p ea two up fa))
+    subst (λ (ms : List N.Node). pruneAtBits l ms id u .answer ≡ pruned id′ kept′ dropped′ → pruneAtBits l ms id u .nodes ≡ os → Both l ms os i u id′ kept′) en
+    (λ fa fn. subst (λ (os : List N.Node). Both l (pruneAtBits l ns i t .nodes) os i u id′ kept′) fn (higher-plainly l ns i t u id kept dropped id′ kept′ dropped′ p ea two up fa))
 
 pub higher-stored : HigherStored
 higher-stored c c′ c″ i t u id kept dropped id′ kept′ dropped′ m m′ m″ n o a b h q k two up q′ k′ q″ =

@@ -54,8 +54,7 @@ HigherWhere least Order = (l : Lent) (ns : List Node) (i t u id kept dropped id�
     → let ms = pruneAtBits l ns i t .nodes in
     pruneAtBits l ms id u .answer ≡ pruned id′ kept′ dropped′
     → let os = pruneAtBits l ms id u .nodes in
-    ((d : ℕ) × (pruneAtBits l ms i u ≡ outcome (pruned id′ kept′ d) os))
-    × ((d : ℕ) × (pruneAtBits l os i u ≡ outcome (pruned id′ kept′ d) os))
+    ((d : ℕ) × (pruneAtBits l ms i u ≡ outcome (pruned id′ kept′ d) os)) × ((d : ℕ) × (pruneAtBits l os i u ≡ outcome (pruned id′ kept′ d) os))
 
 abbrev pub HigherPlainly : Type 0
 HigherPlainly = HigherWhere leastKept NotBelow
