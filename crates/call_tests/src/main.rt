@@ -11,6 +11,7 @@ mod state;
 use scripts::applying;
 use scripts::damage;
 use scripts::lines;
+use scripts::lines::BLANK;
 use scripts::listing;
 use scripts::memory::BYTES;
 use scripts::memory::SLOTS;
@@ -25,8 +26,6 @@ use state::at_first;
 const SCRIPT_BYTES: usize = 262_144;
 
 const LINE_FEED: u8 = 10;
-
-const BLANK: u8 = 32;
 
 // A command on what is lent.
 fn perform(

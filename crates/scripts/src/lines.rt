@@ -3,7 +3,7 @@ ghost use Prim.Native.Nat.{_≤_};
 ghost use lib.ListN.{length};
 use crate::tokens;
 
-const BLANK: u8 = 32;
+pub const BLANK: u8 = 32;
 
 // The first commands are the calls, by their codes.
 pub const REPEAT: u32 = 22;
