@@ -1,8 +1,8 @@
 /*
  * Builds the dosing formula of samples/dosing.txt by calls of the library,
- * simplifies it, prunes it, and reads its nodes back. Standard output gets the
- * listing, which the loader reads; standard error gets what simplify and prune
- * report.
+ * simplifies it, prunes it with the knob fully down and then at a threshold, and
+ * reads its nodes back. Standard output gets the listing, which the loader
+ * reads; standard error gets what simplify and both prunes report.
  */
 #include "curvalique_store.h"
 
@@ -14,11 +14,12 @@
 #define NODES 64
 #define SLOTS 128
 
-/* The symbols of the variables, and what is asked of simplify and prune. */
+/* The symbols of the variables, and what is asked of simplify and of both prunes. */
 #define FLOW 1
 #define CHLORINE 2
 #define DEPTH 255
 #define BUDGET 1000000
+#define KNOB_DOWN 0
 #define THRESHOLD 0.01
 
 static uint64_t nodes[NODES * CURVALIQUE_NODE_WORDS];
@@ -79,12 +80,23 @@ static uint32_t simplify(uint32_t root) {
     return answer.id;
 }
 
-static uint32_t prune(uint32_t root) {
-    struct curvalique_pruned answer;
-    answered("prune", curvalique_store_prune(&store, root, bits_of(THRESHOLD), &answer));
+static uint32_t pruned(uint32_t root, struct curvalique_pruned answer) {
     fprintf(stderr, "pruned %" PRIu32 " to %" PRIu32, root, answer.id);
     fprintf(stderr, ": kept %" PRIu64 ", dropped %" PRIu64 "\n", answer.kept, answer.dropped);
     return answer.id;
+}
+
+/* The knob fully down prunes nothing: the formula is answered itself. */
+static uint32_t prune_knob_down(uint32_t root) {
+    struct curvalique_pruned answer;
+    answered("prune by setting", curvalique_store_prune_by_setting(&store, root, KNOB_DOWN, &answer));
+    return pruned(root, answer);
+}
+
+static uint32_t prune(uint32_t root) {
+    struct curvalique_pruned answer;
+    answered("prune", curvalique_store_prune(&store, root, bits_of(THRESHOLD), &answer));
+    return pruned(root, answer);
 }
 
 static void print_node(uint32_t id) {
@@ -100,7 +112,7 @@ static void print_node(uint32_t id) {
 int main(void) {
     store = curvalique_store_in(nodes, NODES * CURVALIQUE_NODE_WORDS, slots, SLOTS);
     answered("fresh", curvalique_store_fresh(&store));
-    uint32_t answer = prune(simplify(formula()));
+    uint32_t answer = prune(prune_knob_down(simplify(formula())));
     printf("ok %" PRIu32 "\n", answer);
     for (uint32_t id = 0; id < store.count; id++) {
         print_node(id);

@@ -1,19 +1,20 @@
-//! Builds the dosing formula of samples/dosing.txt by calls of the library, simplifies it, prunes it, and reads its
-//! nodes back. Standard output gets the listing, which the loader reads; standard error gets what simplify and prune
-//! report.
+//! Builds the dosing formula of samples/dosing.txt by calls of the library, simplifies it, prunes it with the knob fully
+//! down and then at a threshold, and reads its nodes back. Standard output gets the listing, which the loader reads;
+//! standard error gets what simplify and both prunes report.
 
 use std::process::ExitCode;
 
-use curvalique::{NODE_WORDS, Refusal, Store};
+use curvalique::{NODE_WORDS, Pruned, Refusal, Store};
 
 const NODES: usize = 64;
 const SLOTS: usize = 128;
 
-// The symbols of the variables, and what is asked of simplify and prune.
+// The symbols of the variables, and what is asked of simplify and of both prunes.
 const FLOW: u32 = 1;
 const CHLORINE: u32 = 2;
 const DEPTH: u32 = 255;
 const BUDGET: u64 = 1_000_000;
+const KNOB_DOWN: u32 = 0;
 const THRESHOLD: f64 = 0.01;
 
 /// 2 * (flow * 1.0) + 0.5 * chlorine + 0.004
@@ -35,10 +36,18 @@ fn simplify(store: &mut Store, root: u32) -> Result<u32, Refusal> {
     Ok(simplified.id)
 }
 
-fn prune(store: &mut Store, root: u32) -> Result<u32, Refusal> {
-    let pruned = store.prune(root, THRESHOLD)?;
+fn report(root: u32, pruned: Pruned) -> u32 {
     eprintln!("pruned {root} to {}: kept {}, dropped {}", pruned.id, pruned.kept, pruned.dropped);
-    Ok(pruned.id)
+    pruned.id
+}
+
+/// The knob fully down prunes nothing: the formula is answered itself.
+fn prune_knob_down(store: &mut Store, root: u32) -> Result<u32, Refusal> {
+    store.prune_by_setting(root, KNOB_DOWN).map(|pruned| report(root, pruned))
+}
+
+fn prune(store: &mut Store, root: u32) -> Result<u32, Refusal> {
+    store.prune(root, THRESHOLD).map(|pruned| report(root, pruned))
 }
 
 fn print_node(store: &Store, id: u32) -> Result<(), Refusal> {
@@ -53,7 +62,8 @@ fn run() -> Result<(), Refusal> {
     let mut store = Store::fresh(&mut nodes, &mut slots)?;
     let root = formula(&mut store)?;
     let simplified = simplify(&mut store, root)?;
-    println!("ok {}", prune(&mut store, simplified)?);
+    let untouched = prune_knob_down(&mut store, simplified)?;
+    println!("ok {}", prune(&mut store, untouched)?);
     (0..store.count as u32).try_for_each(|id| print_node(&store, id))
 }
 

@@ -1,7 +1,7 @@
 -- No refusal has the number 0, which says that a call is answered.
 use Prim.Native.Nat.{ℕ, _-_}
 use mathlib.Core.Path.{_≡_, refl, sym, subst}
-use mathlib.Core.Bool.{Bool, true, false, _&&_, cond}
+use mathlib.Core.Bool.{Bool, true, false, cond}
 use mathlib.Core.List.{List}
 use mathlib.Core.Logic.{_⊎_, ⊎-elim}
 use native.Mathlib.Omega.{arith}
@@ -14,8 +14,8 @@ use Rattle.definitions.specs.Node.{Node, at, addKind, childCountListed}
 use Rattle.definitions.specs.Intern.{Lent, Built, built, stopped, intern}
 use Rattle.definitions.specs.Walk.{standard, walkRoot}
 use Rattle.definitions.specs.Prune.{chain, keeps, filter, sumOfKept}
-use Rattle.definitions.specs.Threshold.{Threshold, bits, refusing, given}
-use Rattle.definitions.specs.Settings.{setting, threshold, firstSetting, lastSetting}
+use Rattle.definitions.specs.Threshold.{Threshold, bits, untouched, refusing, given}
+use Rattle.definitions.specs.Settings.{setting, threshold, firstPruningSetting, lastSetting}
 use Rattle.definitions.specs.Machine as M
 use Rattle.definitions.specs.Machine.{Call, Answer, stored, simplified, pruned, refused, outcome, Request, State, call, storeCall, storedAs, simplifyCall, walkedAs, pruneChain, pruneAt, pruneCall, prunedAs, allBelow}
 use Rattle.definitions.specs.Promise.{Called}
@@ -73,6 +73,7 @@ simplifies-numbered l ns i depth budget = by (leb depth mostDepth) (ltb i (lengt
 
 abbrev ThresholdNumbered : Threshold → Type 0
 ThresholdNumbered (bits t) = Unit {0}
+ThresholdNumbered untouched = Unit {0}
 ThresholdNumbered (refusing number) = number ≡ 0 → ⊥
 
 sum-numbered : (kept dropped : ℕ) (b : Built) → StopsForPlace b → Numbered (prunedAs kept dropped b .answer)
@@ -94,6 +95,7 @@ at-numbered l ns i (bits t) h = by (eqb (at ns i .kind) addKind)
     by : (a : Bool) → Numbered (cond a (pruneChain l ns (ofBits binary64 t) (chain ns i)) (outcome (pruned i 1 0) ns) .answer)
     by true = chain-numbered l ns (ofBits binary64 t) (chain ns i)
     by false = tt
+at-numbered l ns i untouched h = tt
 at-numbered l ns i (refusing number) h = h
 
 prunes-numbered : (l : Lent) (ns : List Node) (i : ℕ) (t : Threshold) → ThresholdNumbered t → Numbered (pruneCall l ns i t .answer)
@@ -113,11 +115,12 @@ given-numbered t = by (leb t infinityBits)
 
 setting-numbered : (n : ℕ) → ThresholdNumbered (setting n)
 unfolding setting
-setting-numbered n = by (leb firstSetting n && leb n lastSetting)
+setting-numbered n = by (ltb n firstPruningSetting) (leb n lastSetting)
   where
-    by : (a : Bool) → ThresholdNumbered (cond a (bits (threshold n)) (refusing badSetting))
-    by true = tt
-    by false = λ z. omega arith
+    by : (a b : Bool) → ThresholdNumbered (cond a untouched (cond b (bits (threshold n)) (refusing badSetting)))
+    by true b = tt
+    by false true = tt
+    by false false = λ z. omega arith
 
 -- ---- any call
 

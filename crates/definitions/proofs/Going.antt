@@ -5,6 +5,8 @@ use mathlib.Core.Option.{some}
 use mathlib.Core.List.{List}
 use Rattle.definitions.specs.Intern.{Lent}
 use Rattle.definitions.specs.Node.{Node}
+use Rattle.definitions.specs.Threshold.{given}
+use Rattle.definitions.specs.Settings.{setting}
 use Rattle.definitions.specs.Machine.{Call, store, simplify, prune, pruneBySetting, requested, state, call}
 use Rattle.definitions.specs.Names.{NameCall, nameCall}
 use Rattle.definitions.specs.Controller.{LentLists, Controller}
@@ -13,15 +15,15 @@ use Rattle.definitions.proofs.Intern.{Sound, Step, stay, trans}
 use Rattle.definitions.proofs.Floats.{laws}
 use Rattle.definitions.proofs.Calls.{builds}
 use Rattle.definitions.proofs.SimplifyCalls.{simplifies}
-use Rattle.definitions.proofs.PruneCalls.{prunes-given, prunes-setting}
+use Rattle.definitions.proofs.PruneCalls.{given-taken, setting-taken, prune-steps}
 use Rattle.definitions.proofs.NameLists.{Listed, name-says}
 
 pub call-step : (l : Lent) (ns : List Node) (c : Call) → Sound ns → Step ns (call l (state ns) c .left .nodes)
 unfolding call
 call-step l ns (store c) h = builds l ns (requested c) h .step
 call-step l ns (simplify i d b) h = simplifies laws l ns i d b h .step
-call-step l ns (prune i t) h = prunes-given l ns i t h .step
-call-step l ns (pruneBySetting i n) h = prunes-setting l ns i n h .step
+call-step l ns (prune i t) h = prune-steps l ns i (given t) (given-taken t) h
+call-step l ns (pruneBySetting i n) h = prune-steps l ns i (setting n) (setting-taken n) h
 
 -- what every call needs
 pub record Whole (s : Controller) : Type 0 where

@@ -11,12 +11,13 @@ use lib.Ieee.{binary64, ofBits, le}
 use Rattle.definitions.specs.Intern.{Lent}
 use Rattle.definitions.specs.Node.{Node}
 use Rattle.definitions.specs.Patterns.{one64}
-use Rattle.definitions.specs.Settings.{threshold}
+use Rattle.definitions.specs.Threshold.{Threshold, bits, untouched, given}
+use Rattle.definitions.specs.Settings.{setting}
 use Rattle.definitions.specs.Machine as M
-use Rattle.definitions.specs.Machine.{Store, Call, store, simplify, prune, pruneBySetting, requested, state, call}
+use Rattle.definitions.specs.Machine.{Store, Call, store, simplify, prune, pruneBySetting, requested, pruneCall, state, call}
 use Rattle.definitions.specs.Names as N
 use Rattle.definitions.specs.Names.{NameCall, internName, lookupName, nameOf, nameCall}
-use Rattle.definitions.specs.Controller.{LentLists, Controller, emptyController, ControllerCall, building, simplifying, pruning, pruningBySetting, naming, reading, ControllerAnswer, stored, simplified, pruned, numbered, named, refused, fromNames, AfterCall, onText, controllerCall, controllerAnswers, controllers, Part, storePart, namesPart, takes, spares, SamePart}
+use Rattle.definitions.specs.Controller.{LentLists, Controller, emptyController, ControllerCall, building, simplifying, pruning, pruningBySetting, naming, reading, ControllerAnswer, stored, simplified, pruned, numbered, named, refused, fromStore, fromNames, AfterCall, onText, controllerCall, controllerAnswers, controllers, Part, storePart, namesPart, takes, spares, SamePart}
 use Rattle.definitions.specs.Formula.{formula}
 use Rattle.definitions.specs.Value.{valueOf}
 use Rattle.definitions.specs.Exact.{Exact}
@@ -25,7 +26,7 @@ use Rattle.definitions.proofs.Intern.{Sound, Inj, Step, stay, trans}
 use Rattle.definitions.proofs.Floats.{laws}
 use Rattle.definitions.proofs.Calls.{Done, StoreSays, builds}
 use Rattle.definitions.proofs.SimplifyCalls.{SimplifySays, simplifies}
-use Rattle.definitions.proofs.PruneCalls.{PruneSays, prunes-given, prunes-setting}
+use Rattle.definitions.proofs.PruneCalls.{PruneSays, prunes-at, Taken, given-taken, setting-taken, untouched-is}
 use Rattle.definitions.proofs.Answers.{from-stored, from-simplified, from-pruned, from-numbered}
 use Rattle.definitions.proofs.Going.{call-step, Whole, Goes, whole-after, goes-nowhere, goes-further, by-store, by-names}
 use Rattle.definitions.proofs.Readings.{reading-goes, reading-says}
@@ -61,6 +62,10 @@ fresh-whole = record { nodes = λ i h. absurd (omega arith); names = none-listed
 
 fresh-unique : Inj []
 fresh-unique i j h = absurd (omega arith)
+
+-- a prune leaves the names alone
+abbrev afterPrune : Controller → M.Outcome → AfterCall
+afterPrune s o = record { answer = fromStore (o .answer); left = record { nodes = o .nodes; names = s .names } }
 
 module _ (l : LentLists) where
   -- something stands before each call, and after it
@@ -134,25 +139,33 @@ module _ (l : LentLists) where
       subst (λ (x : Controller). SimplifySays (s .nodes) root (x .nodes) (M.simplified id spent steps)) es
       (subst (SimplifySays (s .nodes) root (call (l .store) (state (s .nodes)) c .left .nodes)) e (simplifies laws (l .store) (s .nodes) root depth budget (w .nodes) .says))
 
-  prune-says : (s s' : Controller) (p : ControllerCall) (id t answer k d : ℕ) → Whole s → prunes p ≡ some (id, t)
-      → controllerCall l s p .answer ≡ pruned answer k d → controllerCall l s p .left ≡ s' → PruneSays (s .nodes) id t (s' .nodes) (M.pruned answer k d)
+  -- a prune is that of its id at its threshold, whatever this was made from
+  prune-is : (s : Controller) (p : ControllerCall) (id : ℕ) (t : Threshold) → prunes p ≡ some (id, t)
+      → Taken t × (controllerCall l s p ≡ afterPrune s (pruneCall (l .store) (s .nodes) id t))
   unfolding controllerCall call
-  prune-says s s' (building c) id t answer k d w ep ea es = none-some (id, t) _ ep
-  prune-says s s' (simplifying i depth budget) id t answer k d w ep ea es = none-some (id, t) _ ep
-  prune-says s s' (pruning i u) id t answer k d w ep ea es =
-      let e : _≡_ {A = ℕ × ℕ} (i, u) (id, t) = cc in
-      let f = from-pruned (call (l .store) (state (s .nodes)) (prune i u) .answer) answer k d ea in
-      subst (λ (q : ℕ × ℕ). PruneSays (s .nodes) (q .0) (q .1) (s' .nodes) (M.pruned answer k d)) e
-      (subst (λ (x : Controller). PruneSays (s .nodes) i u (x .nodes) (M.pruned answer k d)) es
-      (subst (PruneSays (s .nodes) i u (call (l .store) (state (s .nodes)) (prune i u) .left .nodes)) f (prunes-given (l .store) (s .nodes) i u (w .nodes) .says)))
-  prune-says s s' (pruningBySetting i n) id t answer k d w ep ea es =
-      let e : _≡_ {A = ℕ × ℕ} (i, threshold n) (id, t) = cc in
-      let f = from-pruned (call (l .store) (state (s .nodes)) (pruneBySetting i n) .answer) answer k d ea in
-      subst (λ (q : ℕ × ℕ). PruneSays (s .nodes) (q .0) (q .1) (s' .nodes) (M.pruned answer k d)) e
-      (subst (λ (x : Controller). PruneSays (s .nodes) i (threshold n) (x .nodes) (M.pruned answer k d)) es
-      (subst (PruneSays (s .nodes) i (threshold n) (call (l .store) (state (s .nodes)) (pruneBySetting i n) .left .nodes)) f (prunes-setting (l .store) (s .nodes) i n (w .nodes) .says)))
-  prune-says s s' (naming c) id t answer k d w ep ea es = none-some (id, t) _ ep
-  prune-says s s' (reading text) id t answer k d w ep ea es = none-some (id, t) _ ep
+  prune-is s (building c) id t e = none-some (id, t) _ e
+  prune-is s (simplifying i depth budget) id t e = none-some (id, t) _ e
+  prune-is s (pruning i u) id t e =
+      let q : _≡_ {A = ℕ × Threshold} (i, given u) (id, t) = cc in
+      subst (λ (x : ℕ × Threshold). Taken (x .1) × (controllerCall l s (pruning i u) ≡ afterPrune s (pruneCall (l .store) (s .nodes) (x .0) (x .1)))) q (given-taken u, refl)
+  prune-is s (pruningBySetting i n) id t e =
+      let q : _≡_ {A = ℕ × Threshold} (i, setting n) (id, t) = cc in
+      subst (λ (x : ℕ × Threshold). Taken (x .1) × (controllerCall l s (pruningBySetting i n) ≡ afterPrune s (pruneCall (l .store) (s .nodes) (x .0) (x .1)))) q (setting-taken n, refl)
+  prune-is s (naming c) id t e = none-some (id, t) _ e
+  prune-is s (reading text) id t e = none-some (id, t) _ e
+
+  prune-says : (s s' : Controller) (p : ControllerCall) (id t answer k d : ℕ) → Whole s → prunes p ≡ some (id, bits t)
+      → controllerCall l s p .answer ≡ pruned answer k d → controllerCall l s p .left ≡ s' → PruneSays (s .nodes) id t (s' .nodes) (M.pruned answer k d)
+  prune-says s s' p id t answer k d w ep ea es =
+      let q = prune-is s p id (bits t) ep in
+      let o = pruneCall (l .store) (s .nodes) id (bits t) in
+      let f = from-pruned (o .answer) answer k d (ap (λ (x : AfterCall). x .answer) (sym (q .1)) ∙ ea) in
+      subst (λ (x : Controller). PruneSays (s .nodes) id t (x .nodes) (M.pruned answer k d)) (ap (λ (x : AfterCall). x .left) (sym (q .1)) ∙ es)
+      (subst (PruneSays (s .nodes) id t (o .nodes)) f (prunes-at (l .store) (s .nodes) id t (q .0) (w .nodes) .says))
+
+  untouched-says : (s : Controller) (p : ControllerCall) (id : ℕ) → prunes p ≡ some (id, untouched) → id < length (s .nodes)
+      → controllerCall l s p ≡ record { answer = pruned id 1 0; left = s }
+  untouched-says s p id ep h = prune-is s p id untouched ep .1 ∙ ap (afterPrune s) (untouched-is (l .store) (s .nodes) id h)
 
   names-say : (s : Controller) (c : NameCall) → Whole s → NameSays (s .names) c (nameCall (l .names) (s .names) c)
   names-say s c w = name-says (l .names) (s .names) (w .names) c
@@ -196,6 +209,16 @@ plain-promise l cs = record {
       let q = at-call l emptyController cs i (simplifying root depth budget) (simplified id spent steps) s0 s1 ec ea e0 e1 in
       let simple = simplify-says l s0 s1 root depth budget id steps spent (whole i s0 e0) (q .0) (q .1) in
       balanced i j root depth budget id steps t answer k d spent p s0 s1 s3 lt ep eq ea' e1 e3 tu ex simple;
+  untouched-answers = λ j id p s s' ec ep e0 es h. untouched-leaves j id p s s' ec ep e0 es h;
+  untouched-balance = λ i j root depth budget id steps spent p s0 s1 s3 lt ec ea ej ep e0 e1 e3 ex.
+      let q = at-call l emptyController cs i (simplifying root depth budget) (simplified id spent steps) s0 s1 ec ea e0 e1 in
+      let simple = simplify-says l s0 s1 root depth budget id steps spent (whole i s0 e0) (q .0) (q .1) in
+      let (s2, e2) = some-before l emptyController cs j p ej in
+      let st = goes-on l emptyController cs (suc i) j s1 s2 fresh-whole lt e1 e2 in
+      let low : id < length (s2 .nodes) = omega (arith, simple .1, st .step .longer) in
+      let u = untouched-leaves j id p s2 s3 ej ep e2 e3 low in
+      let same : formula (s3 .nodes) id ≡ formula (s1 .nodes) id = ap (λ (x : Controller). formula (x .nodes) id) (u .1) ∙ st .step .kept id (simple .1) in
+      (simple .0, simple .1, subst (λ (x : Controller). id < length (x .nodes)) (sym (u .1)) low, u .0, λ r. sym (simple .2 ex .equal r) ∙ ap (valueOf r) (sym same));
   names-numbered = λ i number name c s' ec e ea es.
       let (s, e0) = some-before l emptyController cs i (naming c) ec in
       let q = at-call l emptyController cs i (naming c) (numbered number) s s' ec ea e0 es in
@@ -223,8 +246,17 @@ plain-promise l cs = record {
     whole : (i : ℕ) (s : Controller) → nth (emptyController ∷ controllers l emptyController cs) i ≡ some s → Whole s
     whole i s e = whole-after (reaches l emptyController cs i s fresh-whole e)
 
+    untouched-leaves : (j id : ℕ) (p : ControllerCall) (s s' : Controller) → nth cs j ≡ some p → prunes p ≡ some (id, untouched)
+        → nth (emptyController ∷ controllers l emptyController cs) j ≡ some s → nth (controllers l emptyController cs) j ≡ some s' → id < length (s .nodes)
+        → (nth (controllerAnswers l emptyController cs) j ≡ some (pruned id 1 0)) × (s' ≡ s)
+    untouched-leaves j id p s s' ec ep e0 es h =
+        let u = untouched-says l s p id ep h in
+        let g = left-at l emptyController cs j p s ec e0 in
+        let q : controllerCall l s p .left ≡ s' = cc in
+        (answer-at l emptyController cs j p s ec e0 ∙ ap (λ (x : AfterCall). some (x .answer)) u, sym q ∙ ap (λ (x : AfterCall). x .left) u)
+
     balanced : (i j root depth budget id steps t answer k d : ℕ) (spent : Bool) (p : ControllerCall) (s0 s1 s3 : Controller) → i < j
-        → nth cs j ≡ some p → prunes p ≡ some (id, t) → nth (controllerAnswers l emptyController cs) j ≡ some (pruned answer k d)
+        → nth cs j ≡ some p → prunes p ≡ some (id, bits t) → nth (controllerAnswers l emptyController cs) j ≡ some (pruned answer k d)
         → nth (controllers l emptyController cs) i ≡ some s1 → nth (controllers l emptyController cs) j ≡ some s3
         → T (le (ofBits binary64 t) one64) → Exact (formula (s0 .nodes) root) → SimplifySays (s0 .nodes) root (s1 .nodes) (M.simplified id spent steps)
         → (root < length (s0 .nodes)) × (id < length (s1 .nodes)) × (answer < length (s3 .nodes)) × Exact (formula (s1 .nodes) id)

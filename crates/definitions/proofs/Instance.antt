@@ -9,7 +9,7 @@ use lib.ListN.{getD}
 use lib.Ieee.{binary64, ofBits, le, lt, eq, add as addFloat, mul as mulFloat, toBits}
 use Rattle.definitions.specs.Machine.{variable, constant, add, mul, call}
 use Rattle.definitions.specs.Names.{internName, lookupName, sameName}
-use Rattle.definitions.specs.Controller.{LentLists, Controller, emptyController, ControllerCall, building, simplifying, pruning, naming, reading, stored, refused, numbered, controllerCall, controllerAnswers, controllers, takes}
+use Rattle.definitions.specs.Controller.{LentLists, Controller, emptyController, ControllerCall, building, simplifying, pruning, pruningBySetting, naming, reading, stored, simplified, pruned, refused, numbered, controllerCall, controllerAnswers, controllers, takes}
 use Rattle.definitions.specs.Formula.{tree, nil, cons, formula}
 use Rattle.definitions.specs.Exact.{Exact, bound}
 use Rattle.definitions.specs.Promise.{ControllerModel, ControllerCalled, FreshController, History, done, next, nth, Balanced, Promise}
@@ -80,3 +80,14 @@ texts = reading (120 ∷ 43 ∷ 50 ∷ []) ∷ reading (120 ∷ 43 ∷ 121 ∷ [
 pub instance-read : controllerAnswers lent emptyController texts ≡ stored 2 ∷ refused 24 ∷ refused 11 ∷ []
 unfolding controllerAnswers sameName after
 instance-read = refl
+
+-- The knob (02 a): flow + 0.25 simplified; settings 0 and 9 answer it untouched, with 1 kept; 10 and 100 keep both of its terms; 4 comes before 8, which begins at 101.
+abbrev knob : List ControllerCall
+knob =
+    building (variable 0) ∷ building (constant 0x3FD0000000000000) ∷ building (add 0 1) ∷ simplifying 2 255 100 ∷ pruningBySetting 2 0 ∷ pruningBySetting 2 9
+    ∷ pruningBySetting 2 10 ∷ pruningBySetting 2 100 ∷ pruningBySetting 3 101 ∷ pruningBySetting 2 101 ∷ pruningBySetting 2 0xFFFFFFFF ∷ []
+
+pub instance-knob : controllerAnswers lent emptyController knob
+    ≡ stored 0 ∷ stored 1 ∷ stored 2 ∷ simplified 2 false 3 ∷ pruned 2 1 0 ∷ pruned 2 1 0 ∷ pruned 2 2 0 ∷ pruned 2 2 0 ∷ refused 4 ∷ refused 8 ∷ refused 8 ∷ []
+unfolding controllerAnswers addFloat le lt eq ofBits
+instance-knob = refl

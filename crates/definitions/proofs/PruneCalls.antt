@@ -1,20 +1,21 @@
 -- Prune calls: an answered one of a formula of the exact kind balances.
 use Prim.Native.Nat.{ℕ, suc, _-_, _<_, _≤_}
 use mathlib.Core.Path.{_≡_, refl, sym, ap, _∙_, subst}
-use mathlib.Core.Bool.{Bool, true, false, cond, not, _&&_}
+use mathlib.Core.Bool.{Bool, true, false, cond, not}
 use mathlib.Core.List.{List, [], _∷_, map}
 use lib.ListN.{length, length-map}
 use native.Mathlib.Omega.{arith}
-use borrow.Author.Tests.{ltb-true, ltb-false, leb-true}
+use borrow.Author.Tests.{ltb-true, ltb-false, lt-ltb, leb-true}
 use lib.Dec.{T, eqb, leb, ltb}
 use lib.Ieee.{Float, binary64, ofBits, toBits, le}
 use Rattle.definitions.specs.Limits.{infinityBits, mostTerms}
+use Rattle.definitions.specs.Refusals.{badThreshold, badSetting}
 use Rattle.definitions.specs.Node.{Node, at}
 use Rattle.definitions.specs.Intern.{Lent, Built, built, stopped}
 use Rattle.definitions.specs.Patterns.{zero64, one64}
 use Rattle.definitions.specs.Prune.{chain, keeps, filter, flatten, balancedAdd, sumOfKept}
-use Rattle.definitions.specs.Threshold.{Threshold, bits, refusing, given}
-use Rattle.definitions.specs.Settings.{threshold, firstSetting, lastSetting, setting}
+use Rattle.definitions.specs.Threshold.{Threshold, bits, untouched, refusing, given}
+use Rattle.definitions.specs.Settings.{threshold, firstPruningSetting, lastSetting, setting}
 use Rattle.definitions.specs.Machine.{Answer, stored, simplified, pruned, refused, outcome, prunedAs, pruneChain, pruneAt, pruneCall}
 use Rattle.definitions.specs.Formula.{Tree, formula}
 use Rattle.definitions.specs.Dyadic.{plus}
@@ -23,7 +24,7 @@ use Rattle.definitions.specs.Exact.{Exact}
 use Rattle.definitions.specs.Chain.{terms, isAdd, chainOf, belowThreshold, dropped, kept, Remains}
 use Rattle.definitions.specs.Promise.{Balanced}
 use Rattle.definitions.proofs.Stable.{opened}
-use Rattle.definitions.proofs.Intern.{Sound, Result, stay}
+use Rattle.definitions.proofs.Intern.{Sound, Step, Result, stay}
 use Rattle.definitions.proofs.Numbers.{plus-zero}
 use Rattle.definitions.proofs.Patterns.{constantly, zero-fits}
 use Rattle.definitions.proofs.Prune.{sum-terms, split-sum, split-length, Flat, terms-ok, balances, ExactEach, exact-terms, SmallThreshold, threshold-of, kept-is, flat-filter, filter-length}
@@ -126,28 +127,42 @@ prunes-at l ns i t ht s = one (ltb i (length ns)) refl
     one true e = two (ltb-true i (length ns) e) (eqb (n .kind) 2) refl
     one false e = record { step = stay ns s; says = tt }
 
--- a prune whose threshold is refused answers nothing
-prunes-refused : (l : Lent) (ns : List Node) (i t r : ℕ) → Sound ns → Done ns (PruneSays ns i t) (pruneCall l ns i (refusing r))
+-- without a threshold every root is answered itself, and no node is made
+pub untouched-is : (l : Lent) (ns : List Node) (i : ℕ) → i < length ns → pruneCall l ns i untouched ≡ outcome (pruned i 1 0) ns
 unfolding pruneCall pruneAt
-prunes-refused l ns i t r s = one (ltb i (length ns))
-  where
-    one : (b : Bool) → Done ns (PruneSays ns i t) (cond b (outcome (refused r) ns) (outcome (refused 4) ns))
-    one true = record { step = stay ns s; says = tt }
-    one false = record { step = stay ns s; says = tt }
+untouched-is l ns i h = simp (lt-ltb _ _ h)
 
-pub prunes-given : (l : Lent) (ns : List Node) (i t : ℕ) → Sound ns → Done ns (PruneSays ns i t) (pruneCall l ns i (given t))
-prunes-given l ns i t s = one (leb t infinityBits) refl
-  where
-    one : (b : Bool) → leb t infinityBits ≡ b → Done ns (PruneSays ns i t) (pruneCall l ns i (cond b (bits t) (refusing 7)))
-    one true e = prunes-at l ns i t (leb-true t infinityBits e) s
-    one false e = prunes-refused l ns i t 7 s
+-- ---- a threshold of either making
 
--- ---- settings
-pub prunes-setting : (l : Lent) (ns : List Node) (i n : ℕ) → Sound ns → Done ns (PruneSays ns i (threshold n)) (pruneCall l ns i (setting n))
+-- it is refused unless its bits are at most infinity's
+abbrev pub Taken : Threshold → Type 0
+Taken (bits t) = t ≤ infinityBits
+Taken untouched = Unit {0}
+Taken (refusing number) = Unit {0}
+
+pub given-taken : (t : ℕ) → Taken (given t)
+given-taken t = by (leb t infinityBits) refl
+  where
+    by : (b : Bool) → leb t infinityBits ≡ b → Taken (cond b (bits t) (refusing badThreshold))
+    by true e = leb-true t infinityBits e
+    by false e = tt
+
+pub setting-taken : (n : ℕ) → Taken (setting n)
 unfolding setting
-prunes-setting l ns i n s = one (leb firstSetting n) (leb n lastSetting) refl refl
+setting-taken n = by (ltb n firstPruningSetting) (leb n lastSetting) refl refl
   where
-    one : (a b : Bool) → leb firstSetting n ≡ a → leb n lastSetting ≡ b → Done ns (PruneSays ns i (threshold n)) (pruneCall l ns i (cond (a && b) (bits (threshold n)) (refusing 8)))
-    one true true low high = let below = finite n (leb-true firstSetting n low) (leb-true n lastSetting high) in prunes-at l ns i (threshold n) (omega arith) s
-    one true false low high = prunes-refused l ns i (threshold n) 8 s
-    one false b low high = prunes-refused l ns i (threshold n) 8 s
+    by : (a b : Bool) → ltb n firstPruningSetting ≡ a → leb n lastSetting ≡ b → Taken (cond a untouched (cond b (bits (threshold n)) (refusing badSetting)))
+    by true b low high = tt
+    by false true low high = let below = finite n (ltb-false _ _ low) (leb-true _ _ high) in omega arith
+    by false false low high = tt
+
+-- whichever of two answers stands beside the nodes as they were
+either-stays : (ns : List Node) → Sound ns → (b : Bool) (first second : Answer) → Step ns (cond b (outcome first ns) (outcome second ns) .nodes)
+either-stays ns s true first second = stay ns s
+either-stays ns s false first second = stay ns s
+
+pub prune-steps : (l : Lent) (ns : List Node) (i : ℕ) (t : Threshold) → Taken t → Sound ns → Step ns (pruneCall l ns i t .nodes)
+unfolding pruneCall pruneAt
+prune-steps l ns i (bits t) h s = prunes-at l ns i t h s .step
+prune-steps l ns i untouched h s = either-stays ns s (ltb i (length ns)) _ _
+prune-steps l ns i (refusing number) h s = either-stays ns s (ltb i (length ns)) _ _

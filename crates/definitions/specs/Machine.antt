@@ -11,7 +11,7 @@ use Rattle.definitions.specs.Node.{Node, node, at, variableKind, constan
 use Rattle.definitions.specs.Intern.{Lent, Built, built, stopped, intern}
 use Rattle.definitions.specs.Walk.{Mode, standard, Walked, finished, spent, halted, walkRoot}
 use Rattle.definitions.specs.Prune.{chain, keeps, filter, sumOfKept}
-use Rattle.definitions.specs.Threshold.{Threshold, bits, refusing, given}
+use Rattle.definitions.specs.Threshold.{Threshold, bits, untouched, refusing, given}
 use Rattle.definitions.specs.Settings.{setting}
 
 -- ---- calls
@@ -132,11 +132,13 @@ pruneChain l ns t ts =
     let ks = filter (keeps ns t) ts in
     cond (ltb mostTerms (length ts)) (outcome (refused tooManyTerms) ns) (prunedAs (length ks) (length ts - length ks) (sumOfKept l ns ks))
 
--- "A root that is no Add has no chain and is answered itself, 1 kept, 0 dropped."
+-- "A root that is no Add has no chain and is answered itself, 1 kept, 0 dropped." Without a threshold every root is (02 a), with no chain looked at:
+-- "23, 21 and 22 do not occur there".
 unfoldable pub pruneAt : Lent → List Node → ℕ → Threshold → Outcome
 unfolding chain pruneChain ofBits
 pruneAt l ns i (bits t) =
     cond (eqb (at ns i .kind) addKind) (pruneChain l ns (ofBits binary64 t) (chain ns i)) (outcome (pruned i 1 0) ns)
+pruneAt l ns i untouched = outcome (pruned i 1 0) ns
 pruneAt l ns i (refusing r) = outcome (refused r) ns
 
 -- 4, then 7 or 8

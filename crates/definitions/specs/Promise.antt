@@ -10,7 +10,8 @@ use lib.Ieee.{Float, binary64, ofBits, le}
 use Rattle.definitions.specs.Refusals.{notSound}
 use Rattle.definitions.specs.Intern.{Lent}
 use Rattle.definitions.specs.Patterns.{one64}
-use Rattle.definitions.specs.Settings.{threshold}
+use Rattle.definitions.specs.Threshold.{Threshold, bits, untouched, given}
+use Rattle.definitions.specs.Settings.{setting}
 use Rattle.definitions.specs.Node.{Node, variableKind, constantKind, addKind, subKind, mulKind, divKind, powKind, negKind, bothFlags}
 use Rattle.definitions.specs.Machine.{Store, Call, Answer, requested, State, empty, call}
 use Rattle.definitions.specs.Machine as Machine
@@ -90,12 +91,12 @@ nth [] i = none
 nth (x ∷ xs) zero = some x
 nth (x ∷ xs) (suc i) = nth xs i
 
--- the id and the threshold's bits of a prune
-abbrev pub prunes : ControllerCall → Option (ℕ × ℕ)
+-- the id and the threshold of a prune
+abbrev pub prunes : ControllerCall → Option (ℕ × Threshold)
 prunes (building c) = none
 prunes (simplifying i depth budget) = none
-prunes (pruning i t) = some (i, t)
-prunes (pruningBySetting i n) = some (i, threshold n)
+prunes (pruning i t) = some (i, given t)
+prunes (pruningBySetting i n) = some (i, setting n)
 prunes (naming c) = none
 prunes (reading text) = none
 
@@ -173,12 +174,25 @@ pub record Promise (l : LentLists) (cs : List ControllerCall) (al : List Control
   -- none of the three formulas is what stands for an id without one (`noFormula` of Formula.antt)
   pub balance : (i j root depth budget id steps t answer keptCount droppedCount : ℕ) (spent : Bool) (p : ControllerCall) (s0 s1 s3 : Controller) → i < j
       → nth cs i ≡ some (simplifying root depth budget) → nth al i ≡ some (simplified id spent steps)
-      → nth cs j ≡ some p → prunes p ≡ some (id, t) → nth al j ≡ some (pruned answer keptCount droppedCount)
+      → nth cs j ≡ some p → prunes p ≡ some (id, bits t) → nth al j ≡ some (pruned answer keptCount droppedCount)
       → nth (emptyController ∷ ss) i ≡ some s0 → nth ss i ≡ some s1 → nth ss j ≡ some s3
       → T (le (ofBits binary64 t) one64) → Exact (formula (s0 .nodes) root)
       → (root < length (s0 .nodes)) × (id < length (s1 .nodes)) × (answer < length (s3 .nodes))
       × Exact (formula (s1 .nodes) id)
       × Balanced (formula (s0 .nodes) root) (formula (s1 .nodes) id) (formula (s3 .nodes) answer) (ofBits binary64 t) keptCount droppedCount
+  -- 02 (a), a prune without a threshold: it answers the id untouched, "1 kept and 0 dropped; 23, 21 and 22 do not occur there"
+  pub untouched-answers : (j id : ℕ) (p : ControllerCall) (s s' : Controller)
+      → nth cs j ≡ some p → prunes p ≡ some (id, untouched) → nth (emptyController ∷ ss) j ≡ some s → nth ss j ≡ some s' → id < length (s .nodes)
+      → (nth al j ≡ some (pruned id 1 0)) × (s' ≡ s)
+  -- and after an answered simplify at i, of a formula of the exact kind, a prune of its answer at j, without a threshold, is answered so and "demand 3's
+  -- value balance still holds, with nothing dropped"
+  pub untouched-balance : (i j root depth budget id steps : ℕ) (spent : Bool) (p : ControllerCall) (s0 s1 s3 : Controller) → i < j
+      → nth cs i ≡ some (simplifying root depth budget) → nth al i ≡ some (simplified id spent steps)
+      → nth cs j ≡ some p → prunes p ≡ some (id, untouched)
+      → nth (emptyController ∷ ss) i ≡ some s0 → nth ss i ≡ some s1 → nth ss j ≡ some s3
+      → Exact (formula (s0 .nodes) root)
+      → (root < length (s0 .nodes)) × (id < length (s1 .nodes)) × (id < length (s3 .nodes)) × (nth al j ≡ some (pruned id 1 0))
+      × ((r : Reading) → valueOf r (formula (s0 .nodes) root) ≡ valueOf r (formula (s3 .nodes) id))
   -- an answered number is that of the name that the call was given
   pub names-numbered : (i number : ℕ) (name : List ℕ) (c : NameCall) (s' : Controller)
       → nth cs i ≡ some (naming c) → spelled c ≡ some name → nth al i ≡ some (numbered number) → nth ss i ≡ some s'

@@ -1,12 +1,12 @@
 -- Prune settings. 01: "Setting n, 10 to 100, is the binary64 number nearest 10^((3n-400)/100)". Definitions only.
-use mathlib.Core.Bool.{_&&_, cond}
+use mathlib.Core.Bool.{cond}
 use mathlib.Core.List.{List, [], _∷_}
 use Prim.Native.Nat.{ℕ, zero, suc, _+_, _-_, _*_, _/_, _%_, _^_, _≤_, _<_}
-use lib.Dec.{leb}
+use lib.Dec.{leb, ltb}
 use lib.ListN.{getD}
 use lib.Ieee.{binary64, hid, low}
 use Rattle.definitions.specs.Refusals.{badSetting}
-use Rattle.definitions.specs.Threshold.{Threshold, bits, refusing}
+use Rattle.definitions.specs.Threshold.{Threshold, bits, untouched, refusing}
 
 -- ---- a binary64 number as a whole number of units
 
@@ -50,8 +50,9 @@ pub record Nearest (scale : Scale) (n pattern : ℕ) : Type 0 where
 abbrev pub hundredths : Scale
 hundredths = record { slope = 3; offset = 400; root = 100 }
 
-abbrev pub firstSetting : ℕ
-firstSetting = 10
+-- the first setting that has a threshold
+abbrev pub firstPruningSetting : ℕ
+firstPruningSetting = 10
 
 abbrev pub lastSetting : ℕ
 lastSetting = 100
@@ -79,18 +80,18 @@ thresholds =
     0x3fb21f97ef20893b ∷ 0x3fb36b69fb9f788a ∷ 0x3fb4cef750695c08 ∷ 0x3fb64bf26d7c9fb7 ∷ 0x3fb7e42ce613d343 ∷
     0x3fb999999999999a ∷ []
 
--- the bit pattern of setting n, for a listed n
+-- the bit pattern of setting n, for an n from 10 to 100
 unfoldable pub threshold : ℕ → ℕ
 unfolding thresholds
-threshold n = getD thresholds (n - firstSetting) 0
+threshold n = getD thresholds (n - firstPruningSetting) 0
 
 -- what the table is believed for; proved in proofs/NearestSettings, and that no other number is nearest in proofs/NearestNumber
 abbrev pub ThresholdsNearest : Type 0
-ThresholdsNearest = (n : ℕ) → firstSetting ≤ n → n ≤ lastSetting → Nearest hundredths n (threshold n)
+ThresholdsNearest = (n : ℕ) → firstPruningSetting ≤ n → n ≤ lastSetting → Nearest hundredths n (threshold n)
 
 -- ---- the answer
 
--- the threshold of a setting; 8 for one that is not listed
+-- the threshold of a setting. 02 (a): "Settings 0 to 9 now answer the root untouched"; "Refusal 8 (setting) now begins at 101."
 unfoldable pub setting : ℕ → Threshold
 unfolding threshold
-setting n = cond (leb firstSetting n && leb n lastSetting) (bits (threshold n)) (refusing badSetting)
+setting n = cond (ltb n firstPruningSetting) untouched (cond (leb n lastSetting) (bits (threshold n)) (refusing badSetting))

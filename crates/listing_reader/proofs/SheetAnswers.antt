@@ -15,7 +15,7 @@ use Rattle.definitions.specs.Node.{Node, at, addKind, subKind, childCountListed
 use Rattle.definitions.specs.Intern.{Lent, Built, built, stopped, intern}
 use Rattle.definitions.specs.Walk.{Walked, finished, spent, halted, walkRoot, standard}
 use Rattle.definitions.specs.Prune.{chain, keeps, filter, flatten, sumOfKept}
-use Rattle.definitions.specs.Threshold.{Threshold, bits, refusing, given}
+use Rattle.definitions.specs.Threshold.{Threshold, bits, untouched, refusing, given}
 use Rattle.definitions.specs.Settings.{setting}
 use Rattle.definitions.specs.Formula.{formula}
 use Rattle.definitions.specs.Chain.{Remains}
@@ -96,6 +96,11 @@ prune-node l ns i (refusing r) s = go (ltb i (length ns))
     go : (b : Bool) → IsNode (cond b (outcome (refused r) ns) (outcome (refused badOperand) ns))
     go true = tt
     go false = tt
+prune-node l ns i untouched s = go (ltb i (length ns)) refl
+  where
+    go : (b : Bool) → ltb i (length ns) ≡ b → IsNode (cond b (outcome (pruned i 1 0) ns) (outcome (refused badOperand) ns))
+    go true e = ltb-true i (length ns) e
+    go false e = tt
 prune-node l ns i (bits t) s = one (ltb i (length ns)) refl
   where
     ts : List ℕ

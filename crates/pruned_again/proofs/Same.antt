@@ -1,20 +1,22 @@
 -- A second prune at the same threshold: the kept terms are kept again, and their sum is there.
 use Prim.Native.Nat.{ℕ, _-_, _<_, _≤_}
-use mathlib.Core.Path.{_≡_, refl, sym, ap, _∙_}
-use mathlib.Core.Bool.{Bool, true, false}
+use mathlib.Core.Path.{_≡_, refl, sym, ap, _∙_, subst}
+use mathlib.Core.Bool.{Bool, true, false, cond}
 use mathlib.Core.List.{List}
 use lib.ListN.{length}
 use native.Mathlib.Omega.{arith}
-use borrow.Author.Tests.{leb-true, leb-false}
-use lib.Dec.{leb}
+use borrow.Author.Tests.{leb-true, leb-false, ltb-true}
+use lib.Dec.{leb, ltb}
 use lib.Ieee.{binary64, ofBits}
 use Rattle.definitions.specs.Limits.{mostTerms, mostHalvings}
+use Rattle.definitions.specs.Refusals.{badOperand}
 use Rattle.definitions.specs.Node.{Node}
 use Rattle.definitions.specs.Intern.{built, Lent}
 use Rattle.definitions.specs.Prune.{chain, keeps, filter, balancedAdd}
-use Rattle.definitions.specs.Threshold.{bits, refusing}
-use Rattle.definitions.specs.Machine.{pruned, outcome, prunedAs, pruneCall}
+use Rattle.definitions.specs.Threshold.{bits, untouched, refusing}
+use Rattle.definitions.specs.Machine.{pruned, refused, outcome, prunedAs, pruneAt, pruneCall}
 use Rattle.definitions.proofs.Intern.{Sound, Inj, T-true}
+use Rattle.definitions.proofs.PruneCalls.{untouched-is}
 use Rattle.pruned_again.specs.Plain.{SamePlainly}
 use Rattle.pruned_again.proofs.Regrown.{ext-refl}
 use Rattle.pruned_again.proofs.Fitting.{fitting, apart}
@@ -56,8 +58,22 @@ same-way l ns i t j k ms s u h (sum ek few b kept) = same-sum l ns i t j ms s u 
 same-way l ns i t j k ms s u h (lone ek ej em kept) =
     (1, (λ x. pruneCall l (em x) (ej x) (bits t)) ∙ does-lone l ns i t h ek ∙ (λ x. outcome (pruned (sym ej x) 1 0) (sym em x)))
 
+-- without a threshold the root is answered itself, and so it is again
+same-untouched : (l : Lent) (ns : List Node) (i id kept dropped : ℕ) → pruneCall l ns i untouched .answer ≡ pruned id kept dropped
+    → let ms = pruneCall l ns i untouched .nodes in
+    (kept′ : ℕ) × (pruneCall l ms id untouched ≡ outcome (pruned id kept′ 0) ms)
+unfolding pruneCall pruneAt
+same-untouched l ns i id kept dropped e = go (ltb i (length ns)) refl e
+  where
+    go : (b : Bool) → ltb i (length ns) ≡ b → cond b (outcome (pruned i 1 0) ns) (outcome (refused badOperand) ns) .answer ≡ pruned id kept dropped
+        → let ms = cond b (outcome (pruned i 1 0) ns) (outcome (refused badOperand) ns) .nodes in
+        (kept′ : ℕ) × (pruneCall l ms id untouched ≡ outcome (pruned id kept′ 0) ms)
+    go true q e = let same : i ≡ id = cc in (1, subst (λ (x : ℕ). pruneCall l ns x untouched ≡ outcome (pruned x 1 0) ns) same (untouched-is l ns i (ltb-true i (length ns) q)))
+    go false q e = let z : _≡_ {A = ℕ} 0 1 = cc in absurd (omega arith)
+
 pub same-plainly : SamePlainly
 same-plainly l ns i id kept dropped (bits t) p e =
     let a = answered l ns i t id kept dropped e in
     same-way l ns i t id kept (pruneCall l ns i (bits t) .nodes) (fitting ns p) (apart ns p) (a .inside) (a .way)
+same-plainly l ns i id kept dropped untouched p e = same-untouched l ns i id kept dropped e
 same-plainly l ns i id kept dropped (refusing r) p e = absurd (refused-not l ns i r id kept dropped e)

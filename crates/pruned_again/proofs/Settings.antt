@@ -11,7 +11,7 @@ use lib.Ieee.{binary64, ofBits, le}
 use lib.Ieee.Fits.{and-l, and-r}
 use Rattle.definitions.specs.Limits.{infinityBits}
 use Rattle.definitions.specs.Threshold.{bits}
-use Rattle.definitions.specs.Settings.{firstSetting, lastSetting, thresholds, threshold, setting}
+use Rattle.definitions.specs.Settings.{firstPruningSetting, lastSetting, thresholds, threshold, setting}
 use Rattle.definitions.specs.Machine.{pruneBySetting}
 use Rattle.definitions.proofs.NearestSettings.{finite}
 use Rattle.definitions.proofs.SettingAnswers as Settings
@@ -23,16 +23,16 @@ use Rattle.pruned_again.proofs.Answered.{given-is}
 
 -- a setting with a threshold is listed, and its threshold is the table's
 pub record Listed (n t : ℕ) : Type 0 where
-  pub first : firstSetting ≤ n
+  pub first : firstPruningSetting ≤ n
   pub last : n ≤ lastSetting
   pub is : threshold n ≡ t
 
 pub listed : (n t : ℕ) → setting n ≡ bits t → Listed n t
-listed n t e = by-tests (leb firstSetting n) (leb n lastSetting) refl refl
+listed n t e = by-tests (leb firstPruningSetting n) (leb n lastSetting) refl refl
   where
-    by-tests : (low high : Bool) → leb firstSetting n ≡ low → leb n lastSetting ≡ high → Listed n t
+    by-tests : (low high : Bool) → leb firstPruningSetting n ≡ low → leb n lastSetting ≡ high → Listed n t
     by-tests true true low high =
-        let first = leb-true firstSetting n low in
+        let first = leb-true firstPruningSetting n low in
         let last = leb-true n lastSetting high in
         let same = sym (Settings.listed n first last) ∙ e in
         record { first = first; last = last; is = cc }
@@ -41,7 +41,7 @@ listed n t e = by-tests (leb firstSetting n) (leb n lastSetting) refl refl
         let z : _≡_ {A = ℕ} 0 1 = cc in
         absurd (omega arith)
     by-tests false high low h =
-        let no-threshold = sym (Settings.below-first n (omega (arith, leb-false firstSetting n low))) ∙ e in
+        let no-threshold = sym (Settings.below-first n (omega (arith, leb-false firstPruningSetting n low))) ∙ e in
         let z : _≡_ {A = ℕ} 0 1 = cc in
         absurd (omega arith)
 
@@ -91,9 +91,9 @@ from-each a (b ∷ bs) h (suc i) (suc j) r l =
     let next = le (ofBits binary64 a) (ofBits binary64 b) in
     from-each b bs (and-r next (rises b bs) (and-r (leb a infinityBits) (next && rises b bs) h)) i j (omega arith) (omega arith)
 
-table-rises : (n k : ℕ) → firstSetting ≤ n → n ≤ k → k ≤ lastSetting → From (threshold n) (threshold k)
+table-rises : (n k : ℕ) → firstPruningSetting ≤ n → n ≤ k → k ≤ lastSetting → From (threshold n) (threshold k)
 unfolding threshold thresholds rises le ofBits
-table-rises n k low up high = from-each (getD thresholds 0 0) (drop 1 thresholds) tt (n - firstSetting) (k - firstSetting) (omega arith) (omega arith)
+table-rises n k low up high = from-each (getD thresholds 0 0) (drop 1 thresholds) tt (n - firstPruningSetting) (k - firstPruningSetting) (omega arith) (omega arith)
 
 pub settings-rise : SettingsRise
 settings-rise n k t u up e f =

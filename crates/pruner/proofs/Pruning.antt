@@ -32,7 +32,7 @@ use Rattle.chains.specs.Terms.{Flattens, Holds}
 use Rattle.sums.specs.Sums.{part, Summable, Sums}
 use Rattle.pruner.specs.Answers.{meaning, thresholdOf, Prunes, PrunesChain, PrunesRoot, PrunesCall}
 use Rattle.pruner.specs.declared.threshold.Threshold.{Threshold}
-use Rattle.pruner.specs.declared.threshold.Threshold.the-variants.{Bits, Refusing}
+use Rattle.pruner.specs.declared.threshold.Threshold.the-variants.{Bits, Untouched, Refusing}
 use Rattle.chains.specs.declared.chain.Flattened.{Flattened}
 use Rattle.chains.specs.declared.chain.Flattened.the-variants.{Terms, TooMany}
 use Rattle.pruner.specs.declared.Answer.{Answer}
@@ -90,6 +90,11 @@ module _ (words slots : List ℕ) (s : DagArena) (sound : Sound words slots s) w
         → PrunesCall (memory words slots s) root threshold answer m′
     at-root threshold bits e answer m′ p =
         record { plainly = p .plainly ∙ at-known (T.bits bits) ∙ ap (λ (x : Threshold). pruneCall l ns root (thresholdOf x)) (sym e); kept = p .kept; unchanged = p .unchanged }
+
+    -- no threshold
+    pub answers-root : (threshold : Threshold) → threshold ≡ Untouched → PrunesCall (memory words slots s) root threshold (Pruned root 1 0) (memory words slots s)
+    unfolding pruneAt
+    answers-root threshold e = same _ (Pruned root 1 0) (at-known T.untouched ∙ ap (λ (x : Threshold). pruneCall l ns root (thresholdOf x)) (sym e))
 
     -- a threshold that is refused
     pub no-threshold : (threshold : Threshold) (number : ℕ) → threshold ≡ Refusing number

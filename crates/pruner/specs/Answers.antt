@@ -14,16 +14,17 @@ use Rattle.store.specs.Memory.{Memory, keepsInterned}
 use Rattle.pruner.specs.declared.Answer.{Answer}
 use Rattle.pruner.specs.declared.Answer.the-variants.{Pruned, Refused}
 use Rattle.pruner.specs.declared.threshold.Threshold.{Threshold}
-use Rattle.pruner.specs.declared.threshold.Threshold.the-variants.{Bits, Refusing}
+use Rattle.pruner.specs.declared.threshold.Threshold.the-variants.{Bits, Untouched, Refusing}
 
 -- an answered prune with its two counts, or a refusal by its number
 abbrev pub meaning : Answer → M.Answer
 meaning (Pruned id kept dropped) = M.pruned id kept dropped
 meaning (Refused number) = M.refused number
 
--- a threshold's bits, or the refusal of what was handed in
+-- a threshold's bits, none, or the refusal of what was handed in
 abbrev pub thresholdOf : Threshold → T.Threshold
 thresholdOf (Bits bits) = T.bits bits
+thresholdOf Untouched = T.untouched
 thresholdOf (Refusing number) = T.refusing number
 
 -- ---- prunes

@@ -92,7 +92,7 @@ fn prune_additive_chain(
     }
 }
 
-// What comes before the chain: 4, then 7 or 8.
+// What comes before the chain: 4, then 7 or 8; without a threshold the root is answered itself (02 a).
 fn prune_call(
     nodes: &mut [u64],
     slots: &mut [u32],
@@ -112,6 +112,14 @@ fn prune_call(
     }
     match threshold {
         Threshold::Bits(bits) => prune_additive_chain(nodes, slots, arena, id, bits),
+        Threshold::Untouched => Outcome {
+            answer: Answer::Pruned {
+                id,
+                kept: 1,
+                dropped: 0,
+            },
+            arena,
+        },
         Threshold::Refusing(number) => Outcome {
             answer: Answer::Refused(number),
             arena,

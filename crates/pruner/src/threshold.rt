@@ -10,6 +10,8 @@ use fold::BITS_OF_INFINITY;
 pub enum Threshold {
     // The binary64 bits of a threshold.
     Bits(u64),
+    // None: the root is answered untouched.
+    Untouched,
     // The refusal of what was handed in.
     Refusing(u64),
 }
@@ -32,6 +34,7 @@ pub(crate) fn of_setting(setting: u32) -> Threshold
 {
     match settings::threshold(setting) {
         settings::Setting::Threshold(bits) => Threshold::Bits(bits),
+        settings::Setting::Untouched => Threshold::Untouched,
         settings::Setting::NotListed => Threshold::Refusing(BAD_SETTING),
     }
 }

@@ -3,7 +3,8 @@ ghost use mathlib.Core.Path.{_≡_};
 ghost use Rattle.definitions.specs.Settings as Settings;
 ghost use Rattle.settings.specs.Answers.{meaning};
 
-const FIRST_SETTING: u32 = 10;
+// The first setting that has a threshold.
+const FIRST_PRUNING_SETTING: u32 = 10;
 
 const LAST_SETTING: u32 = 100;
 
@@ -105,6 +106,8 @@ const THRESHOLDS: [u64; 91] = [
 pub enum Setting {
     // Prune at the threshold with this bit pattern.
     Threshold(u64),
+    // Prune nothing: settings 0 to 9 (02 a).
+    Untouched,
     // No such setting: refusal 8.
     NotListed,
 }
@@ -112,12 +115,12 @@ pub enum Setting {
 pub fn threshold(setting: u32) -> Setting
     ensures { λ r. ⌜ meaning r ≡ Settings.setting setting ⌝ }
 {
-    if setting < FIRST_SETTING {
-        return Setting::NotListed;
+    if setting < FIRST_PRUNING_SETTING {
+        return Setting::Untouched;
     }
     if LAST_SETTING < setting {
         return Setting::NotListed;
     }
-    let place = (setting - FIRST_SETTING) as usize;
+    let place = (setting - FIRST_PRUNING_SETTING) as usize;
     Setting::Threshold(THRESHOLDS[place])
 }

@@ -7,7 +7,7 @@ use crate::node::{Children, Control, Kind, Node, Operator};
 use crate::prune::{Pruned, prune};
 use crate::record::{check_child_count, check_flags, check_threshold};
 use crate::refusal::Refusal;
-use crate::settings::threshold_of_setting;
+use crate::settings::{Setting, meaning_of_setting};
 use crate::store::Store;
 use crate::walk::{Walked, simplify};
 
@@ -68,8 +68,10 @@ fn perform(store: &mut Store, call: &Call) -> Result<CallAnswer, Refusal> {
         }
         Call::PruneBySetting { root, setting } => {
             check_ids(store, &[*root])?;
-            let threshold = threshold_of_setting(*setting).ok_or(Refusal::Setting)?;
-            prune(store, *root, threshold).map(CallAnswer::Pruned)
+            match meaning_of_setting(*setting).ok_or(Refusal::Setting)? {
+                Setting::Untouched => Ok(CallAnswer::Pruned(Pruned { id: *root, kept: 1, dropped: 0 })),
+                Setting::Threshold(threshold) => prune(store, *root, threshold).map(CallAnswer::Pruned),
+            }
         }
     }
 }

@@ -37,7 +37,7 @@ pub use prune::{Pruned, prune};
 pub use record::Record;
 pub use refusal::Refusal;
 pub use run::{Answer, Detail, End, Run, run};
-pub use settings::threshold_of_setting;
+pub use settings::{Setting, meaning_of_setting};
 pub use store::{Noticed, Store};
 pub use text::{
     Derivation, NESTING_MAXIMUM, Step, TEXT_BYTES_MAXIMUM, TextLists, derivations, read_text, read_text_by_definition,

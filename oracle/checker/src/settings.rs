@@ -1,11 +1,13 @@
-//! The threshold of a setting (01, "symbol registry and settings"): the
-//! binary64 number nearest 10^((3n-400)/100), by whole-number arithmetic.
+//! What a setting asks of a prune (01, "symbol registry and settings"; 02 a):
+//! nothing from 0 to 9, then a threshold, the binary64 number nearest
+//! 10^((3n-400)/100), by whole-number arithmetic.
 
 use std::cmp::Ordering;
 
 use crate::natural::Natural;
 
-pub const SETTING_MINIMUM: u64 = 10;
+/// The first setting that has a threshold.
+pub const PRUNING_MINIMUM: u64 = 10;
 pub const SETTING_MAXIMUM: u64 = 100;
 /// The power to which both sides are raised to be whole.
 const ROOT: u32 = 100;
@@ -14,11 +16,24 @@ const FRACTION_BITS: u32 = 52;
 /// Bits of the number 2^k are (k + EXPONENT_BIAS) shifted by the fraction.
 const EXPONENT_BIAS: u64 = 1_023;
 
-/// The threshold of a setting from 10 to 100.
-pub fn threshold_of_setting(setting: u64) -> Option<f64> {
-    if !(SETTING_MINIMUM..=SETTING_MAXIMUM).contains(&setting) {
-        return None;
+#[derive(Clone, Copy, Debug, PartialEq)]
+pub enum Setting {
+    /// The root is answered itself, 1 kept and 0 dropped.
+    Untouched,
+    Threshold(f64),
+}
+
+/// A setting from 0 to 100; any other is refused with 8.
+pub fn meaning_of_setting(setting: u64) -> Option<Setting> {
+    match setting {
+        0..PRUNING_MINIMUM => Some(Setting::Untouched),
+        PRUNING_MINIMUM..=SETTING_MAXIMUM => Some(Setting::Threshold(threshold(setting))),
+        _ => None,
     }
+}
+
+/// The threshold of a setting from 10 to 100.
+fn threshold(setting: u64) -> f64 {
     let tenths = (400 - 3 * setting) as u32;
     let mut bits = 10_f64.powf(-f64::from(tenths) / 100.0).to_bits();
     while midpoint_above(bits - 1, tenths) == Ordering::Greater {
@@ -27,7 +42,7 @@ pub fn threshold_of_setting(setting: u64) -> Option<f64> {
     while midpoint_above(bits, tenths) == Ordering::Less {
         bits += 1;
     }
-    Some(f64::from_bits(bits))
+    f64::from_bits(bits)
 }
 
 /// How the midpoint of the number with these bits and the next one compares

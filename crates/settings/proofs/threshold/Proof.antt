@@ -11,11 +11,11 @@ use Rattle.settings.proofs.threshold.Tie as tie
 
 returns : tie.Need-returns
 unfolding meaning
-returns c = sym (below-first _ (c .if1 .taken))
+returns c = sym (below-first _ (omega (arith, c .if1 .taken)))
 
 returns-2 : tie.Need-returns-2
 unfolding meaning
-returns-2 c = sym (above-last _ (c .if2 .taken))
+returns-2 c = sym (above-last _ (omega (arith, c .if2 .taken)))
 
 cast-place : tie.Need-cast-place
 cast-place c = search needs

@@ -137,7 +137,7 @@ fn store_call(random: &mut Random, count: usize) -> Call {
         }
         _ => Call::PruneBySetting {
             root: operand(random, count),
-            setting: random.pick(&[9, 10, 50, 90, 100, 101, 1 << 31]),
+            setting: random.pick(&[0, 9, 10, 50, 90, 100, 101, u64::from(u32::MAX)]),
         },
     }
 }
