@@ -93,7 +93,7 @@ extern "C" {
 #define CURVALIQUE_BAD_CODE 5         /* an operator, flags, control or depth value that is not listed */
 #define CURVALIQUE_BAD_CHILD_COUNT 6  /* the number of children */
 #define CURVALIQUE_BAD_THRESHOLD 7    /* a threshold that is NaN or has the sign bit */
-#define CURVALIQUE_BAD_SETTING 8      /* a setting above 100 */
+#define CURVALIQUE_BAD_SETTING 8      /* a setting above 200 */
 #define CURVALIQUE_BAD_NAME_LENGTH 9  /* a name that is empty or over 32 bytes */
 #define CURVALIQUE_NOT_A_NUMBER 10    /* a constant whose bits are a NaN's */
 #define CURVALIQUE_OUTSIDE_LANGUAGE 11 /* a text that is not of the language */
@@ -308,10 +308,10 @@ uint64_t curvalique_prune(
     uint32_t root, uint64_t threshold, uint64_t *id, uint64_t *kept, uint64_t *dropped);
 
 /*
- * The same by a setting n. From 10 to 100 it is the prune at a threshold, the
- * binary64 number nearest to 10^((3n-400)/100). From 0 to 9 nothing is pruned:
+ * The same by a setting n. From 20 to 200 it is the prune at a threshold, the
+ * binary64 number nearest to 10^((3n-800)/200). From 0 to 19 nothing is pruned:
  * the root is answered itself, whatever it is, with 1 kept and 0 dropped, and
- * nothing is changed. Refusals: 20, 4, 8; from 10 on also 23, 21 and 22 as there.
+ * nothing is changed. Refusals: 20, 4, 8; from 20 on also 23, 21 and 22 as there.
  */
 uint64_t curvalique_prune_by_setting(
     uint64_t *nodes, size_t node_words, uint32_t *slots, size_t slot_count,

@@ -282,7 +282,7 @@ static inline uint64_t curvalique_store_prune(
     return curvalique_answered_(refusal, id, &answer->id);
 }
 
-/* The same by a setting: at its threshold, or, from 0 to 9, nothing is pruned. */
+/* The same by a setting: at its threshold, or, from 0 to 19, nothing is pruned. */
 static inline uint64_t curvalique_store_prune_by_setting(
     struct curvalique_store *store, uint32_t root, uint32_t setting, struct curvalique_pruned *answer) {
     uint64_t id = 0;

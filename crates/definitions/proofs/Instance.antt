@@ -81,11 +81,11 @@ pub instance-read : controllerAnswers lent emptyController texts ≡ stored 2 �
 unfolding controllerAnswers sameName after
 instance-read = refl
 
--- The knob (02 a): flow + 0.25 simplified; settings 0 and 9 answer it untouched, with 1 kept; 10 and 100 keep both of its terms; 4 comes before 8, which begins at 101.
+-- The knob (02 a, m): flow + 0.25 simplified; settings 0 and 19 answer it untouched, with 1 kept; 20 and 200 keep both of its terms; 4 comes before 8, which begins at 201.
 abbrev knob : List ControllerCall
 knob =
-    building (variable 0) ∷ building (constant 0x3FD0000000000000) ∷ building (add 0 1) ∷ simplifying 2 255 100 ∷ pruningBySetting 2 0 ∷ pruningBySetting 2 9
-    ∷ pruningBySetting 2 10 ∷ pruningBySetting 2 100 ∷ pruningBySetting 3 101 ∷ pruningBySetting 2 101 ∷ pruningBySetting 2 0xFFFFFFFF ∷ []
+    building (variable 0) ∷ building (constant 0x3FD0000000000000) ∷ building (add 0 1) ∷ simplifying 2 255 100 ∷ pruningBySetting 2 0 ∷ pruningBySetting 2 19
+    ∷ pruningBySetting 2 20 ∷ pruningBySetting 2 200 ∷ pruningBySetting 3 201 ∷ pruningBySetting 2 201 ∷ pruningBySetting 2 0xFFFFFFFF ∷ []
 
 pub instance-knob : controllerAnswers lent emptyController knob
     ≡ stored 0 ∷ stored 1 ∷ stored 2 ∷ simplified 2 false 3 ∷ pruned 2 1 0 ∷ pruned 2 1 0 ∷ pruned 2 2 0 ∷ pruned 2 2 0 ∷ refused 4 ∷ refused 8 ∷ refused 8 ∷ []

@@ -21,11 +21,6 @@ pub mod Readings
 pub mod Histories
 pub mod Lifting
 pub mod StoreLists
-pub mod Units
-pub mod TableRule
-pub mod NearestTest
-pub mod NearestSettings
-pub mod NearestNumber
 pub mod SettingAnswers
 pub mod Moved
 pub mod Instance

@@ -28,7 +28,7 @@ use Rattle.definitions.proofs.Intern.{Sound, Step, Result, stay}
 use Rattle.definitions.proofs.Numbers.{plus-zero}
 use Rattle.definitions.proofs.Patterns.{constantly, zero-fits}
 use Rattle.definitions.proofs.Prune.{sum-terms, split-sum, split-length, Flat, terms-ok, balances, ExactEach, exact-terms, SmallThreshold, threshold-of, kept-is, flat-filter, filter-length}
-use Rattle.definitions.proofs.NearestSettings.{finite}
+use Rattle.thresholds.proofs.NearestThresholds.{finite}
 use Rattle.definitions.proofs.Calls.{Done}
 
 pub remains-of : (l : Lent) (ns : List Node) (ks : List ℕ) → Sound ns → Flat ns ks → length ks ≤ 4096 → Result ns (λ ms i. Remains (map (formula ns) ks) (formula ms i)) (balancedAdd 13 l ns ks)

@@ -30,7 +30,7 @@ badChildCount = 6
 abbrev pub badThreshold : ℕ
 badThreshold = 7
 
--- 8: setting
+-- 8: setting, "above 200" (02 m)
 abbrev pub badSetting : ℕ
 badSetting = 8
 

@@ -15,7 +15,7 @@ pub const BAD_CODE: u64 = 5;
 pub const BAD_CHILD_COUNT: u64 = 6;
 // "threshold NaN or sign bit set"
 pub const BAD_THRESHOLD: u64 = 7;
-// "setting"
+// "setting", above 200
 pub const BAD_SETTING: u64 = 8;
 // "name length"
 pub const BAD_NAME_LENGTH: u64 = 9;

@@ -1,11 +1,12 @@
 // Numbers in ASCII digits.
 ghost use mathlib.Core.Path.{_≡_};
-ghost use mathlib.Core.List.{_∷_};
+ghost use mathlib.Core.List.{[], _∷_, _++_};
 ghost use Prim.Native.Nat.{_+_, _≤_, _<_};
-ghost use Rattle.definitions.specs.Listing.{decimal, hex, hexDigit, space};
+ghost use Rattle.definitions.specs.Listing.{decimal, hex, hexDigit, lineFeed, space};
 ghost use lib.ListN.{drop};
-ghost use Rattle.listing_lines.specs.Line.{lineBytes, mostDigits, numberBytes, Extends, Spells};
+ghost use Rattle.listing_lines.specs.Line.{lineBytes, mostDigits, numberBytes, Extends, Holds, Spells};
 use crate::line::Line;
+use crate::line::new;
 use crate::line::with_bytes;
 
 // A number of 64 bits has 20 decimal digits at most; a payload has 16 hex digits.
@@ -103,4 +104,11 @@ pub(crate) fn with_payload(line: Line, n: u64) -> Line
     ensures { λ r. ⌜ Extends line (space ∷ hex n) numberBytes r ⌝ }
 {
     with_digits(with_bytes(line, b" "), hex_digits(n))
+}
+
+// A line that is one number in 16 capital hex digits.
+pub fn hex_line(n: u64) -> Line
+    ensures { λ r. ⌜ Holds (hex n ++ (lineFeed ∷ [])) r ⌝ }
+{
+    with_bytes(with_digits(new(), hex_digits(n)), b"\n")
 }

@@ -11,6 +11,7 @@ pub use digits::DECIMAL_BASE;
 pub use digits::HEX_BASE;
 pub use digits::HEX_DIGITS;
 pub use digits::ZERO;
+pub use digits::hex_line;
 pub use digits::with_number;
 pub use line::LINE_BYTES;
 pub use line::Line;

@@ -13,9 +13,9 @@ use Rattle.definitions.specs.Limits.{infinityBits}
 use Rattle.definitions.specs.Threshold.{bits}
 use Rattle.definitions.specs.Settings.{firstPruningSetting, lastSetting, thresholds, threshold, setting}
 use Rattle.definitions.specs.Machine.{pruneBySetting}
-use Rattle.definitions.proofs.NearestSettings.{finite}
 use Rattle.definitions.proofs.SettingAnswers as Settings
 use Rattle.definitions.proofs.Prune.{clear-bits}
+use Rattle.definitions.proofs.PruneCalls.{Taken, setting-taken}
 use Rattle.pruned_again.specs.Plain.{NotBelow}
 use Rattle.pruned_again.specs.Stored.{Asks, by-setting, SettingAsks, SettingsRise}
 use Rattle.pruned_again.proofs.Order.{le-up, le-refl, le-not-lt, no-nan}
@@ -45,11 +45,11 @@ listed n t e = by-tests (leb firstPruningSetting n) (leb n lastSetting) refl ref
         let z : _≡_ {A = ℕ} 0 1 = cc in
         absurd (omega arith)
 
-finite-at : (n t : ℕ) → setting n ≡ bits t → threshold n ≤ infinityBits
-finite-at n t e = let there = listed n t e in let below = finite n (there .first) (there .last) in omega arith
+finite-at : (n t : ℕ) → setting n ≡ bits t → t ≤ infinityBits
+finite-at n t e = subst Taken e (setting-taken n)
 
 pub setting-asks : SettingAsks
-setting-asks i n t e = subst (Asks (pruneBySetting i n) i) (e ∙ sym (given-is t (subst (λ (b : ℕ). b ≤ infinityBits) (listed n t e .is) (finite-at n t e)))) by-setting
+setting-asks i n t e = subst (Asks (pruneBySetting i n) i) (e ∙ sym (given-is t (finite-at n t e))) by-setting
 
 -- ---- the thresholds rise
 
@@ -101,5 +101,5 @@ settings-rise n k t u up e f =
     let second = listed k u f in
     let there = table-rises n k (first .first) up (second .last) in
     let risen : NotBelow (threshold n) (threshold k) = le-not-lt (ofBits binary64 (threshold n)) (ofBits binary64 (threshold k))
-    (clear-bits (threshold n) (finite-at n t e)) (clear-bits (threshold k) (there .0)) (there .1) in
+    (clear-bits (threshold n) (subst (λ (b : ℕ). b ≤ infinityBits) (sym (first .is)) (finite-at n t e))) (clear-bits (threshold k) (there .0)) (there .1) in
     subst₂ NotBelow (first .is) (second .is) risen

@@ -35,7 +35,7 @@ static struct arguments any_arguments(const struct store *store) {
     drawn.code = (uint32_t)below(8);
     drawn.flags = (uint32_t)below(5);
     drawn.depth = (uint32_t)below(258);
-    drawn.setting = (uint32_t)below(120);
+    drawn.setting = (uint32_t)below(240);
     drawn.word = any_word();
     drawn.budget = below(200);
     return drawn;

@@ -37,7 +37,7 @@ fn any_arguments(trial: &mut Trial, count: u64) -> Arguments {
         code: trial.below(8) as u32,
         flags: trial.below(5) as u32,
         depth: trial.below(258) as u32,
-        setting: trial.below(120) as u32,
+        setting: trial.below(240) as u32,
         word: trial.any_word(),
         budget: trial.below(200),
     }

@@ -1,16 +1,19 @@
-//! What a setting asks of a prune (01, "symbol registry and settings"; 02 a):
-//! nothing from 0 to 9, then a threshold, the binary64 number nearest
-//! 10^((3n-400)/100), by whole-number arithmetic.
+//! What a setting asks of a prune (02 a, m): nothing from 0 to 19, then a
+//! threshold, the binary64 number nearest 10^((3n-800)/200). A first guess by the
+//! host's power function is moved by comparing 200th powers of whole numbers.
 
 use std::cmp::Ordering;
 
 use crate::natural::Natural;
 
 /// The first setting that has a threshold.
-pub const PRUNING_MINIMUM: u64 = 10;
-pub const SETTING_MAXIMUM: u64 = 100;
+pub const PRUNING_MINIMUM: u64 = 20;
+pub const SETTING_MAXIMUM: u64 = 200;
 /// The power to which both sides are raised to be whole.
-const ROOT: u32 = 100;
+const ROOT: u32 = 200;
+/// Setting n stands for the number 10^((SLOPE·n - OFFSET) / ROOT).
+const SLOPE: u64 = 3;
+const OFFSET: u64 = 800;
 /// The bits of a binary64 number's fraction.
 const FRACTION_BITS: u32 = 52;
 /// Bits of the number 2^k are (k + EXPONENT_BIAS) shifted by the fraction.
@@ -23,7 +26,7 @@ pub enum Setting {
     Threshold(f64),
 }
 
-/// A setting from 0 to 100; any other is refused with 8.
+/// A setting from 0 to 200; any other is refused with 8.
 pub fn meaning_of_setting(setting: u64) -> Option<Setting> {
     match setting {
         0..PRUNING_MINIMUM => Some(Setting::Untouched),
@@ -32,10 +35,10 @@ pub fn meaning_of_setting(setting: u64) -> Option<Setting> {
     }
 }
 
-/// The threshold of a setting from 10 to 100.
+/// The threshold of a setting from 20 to 200.
 fn threshold(setting: u64) -> f64 {
-    let tenths = (400 - 3 * setting) as u32;
-    let mut bits = 10_f64.powf(-f64::from(tenths) / 100.0).to_bits();
+    let tenths = (OFFSET - SLOPE * setting) as u32;
+    let mut bits = 10_f64.powf(-f64::from(tenths) / f64::from(ROOT)).to_bits();
     while midpoint_above(bits - 1, tenths) == Ordering::Greater {
         bits -= 1;
     }
@@ -46,10 +49,10 @@ fn threshold(setting: u64) -> f64 {
 }
 
 /// How the midpoint of the number with these bits and the next one compares
-/// with 10^(-tenths/100), by the hundredth powers of both.
+/// with 10^(-tenths/200), by the 200th powers of both.
 ///
 /// The number is m·2^-k with m of 53 bits, so that the midpoint is
-/// (2m+1)·2^-(k+1); its power times 10^tenths is compared with 2^(100·(k+1)).
+/// (2m+1)·2^-(k+1); its power times 10^tenths is compared with 2^(200·(k+1)).
 fn midpoint_above(bits: u64, tenths: u32) -> Ordering {
     let mantissa = bits & ((1 << FRACTION_BITS) - 1) | 1 << FRACTION_BITS;
     let scale = EXPONENT_BIAS + u64::from(FRACTION_BITS) - (bits >> FRACTION_BITS);

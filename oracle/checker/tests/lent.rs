@@ -106,11 +106,11 @@ fn counts_and_sizes() {
 #[test]
 fn order_of_a_call() {
     let mut store = sample();
-    let settings = [(9, Ok(())), (100, Ok(())), (101, Err(Refusal::Setting))];
+    let settings = [(19, Ok(())), (200, Ok(())), (201, Err(Refusal::Setting))];
     for (setting, expected) in settings {
         assert_eq!(call(&mut store, &Call::PruneBySetting { root: 3, setting }).map(|_| ()), expected);
     }
-    assert_eq!(call(&mut store, &Call::PruneBySetting { root: 50, setting: 101 }), Err(Refusal::Operand));
+    assert_eq!(call(&mut store, &Call::PruneBySetting { root: 50, setting: 201 }), Err(Refusal::Operand));
     let deep = Call::Simplify { root: 50, depth_limit: 256, budget: 1 };
     assert_eq!(call(&mut store, &deep), Err(Refusal::Value));
     store.words[2] ^= 1;

@@ -137,7 +137,7 @@ fn store_call(random: &mut Random, count: usize) -> Call {
         }
         _ => Call::PruneBySetting {
             root: operand(random, count),
-            setting: random.pick(&[0, 9, 10, 50, 90, 100, 101, u64::from(u32::MAX)]),
+            setting: random.pick(&[0, 19, 20, 21, 100, 179, 200, 201, u64::from(u32::MAX)]),
         },
     }
 }

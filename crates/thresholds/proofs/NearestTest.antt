@@ -1,22 +1,19 @@
 -- A test of `Nearest` that antt computes. It divides both numbers by 2 ^ more first, so that the powers compared are shorter. Assumes nothing.
 use mathlib.Core.Path.{_≡_, sym, ap, ap₂, _∙_, subst, subst₂}
-use Prim.Native.Nat.{ℕ, zero, suc, _+_, _-_, _*_, _^_, _≤_, _<_}
-use native.Mathlib.Nat.{le-of-lt, mul-assoc, mul-right-comm, mul-mul-mul-comm, mul-suc, mul-zero, add-mul, pow-zero, pow-suc, mul-lt-mul-of-pos-right}
+use mathlib.Core.List.{List}
+use Prim.Native.Nat.{ℕ, _+_, _-_, _*_, _^_, _≤_, _<_}
+use native.Mathlib.Nat.{le-of-lt, mul-assoc, mul-right-comm, add-mul, mul-lt-mul-of-pos-right}
 use native.Mathlib.Omega.{arith}
 use mathlib.Core.Bool.{Bool, _&&_}
 use lib.Dec.{T, ltb, ltb→lt}
+use lib.ListN.{length, getD}
 use lib.Ieee.Fits.{and-l, and-r}
 use lib.Pow.{pow-add, pow-pos}
 use lib.Ieee.{binary64, hid, low}
-use Rattle.definitions.specs.Settings.{Scale, Nearest, raised, target, units}
-use Rattle.definitions.proofs.Units.{units-raised}
-
-power-of-product : (a more n : ℕ) → (a * 2 ^ more) ^ n ≡ a ^ n * 2 ^ (more * n)
-power-of-product a more zero = simp (pow-zero, mul-zero)
-power-of-product a more (suc n) =
-    pow-suc (a * 2 ^ more) n ∙ ap (λ (x : ℕ). x * (a * 2 ^ more)) (power-of-product a more n)
-    ∙ mul-mul-mul-comm (a ^ n) (2 ^ (more * n)) a (2 ^ more)
-    ∙ ap₂ (λ (x y : ℕ). x * y) (sym (pow-suc a n)) (sym (pow-add 2 (more * n) more) ∙ ap (λ (x : ℕ). 2 ^ x) (sym (mul-suc more n)))
+use Rattle.thresholds.specs.Nearest.{Scale, Nearest, raised, target, units}
+use Rattle.thresholds.proofs.Units.{units-raised}
+use Rattle.thresholds.proofs.Powers.{power-of-product, power-of-power}
+use Rattle.thresholds.proofs.TableRule.{every, at-number}
 
 module _ (scale : Scale) (more : ℕ) where
   -- `target`, divided by 2 ^ (more · root)
@@ -25,7 +22,8 @@ module _ (scale : Scale) (more : ℕ) where
 
   raised-more : (sum : ℕ) → raised scale (sum * 2 ^ more) ≡ raised scale sum * 2 ^ (more * scale .root)
   raised-more sum =
-      ap (λ (x : ℕ). x * 10 ^ scale .offset) (power-of-product sum more (scale .root))
+      ap (λ (x : ℕ). x * 10 ^ scale .offset)
+      (power-of-product sum (2 ^ more) (scale .root) ∙ ap (λ (x : ℕ). sum ^ scale .root * x) (power-of-power 2 more (scale .root)))
       ∙ mul-right-comm (sum ^ scale .root) (2 ^ (more * scale .root)) (10 ^ scale .offset)
 
   target-more : (n : ℕ) → more ≤ low binary64 + 1 → shortTarget n * 2 ^ (more * scale .root) ≡ target scale n
@@ -91,8 +89,14 @@ module _ (scale : Scale) (more : ℕ) where
   unfolding shortTest
   nearestTest n bits = shortTest n (bits - more * hid binary64)
 
-  pub nearest-of-test : (n bits : ℕ) → more ≤ low binary64 + 1 → T (nearestTest n bits) → Nearest scale n bits
+  nearest-of-test : (n bits : ℕ) → more ≤ low binary64 + 1 → T (nearestTest n bits) → Nearest scale n bits
   unfolding nearestTest
   nearest-of-test n bits h passed =
       let short : ShortNearest n (bits - more * hid binary64) = short-of-test n (bits - more * hid binary64) passed in
       subst (λ (x : ℕ). Nearest scale n x) (omega (arith, short .normal)) (nearest-of-short n (bits - more * hid binary64) h short)
+
+  -- the test over a whole table, carried to each entry
+  pub nearest-in-table : (first : ℕ) (table : List ℕ) → more ≤ low binary64 + 1 → T (every nearestTest first table)
+      → (n : ℕ) → first ≤ n → n < first + length table → Nearest scale n (getD table (n - first) 0)
+  nearest-in-table first table h passed n from to =
+      nearest-of-test n (getD table (n - first) 0) h (at-number nearestTest first table passed n from to)

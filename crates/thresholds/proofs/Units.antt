@@ -11,9 +11,9 @@ use lib.Arith.{digits-div, digits-mod}
 use lib.Pow.{pow-pos, pow-add}
 use lib.Ieee.{Float, binary64, prec, low, hid, ones, top, ofFields, ofBits}
 use lib.Ieee.Exact.{HasValue, odd-sign}
-use Rattle.definitions.specs.Settings.{unitsOfFields, units}
+use Rattle.thresholds.specs.Nearest.{unitsOfFields, units}
 
-of-fields : (exponent digits : ℕ) → digits < hid binary64 → units (exponent * hid binary64 + digits) ≡ unitsOfFields exponent digits
+pub of-fields : (exponent digits : ℕ) → digits < hid binary64 → units (exponent * hid binary64 + digits) ≡ unitsOfFields exponent digits
 unfolding units
 of-fields exponent digits h = ap₂ unitsOfFields (digits-div exponent h) (digits-mod exponent h)
 

@@ -3,10 +3,10 @@ use mathlib.Core.Path.{_≡_}
 use Prim.Native.Nat.{ℕ, _+_, _-_, _^_, _≤_, _<_}
 use native.Mathlib.Nat.{le-refl, le-antisymm, le-of-lt, le-of-suc-le-suc, lt-of-lt-of-le, lt-of-le-of-lt, lt-irrefl, lt-of-not-le, mul-le-mul-right, pow-le-pow-left, add-le-add}
 use native.Mathlib.Omega.{arith}
-use Rattle.definitions.specs.Settings.{Scale, Nearest, raised, target, units}
-use Rattle.definitions.proofs.Units.{units-mono}
+use Rattle.thresholds.specs.Nearest.{Scale, Nearest, raised, target, units}
+use Rattle.thresholds.proofs.Units.{units-mono}
 
-raised-mono : (scale : Scale) {a b c d : ℕ} → a ≤ c → b ≤ d → raised scale (a + b) ≤ raised scale (c + d)
+pub raised-mono : (scale : Scale) {a b c d : ℕ} → a ≤ c → b ≤ d → raised scale (a + b) ≤ raised scale (c + d)
 raised-mono scale h k = mul-le-mul-right (10 ^ scale .offset) (pow-le-pow-left (add-le-add h k) (scale .root))
 
 module _ {scale : Scale} {n : ℕ} where

@@ -2,8 +2,9 @@
 use mathlib.Core.Path.{_∙_, subst, sym}
 use mathlib.Core.Bool.{Bool, true, _&&_}
 use mathlib.Core.List.{List, [], _∷_}
-use Prim.Native.Nat.{ℕ, zero, suc, _+_, _<_}
+use Prim.Native.Nat.{ℕ, zero, suc, _+_, _-_, _≤_, _<_}
 use native.Mathlib.Nat.{add-zero, add-suc, suc-add, le-of-suc-le-suc, not-suc-le-zero}
+use native.Mathlib.Omega.{arith}
 use lib.Dec.{T}
 use lib.Ieee.Fits.{and-l, and-r}
 use lib.ListN.{length, getD}
@@ -23,3 +24,9 @@ entry test first (x ∷ xs) passed zero inside =
 entry test first (x ∷ xs) passed (suc k) inside =
     subst (λ (n : ℕ). T (test n (getD xs k 0))) (suc-add first k ∙ sym (add-suc first k))
     (entry test (suc first) xs (and-r (test first x) (every test (suc first) xs) passed) k (le-of-suc-le-suc inside))
+
+-- and so at each number from the first to the last
+pub at-number : (test : ℕ → ℕ → Bool) (first : ℕ) (table : List ℕ) → T (every test first table) → (n : ℕ) → first ≤ n → n < first + length table
+    → T (test n (getD table (n - first) 0))
+at-number test first table passed n low high =
+    subst (λ (m : ℕ). T (test m (getD table (n - first) 0))) (omega arith) (entry test first table passed (n - first) (omega arith))
