@@ -1,5 +1,6 @@
 // A call, by its line.
 ghost use Prim.Native.Nat.{_≤_};
+ghost use Rattle.calls.specs.Encoding.{lastCode};
 use crate::showing;
 use crate::state::Now;
 use arena::DagArena;
@@ -12,11 +13,12 @@ use scripts::memory::least;
 use scripts::tokens::high;
 use scripts::tokens::narrow;
 
-// The arguments of a call, and the place of the first operand.
+// The header of an encoded call, and the place of the first operand.
 struct Arguments {
-    a: u64,
-    b: u64,
-    wide: u64,
+    a: u32,
+    b: u32,
+    high: u32,
+    low: u32,
     first: usize,
 }
 
@@ -30,35 +32,33 @@ fn given(line: &[u8], code: u32, turn: u32) -> Values
     }
 }
 
-fn arguments_of(code: u32, list: [u64; MOST_VALUES]) -> Arguments {
-    let mut h = Arguments {
-        a: list[1],
-        b: list[2],
-        wide: list[3],
-        first: MOST_VALUES,
-    };
-    match code {
-        codes::CONSTANT => {
-            h.wide = list[1];
-        }
-        codes::PRUNE => {
-            h.wide = list[2];
-        }
-        codes::OPERATOR => {
-            h.first = 3;
-        }
-        codes::FUNCTION | codes::CONTROL => {
-            h.first = 2;
-        }
-        codes::INTERN | codes::LOOKUP | codes::READ => {
-            h.first = 1;
-        }
-        codes::SELECT | codes::IF_ELSE | codes::FOR_LOOP => {
-            h.wide = narrow(list[3]) as u64 * 4_294_967_296 + narrow(list[4]) as u64;
-        }
-        _ => {}
+fn header(a: u64, b: u64, wide: u64, first: usize) -> Arguments {
+    Arguments {
+        a: narrow(a),
+        b: narrow(b),
+        high: high(wide),
+        low: narrow(wide),
+        first,
     }
-    h
+}
+
+// The arguments of a call, by the numbers of its line.
+fn arguments_of(code: u32, list: [u64; MOST_VALUES]) -> Arguments {
+    match code {
+        codes::CONSTANT => header(0, 0, list[1], MOST_VALUES),
+        codes::PRUNE => header(list[1], 0, list[2], MOST_VALUES),
+        codes::OPERATOR => header(list[1], list[2], 0, 3),
+        codes::FUNCTION | codes::CONTROL => header(list[1], 0, 0, 2),
+        codes::INTERN | codes::LOOKUP | codes::READ => header(0, 0, 0, 1),
+        codes::SELECT | codes::IF_ELSE | codes::FOR_LOOP => Arguments {
+            a: narrow(list[1]),
+            b: narrow(list[2]),
+            high: narrow(list[3]),
+            low: narrow(list[4]),
+            first: MOST_VALUES,
+        },
+        _ => header(list[1], list[2], list[3], MOST_VALUES),
+    }
 }
 
 // The lowest 32 bits of each.
@@ -82,7 +82,7 @@ fn call(
     code: u32,
     turn: u32,
 ) -> CallResult
-    requires { ⌜ code ≤ 21 ⌝ }
+    requires { ⌜ code ≤ lastCode ⌝ }
 {
     let values = given(line, code, turn);
     let list = values.list;
@@ -97,10 +97,10 @@ fn call(
         arena,
         names,
         code,
-        narrow(h.a),
-        narrow(h.b),
-        high(h.wide),
-        narrow(h.wide),
+        h.a,
+        h.b,
+        h.high,
+        h.low,
         &words[first..end],
     )
 }
@@ -114,7 +114,7 @@ pub(crate) fn run(
     line: &[u8],
     code: u32,
 ) -> Now
-    requires { ⌜ code ≤ 21 ⌝ }
+    requires { ⌜ code ≤ lastCode ⌝ }
 {
     let mut last = call(nodes, slots, entries, now.arena, now.names, line, code, 0);
     let mut turn: u32 = 1;

@@ -3,15 +3,15 @@
 // the file `stdout`; docs/ARCHITECTURE.md has the commands.
 ghost use Prim.Native.Nat.{_≤_};
 
-mod applying;
 mod calling;
-mod listing;
 mod lists;
 mod showing;
 mod state;
 
+use scripts::applying;
 use scripts::damage;
 use scripts::lines;
+use scripts::listing;
 use scripts::memory::BYTES;
 use scripts::memory::SLOTS;
 use scripts::memory::WORDS;
@@ -44,10 +44,13 @@ fn perform(
     let list = given.list;
     match command {
         lines::FRESH => state::fresh(nodes, slots, now),
-        lines::APPLY => applying::apply(nodes, slots, now, list),
+        lines::APPLY => state::with_arena(now, applying::apply(nodes, slots, now.arena, list)),
         lines::REPLAY => lists::replay(nodes, slots, entries, now, given),
         lines::REPEAT | lines::LEND | lines::COUNTS => state::arrange(now, command, list),
-        lines::LIST => listing::list(nodes, slots, now, list),
+        lines::LIST => {
+            listing::list(nodes, slots, now.arena, list);
+            now
+        }
         lines::UNKNOWN => {
             text(b" no such command");
             now

@@ -39,6 +39,13 @@ pub(crate) fn at_first() -> Now {
     }
 }
 
+// Other counts of the store.
+pub(crate) fn with_arena(now: Now, arena: DagArena) -> Now {
+    let mut after = now;
+    after.arena = arena;
+    after
+}
+
 // A fresh store, no names and no list.
 pub(crate) fn fresh(nodes: &[u64], slots: &mut [u32], now: Now) -> Now {
     let mut after = now;

@@ -168,7 +168,7 @@ fn call_store(
 }
 
 // The call of a code.
-pub(crate) fn call(
+pub fn call(
     nodes: &mut [u64],
     slots: &mut [u32],
     entries: &mut [u8],

@@ -1,13 +1,12 @@
 // Nodes as they are read back.
 ghost use Prim.Native.Nat.{_≤_, _<_};
-use crate::state::Now;
+use crate::lines::MOST_VALUES;
+use crate::printing::number;
+use crate::printing::refused;
+use crate::printing::text;
 use arena::DagArena;
 use builder::Found;
 use libc::STDOUT_FILENO;
-use scripts::lines::MOST_VALUES;
-use scripts::printing::number;
-use scripts::printing::refused;
-use scripts::printing::text;
 
 // The hexadecimal digits of a payload.
 const PAYLOAD_DIGITS: usize = 16;
@@ -41,7 +40,7 @@ fn node(nodes: &[u64], slots: &[u32], arena: DagArena, id: u32) {
 }
 
 // The nodes from one id on and before another.
-pub(crate) fn between(nodes: &[u64], slots: &[u32], arena: DagArena, from: u64, end: u64) {
+pub fn between(nodes: &[u64], slots: &[u32], arena: DagArena, from: u64, end: u64) {
     let mut id = from;
     while id < end {
         if MOST_LISTED <= id {
@@ -53,12 +52,10 @@ pub(crate) fn between(nodes: &[u64], slots: &[u32], arena: DagArena, from: u64, 
 }
 
 // The same; where no end is given, all before the count.
-pub(crate) fn list(nodes: &[u64], slots: &[u32], now: Now, list: [u64; MOST_VALUES]) -> Now {
-    let arena = now.arena;
+pub fn list(nodes: &[u64], slots: &[u32], arena: DagArena, list: [u64; MOST_VALUES]) {
     if list[2] == 0 {
         between(nodes, slots, arena, list[1], arena.count);
     } else {
         between(nodes, slots, arena, list[1], list[2]);
     }
-    now
 }

@@ -1,16 +1,15 @@
 // The patterns, by themselves.
 ghost use mathlib.Core.Path.{_≡_};
 ghost use mathlib.Core.Bool.{true};
-ghost use Rattle.call_tests.specs.Ready.{Ready};
+ghost use Rattle.scripts.specs.Ready.{Ready};
+use crate::lines::MOST_VALUES;
 use crate::listing::between;
-use crate::state::Now;
+use crate::printing::number;
+use crate::printing::refused;
+use crate::printing::text;
 use arena::DagArena;
 use arena::MOST_CHILDREN;
 use patterns::Matched;
-use scripts::lines::MOST_VALUES;
-use scripts::printing::number;
-use scripts::printing::refused;
-use scripts::printing::text;
 
 // Whether the store is sound and two ids are below its count.
 fn ready(nodes: &[u64], slots: &[u32], arena: DagArena, lhs: u64, rhs: u64) -> bool
@@ -36,31 +35,28 @@ fn show(matched: Matched) {
 
 // What `patterns::try_apply` answers for a kind, two ids and a number of children, of which the third and fourth are the second again; and the nodes
 // that it added.
-pub(crate) fn apply(
+pub fn apply(
     nodes: &mut [u64],
     slots: &mut [u32],
-    now: Now,
+    arena: DagArena,
     list: [u64; MOST_VALUES],
-) -> Now {
+) -> DagArena {
     let kind = list[1];
     let lhs = list[2];
     let rhs = list[3];
     let arity = list[4];
-    let arena = now.arena;
-    let mut after = now;
     if !ready(nodes, slots, arena, lhs, rhs) {
         text(b" not ready");
-        return after;
+        return arena;
     }
     if (MOST_CHILDREN as u64) < arity {
         text(b" too many");
-        return after;
+        return arena;
     }
     let applied = patterns::try_apply(nodes, slots, arena, kind, [lhs, rhs, rhs, rhs], arity);
     let matched = applied.matched;
-    show(matched);
     let left = applied.arena;
+    show(matched);
     between(nodes, slots, left, arena.count, left.count);
-    after.arena = left;
-    after
+    left
 }

@@ -5,7 +5,7 @@ use lib.ListN.{getD}
 use native.Mathlib.Omega.{arith}
 use Rattle.arena.specs.declared.DagArena.{DagArena}
 use Rattle.patterns.specs.Applied.{Operands}
-use Rattle.call_tests.specs.Ready.{Ready}
+use Rattle.scripts.specs.Ready.{Ready}
 
 module _ {w slots : List ℕ} {s : DagArena} {lhs rhs : ℕ} (r : Ready w slots s lhs rhs) where
   lower : (j : ℕ) → j < 4 → getD (lhs ∷ rhs ∷ rhs ∷ rhs ∷ []) j 0 < s .count

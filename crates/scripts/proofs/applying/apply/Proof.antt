@@ -1,9 +1,9 @@
 use native.Mathlib.Omega.{arith}
 use borrow.Author.Needs.{needs}
 use borrow.Author.Tests.{not-false}
-use Rattle.call_tests.proofs.Operands.{operands}
-use Rattle.call_tests.proofs.applying.apply.Statement.{statement}
-use Rattle.call_tests.proofs.applying.apply.Tie as tie
+use Rattle.scripts.proofs.Operands.{operands}
+use Rattle.scripts.proofs.applying.apply.Statement.{statement}
+use Rattle.scripts.proofs.applying.apply.Tie as tie
 
 array-read-kind : tie.Need-array-read-kind
 array-read-kind c = search needs
