@@ -1,12 +1,12 @@
 -- A node's expression is the one that denotes its formula under the names as they are: `Spells` and `expressionOf` say the same of proper expressions.
-use Prim.Native.Nat.{ℕ, zero, suc, _+_, _≤_, _<_}
+use Prim.Native.Nat.{ℕ, zero, suc, _<_}
 use mathlib.Core.Path.{_≡_, refl, sym, ap, ap₂, _∙_, subst}
 use mathlib.Core.Bool.{Bool, true, false, cond}
 use mathlib.Core.Option.{Option, none, some}
 use mathlib.Core.List.{List, [], _∷_}
 use lib.ListN.{length, getD}
 use native.Mathlib.Omega.{arith}
-use Rattle.text_language.specs.Grammar.{sums, products, Expr, constant, variable, negated, linked, raised}
+use Rattle.text_language.specs.Grammar.{sums, products, Expr, constant, variable}
 use Rattle.text_language.specs.Program as Program
 use Rattle.text_language.specs.Program.{Join}
 use Rattle.definitions.specs.Node as N
@@ -20,8 +20,8 @@ use Rattle.store.proofs.Viewing.{plain-length}
 use Rattle.store.proofs.Reading as R
 use Rattle.names.specs.Sound as NameList
 use Rattle.names.proofs.Listing.{names-length}
-use Rattle.expression_text.specs.Proper.{isName, isNumber, Proper}
-use Rattle.writer.specs.Expression.{joinExprs, unary, pairOf, nameOf, overOperands, expressionIn, expressionsIn, expressionOf, isSome, orAny, Standing, aName, aNumber, aMinus, aPair}
+use Rattle.expression_text.specs.Proper.{isName, Proper}
+use Rattle.writer.specs.Expression.{joinExprs, unary, pairOf, symbolName, overOperands, expressionIn, expressionsIn, expressionOf, isSome, orAny, Standing, aName, aNumber, aMinus, aPair}
 use Rattle.writer.specs.Placing.{Known, Writable, expressionAt, meant}
 use Rattle.writer.proofs.Parts.{lower}
 use Rattle.writer.proofs.Walking.{stands, at-minus, at-pair, at-name, at-number}
@@ -30,12 +30,12 @@ use Rattle.writer.proofs.Leaves.{name-known}
 
 -- ---- an expression that denotes a formula is the formula's
 
-nth-is : (names : List (List ℕ)) (n : ℕ) (w : List ℕ) → nth names n ≡ some w → nameOf names n ≡ w
+nth-is : (names : List (List ℕ)) (n : ℕ) (w : List ℕ) → nth names n ≡ some w → symbolName names n ≡ w
 nth-is [] n w e = let z : _≡_ {A = ℕ} 0 1 = cc in absurd (omega arith)
 nth-is (x ∷ names) zero w e = cc
 nth-is (x ∷ names) (suc n) w e = nth-is names n w e
 
-nth-at : (names : List (List ℕ)) (n : ℕ) → n < length names → nth names n ≡ some (nameOf names n)
+nth-at : (names : List (List ℕ)) (n : ℕ) → n < length names → nth names n ≡ some (symbolName names n)
 nth-at [] n h = absurd (omega arith)
 nth-at (x ∷ names) zero h = refl
 nth-at (x ∷ names) (suc n) h = nth-at names n (omega arith)
