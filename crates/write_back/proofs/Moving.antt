@@ -25,6 +25,7 @@ use Rattle.definitions.proofs.SimplifyCalls.{SimplifySays, simplifies}
 use Rattle.definitions.proofs.NameLists.{none-listed}
 use Rattle.definitions.proofs.Going.{Whole, whole-after}
 use Rattle.definitions.proofs.Histories.{call-goes, demand3}
+use Rattle.definitions.specs.Threshold.{bits}
 use Rattle.definitions.proofs.Moved.{dropped-count-bounds}
 use Rattle.definitions.proofs.Lifting.{lift-store}
 use Rattle.store.specs.Memory.{Memory, model, Leaves}
@@ -124,7 +125,7 @@ module _ (typed : List ℕ) (setting t : ℕ) (m : Lists) (buffer : List ℕ) (f
         → Moved (valueOf r (formula (plain m1 .nodes) id)) (valueOf r (formula (plain m3 .nodes) (idOf j))) (ofBits binary64 t) dropped
     moved exact r =
         let b = kept-promise .balance 1 2 (idOf id) depthLimit ampleBudget i steps t j kept dropped spent (pruningBySetting (idOf i) setting) (plain m1) (plain m2) (plain m3)
-        (omega arith) refl refl refl (threshold (idOf i) ∙ ap (λ (x : ℕ). some (x, t)) i-is) refl refl refl refl one
+        (omega arith) refl refl refl (threshold (idOf i) ∙ ap (λ (x : ℕ). some (x, bits t)) i-is) refl refl refl refl one
         (subst (λ (x : ℕ). Exact (formula (plain m1 .nodes) x)) (sym id-is) exact) in
         let j-is : idOf j ≡ j = id-same s j (sound .1 .1 .0 storePart) (b .2) in
         subst (λ (x : ℕ). Moved (valueOf r (formula (plain m1 .nodes) x)) (valueOf r (formula (plain m3 .nodes) (idOf j))) (ofBits binary64 t) dropped) id-is

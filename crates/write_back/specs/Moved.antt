@@ -8,6 +8,7 @@ use lib.ListN.{take}
 use lib.Dec.{T}
 use lib.Ieee.{binary64, ofBits, le}
 use Rattle.definitions.specs.Patterns.{one64}
+use Rattle.definitions.specs.Threshold.{bits}
 use Rattle.definitions.specs.Formula.{formula}
 use Rattle.definitions.specs.Value.{Reading, valueOf}
 use Rattle.definitions.specs.Exact.{Exact}
@@ -24,7 +25,7 @@ use Rattle.write_back.specs.Answers.{Answers}
 
 -- the bits of a setting's threshold, as demand 3 has them
 abbrev pub HasThreshold : ℕ → ℕ → Type 0
-HasThreshold setting t = (i : ℕ) → prunes (pruningBySetting i setting) ≡ some (i, t)
+HasThreshold setting t = (i : ℕ) → prunes (pruningBySetting i setting) ≡ some (i, bits t)
 
 -- what was typed, what was written of it, and for a formula of the exact kind how far its value may have moved
 pub record MovedText (typed text : List ℕ) (t dropped : ℕ) : Type 0 where

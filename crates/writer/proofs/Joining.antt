@@ -8,7 +8,7 @@ use borrow.Author.Tests.{eqb-true}
 use Rattle.text_language.proofs.Sound.{and-both}
 use Rattle.store.specs.View.{listed}
 use Rattle.text_language.specs.Program.{Join, plus, minus, times, over, raise}
-use Rattle.definitions.specs.Promise.{joinKind}
+use Rattle.writer.specs.Expression.{joinKind}
 use Rattle.writer.specs.Placing.{Joins, JoinsKind}
 use Rattle.writer.specs.declared.operators.Joint.{Joint}
 

@@ -18,7 +18,7 @@ use Rattle.store.proofs.Reading as R
 use Rattle.store.proofs.Viewing.{plain-length}
 use Rattle.text_language.specs.Grammar.{Expr, constant, variable}
 use Rattle.text_language.specs.Program.{Join, plus, minus, times, over, raise}
-use Rattle.definitions.specs.Promise.{joinKind, joinFlags}
+use Rattle.writer.specs.Expression.{joinKind, joinFlags}
 use Rattle.expression_text.specs.Proper.{isName, numberBits}
 use Rattle.writer.specs.Expression.{leafOnly, unary, pairOf, binary, flagged, symbolName, overOperands, expressionIn, expressionsIn, expressionOf, isSome, Standing, aName, aNumber, aMinus, aPair}
 

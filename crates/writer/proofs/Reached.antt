@@ -24,7 +24,7 @@ use Rattle.names.proofs.Listing.{names-length, names-at}
 use Rattle.text_language.specs.Grammar.{Expr, isLetter, isWord}
 use Rattle.text_language.specs.Program.{Join, plus, minus, times, over, raise}
 use Rattle.definitions.specs.Limits.{mostChildren, mostNodes}
-use Rattle.definitions.specs.Promise.{joinKind, joinFlags}
+use Rattle.writer.specs.Expression.{joinKind, joinFlags}
 use Rattle.expression_text.specs.Proper.{isName, allWords, numberBits}
 use Rattle.writer.specs.Expression.{symbolName, isSome, Standing, aName, aNumber, aMinus, aPair}
 use Rattle.writer.specs.Placing.{Named, Known, expressionAt}

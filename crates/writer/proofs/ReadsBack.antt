@@ -16,7 +16,7 @@ use Rattle.definitions.specs.Intern as I
 use Rattle.definitions.specs.Names as Names
 use Rattle.definitions.specs.Machine as M
 use Rattle.definitions.specs.Making.{LentLists, Controller, controller, Made, made, bind, storedAs, storing, namedAs, naming, joined, make}
-use Rattle.definitions.specs.Promise.{joinKind, joinFlags}
+use Rattle.writer.specs.Expression.{joinKind, joinFlags}
 use Rattle.definitions.proofs.Intern.{eq-same, T-true, sameChildren-eq}
 use Rattle.arena.specs.declared.DagArena.{DagArena}
 use Rattle.arena.specs.Node.{nodeAt}

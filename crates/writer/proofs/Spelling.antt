@@ -11,7 +11,8 @@ use Rattle.text_language.specs.Program as Program
 use Rattle.text_language.specs.Program.{Join}
 use Rattle.definitions.specs.Node as N
 use Rattle.definitions.specs.Formula.{Tree, tree, forest, nil, cons, formula}
-use Rattle.definitions.specs.Promise.{nth, joinKind, joinFlags, Spells, number, name, minus, link, power}
+use Rattle.definitions.specs.Promise.{nth, Spells, number, name, minus, sum, difference, product, quotient, power}
+use Rattle.writer.specs.Expression.{joinKind, joinFlags}
 use Rattle.definitions.proofs.Stable.{opened}
 use Rattle.arena.specs.declared.DagArena.{DagArena}
 use Rattle.store.specs.Sound.{Sound}
@@ -47,10 +48,10 @@ module _ (names : List (List ℕ)) where
   complete (name {w} {n} e) h =
       ap (λ (v : List ℕ). cond (isName v) (some (variable v)) none) (nth-is names n w e) ∙ ap (λ (b : Bool). cond b (some (variable w)) none) h
   complete (minus p) h = ap (λ (o : Option Expr). unary (o ∷ [])) (complete p h)
-  complete (link {k = sums} {x = false} p q) h = ap₂ (pairOf Program.plus) (complete p (h .0)) (complete q (h .1))
-  complete (link {k = sums} {x = true} p q) h = ap₂ (pairOf Program.minus) (complete p (h .0)) (complete q (h .1))
-  complete (link {k = products} {x = false} p q) h = ap₂ (pairOf Program.times) (complete p (h .0)) (complete q (h .1))
-  complete (link {k = products} {x = true} p q) h = ap₂ (pairOf Program.over) (complete p (h .0)) (complete q (h .1))
+  complete (sum p q) h = ap₂ (pairOf Program.plus) (complete p (h .0)) (complete q (h .1))
+  complete (difference p q) h = ap₂ (pairOf Program.minus) (complete p (h .0)) (complete q (h .1))
+  complete (product p q) h = ap₂ (pairOf Program.times) (complete p (h .0)) (complete q (h .1))
+  complete (quotient p q) h = ap₂ (pairOf Program.over) (complete p (h .0)) (complete q (h .1))
   complete (power p q) h = ap₂ (pairOf Program.raise) (complete p (h .0)) (complete q (h .1))
 
 -- ---- a node's expression denotes its formula, and is proper
@@ -58,10 +59,10 @@ module _ (names : List (List ℕ)) where
 -- two operands' formulas and what joins them
 joined-spells : {names : List (List ℕ)} (o : Join) {a b : Expr} {t u : Tree} → Spells names a t → Spells names b u
     → Spells names (joinExprs o a b) (tree (joinKind o) 0 (joinFlags o) (cons t (cons u nil)))
-joined-spells Program.plus p q = link {k = sums} {x = false} p q
-joined-spells Program.minus p q = link {k = sums} {x = true} p q
-joined-spells Program.times p q = link {k = products} {x = false} p q
-joined-spells Program.over p q = link {k = products} {x = true} p q
+joined-spells Program.plus p q = sum p q
+joined-spells Program.minus p q = difference p q
+joined-spells Program.times p q = product p q
+joined-spells Program.over p q = quotient p q
 joined-spells Program.raise p q = power p q
 
 joined-proper : (o : Join) (a b : Expr) → Proper a → Proper b → Proper (joinExprs o a b)

@@ -15,7 +15,7 @@ use Rattle.text_language.specs.Grammar.{Expr, constant, variable, negated}
 use Rattle.text_language.specs.Reader.{rank}
 use Rattle.expression_text.specs.Written.{natural, depthOf}
 use Rattle.text_language.specs.Program.{Join, plus, minus, times, over, raise}
-use Rattle.definitions.specs.Promise.{joinKind}
+use Rattle.writer.specs.Expression.{joinKind}
 use Rattle.expression_text.specs.Proper.{isName}
 use Rattle.writer.specs.Expression.{joinExprs, unary, pairOf, symbolName, expressionOf, isSome, orAny, Standing, aName, aNumber, aMinus, aPair}
 use Rattle.writer.specs.Placing.{ownRank, Ranked, Writable, meant}

@@ -10,8 +10,22 @@ use Rattle.text_language.specs.Grammar.{sums, products, Expr, constant, variabl
 use Rattle.text_language.specs.Program.{Join, plus, minus, times, over, raise}
 use Rattle.definitions.specs.Node.{Node, variableKind, constantKind, addKind, subKind, mulKind, divKind, powKind, negKind, bothFlags}
 use Rattle.definitions.specs.Formula.{Tree, tree, Forest, nil, cons, formula}
-use Rattle.definitions.specs.Promise.{joinKind, joinFlags}
 use Rattle.expression_text.specs.Proper.{isName, numberBits}
+
+-- the kind and the constructors' flags of a sign
+abbrev pub joinKind : Join → ℕ
+joinKind plus = addKind
+joinKind minus = subKind
+joinKind times = mulKind
+joinKind over = divKind
+joinKind raise = powKind
+
+abbrev pub joinFlags : Join → ℕ
+joinFlags plus = bothFlags
+joinFlags minus = 0
+joinFlags times = bothFlags
+joinFlags over = 0
+joinFlags raise = 0
 
 abbrev pub joinExprs : Join → Expr → Expr → Expr
 joinExprs plus a b = linked sums false a b
