@@ -14,7 +14,7 @@ use Rattle.listing_lines.specs.Outcome.{firstLineOf, lineOf, joined, all
 use Rattle.listing_lines.specs.Filling.{Puts, Fills}
 
 -- the lines of one id more
-joined-more : (line : ℕ → List ℕ) (n i : ℕ) → joined line (suc n) i ≡ joined line n i ++ line (i + n)
+pub joined-more : (line : ℕ → List ℕ) (n i : ℕ) → joined line (suc n) i ≡ joined line n i ++ line (i + n)
 unfolding joined
 joined-more line zero i = append-nil (line i) ∙ ap line (let e : i ≡ i + 0 = omega arith in e)
 joined-more line (suc n) i =

@@ -24,7 +24,8 @@ fn put(out: &mut [u8], at: usize, more: &[u8]) -> usize
     at + i
 }
 
-fn put_line(out: &mut [u8], at: usize, line: Line) -> usize
+// Puts a line into an array from a place on, and gives the place after it.
+pub fn put_line(out: &mut [u8], at: usize, line: Line) -> usize
     requires { ⌜ (line .length ≤ lineBytes) × (at + lineBytes ≤ length (now out)) ⌝ }
     ensures { λ r. ⌜ Puts (text line) at (now (out .entry)) r (now (out .exit)) ⌝ }
 {
@@ -38,6 +39,7 @@ fn put_line(out: &mut [u8], at: usize, line: Line) -> usize
 pub fn all_lines(outcome: Outcome, nodes: &[u64], count: u64, out: &mut [u8]) -> usize
     requires { ⌜ Nodes (now nodes) count × ((count + 1) * lineBytes ≤ length (now out)) ⌝ }
     ensures { λ r. ⌜ Fills (allLines outcome (now (nodes .entry)) count) r (now (out .exit)) ⌝ }
+    ensures { λ r. ⌜ r ≤ (count + 1) * lineBytes ⌝ }
 {
     let mut at = put_line(out, 0, first_line(outcome));
     let mut id: u64 = 0;

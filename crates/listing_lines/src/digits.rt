@@ -90,7 +90,7 @@ pub(crate) fn with_decimal(line: Line, n: u64) -> Line
 }
 
 // The line with a space and a number.
-pub(crate) fn with_number(line: Line, n: u64) -> Line
+pub fn with_number(line: Line, n: u64) -> Line
     requires { ⌜ line .length + numberBytes ≤ lineBytes ⌝ }
     ensures { λ r. ⌜ Extends line (space ∷ decimal n) numberBytes r ⌝ }
 {

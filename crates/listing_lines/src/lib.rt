@@ -5,13 +5,17 @@ mod line;
 mod node;
 
 pub use all::all_lines;
+pub use all::put_line;
 pub use digits::BEFORE_LETTERS;
 pub use digits::DECIMAL_BASE;
 pub use digits::HEX_BASE;
 pub use digits::HEX_DIGITS;
 pub use digits::ZERO;
+pub use digits::with_number;
 pub use line::LINE_BYTES;
 pub use line::Line;
+pub use line::new;
+pub use line::with_bytes;
 ghost use mathlib.Core.List.{[], _∷_, _++_};
 ghost use Rattle.definitions.specs.Listing.{lineFeed};
 ghost use Rattle.store.specs.Memory.{memory};
@@ -21,9 +25,6 @@ ghost use Rattle.listing_lines.specs.Answers.{Lists, Refuses};
 use arena::DagArena;
 use definitions::refusals::BAD_OPERAND;
 use definitions::refusals::NOT_SOUND;
-use digits::with_number;
-use line::new;
-use line::with_bytes;
 use node::node_line_sound;
 
 // What a sheet's first line says: the last answer's id, no records, the id of a last record that ran out, or a refusal and

@@ -13,7 +13,7 @@ pub struct Line {
 }
 
 // A line without text.
-pub(crate) fn new() -> Line
+pub fn new() -> Line
     ensures { λ r. ⌜ EmptyLine r ⌝ }
 {
     Line {
@@ -23,7 +23,7 @@ pub(crate) fn new() -> Line
 }
 
 // The line with more text.
-pub(crate) fn with_bytes(line: Line, more: &[u8]) -> Line
+pub fn with_bytes(line: Line, more: &[u8]) -> Line
     requires { ⌜ line .length + length (now more) ≤ lineBytes ⌝ }
     ensures { λ r. ⌜ Extends line (now (more .entry)) (length (now (more .entry))) r ⌝ }
 {

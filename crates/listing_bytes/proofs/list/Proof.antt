@@ -26,7 +26,7 @@ all-lines-requires : tie.Need-all-lines-requires
 all-lines-requires c κs = (c .before .before .before .before .before .run-fresh .ensures .nodes, room _ _ _ (c .before .before .before .before .before .run-fresh .ensures .nodes) (search needs) (search needs))
 
 returns : tie.Need-returns
-returns c = listed _ _ _ _ _ _ _ _ (search needs) (search needs) (c .before .before .before .before .before .before .before .run-fresh .ensures) (c .before .all-lines .ensures)
+returns c = listed _ _ _ _ _ _ _ _ (search needs) (search needs) (c .before .before .before .before .before .before .before .run-fresh .ensures) (c .before .all-lines .ensures .0)
 
 pub list-spec : {M : Type 1} → statement M
 list-spec =

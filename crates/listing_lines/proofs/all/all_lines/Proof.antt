@@ -47,7 +47,9 @@ same-length : tie.Need-same-length Inv-loop μ-loop
 same-length c = let l = c .before .loop .inv .0 in search needs
 
 returns : tie.Need-returns Inv-loop μ-loop
-returns c = gathered-all _ _ _ _ _ _ (c .before .loop .inv .2) (omega arith) (c .before .loop .inv .1) _ (first-is _ _ (c .before .before .before .before .before .first-line .ensures) _ _ _ (c .before .before .before .before .put-line .ensures))
+returns c =
+    let gathered = c .before .loop .inv .2 in
+    (gathered-all _ _ _ _ _ _ gathered (omega arith) (c .before .loop .inv .1) _ (first-is _ _ (c .before .before .before .before .before .first-line .ensures) _ _ _ (c .before .before .before .before .put-line .ensures)), let g = gathered .place in let k = gathered .some in omega arith)
 
 pub all-lines-spec : {M : Type 1} → statement M
 all-lines-spec =

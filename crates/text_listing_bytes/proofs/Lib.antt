@@ -1,0 +1,4 @@
+pub mod Zeros
+pub mod NameLines
+pub mod FreshReading
+pub mod Whole

@@ -1,0 +1,3 @@
+pub mod Names
+pub mod Clearing
+pub mod Listed
