@@ -49,7 +49,7 @@ fn print_words(number: u64) -> bool {
     if number == OUTSIDE_LANGUAGE {
         return io::write_all(
             STDOUT_FILENO,
-            b"This is no formula: no formula goes on with the byte at that place, counted from 0. At the end of the text something is missing.\n",
+            b"This is no formula: look at the byte at that place, counted from 0. At the end of the text, something is missing there.\n",
         );
     }
     if number == NESTED_TOO_DEEP {
