@@ -28,9 +28,8 @@
  * below. Of several that apply the first in this order is returned: 20, 5, 6,
  * 4, 7 or 8, 23, 21, 22; for names 20, 9, 24; for texts 20, 1, 11, 12, 10, and
  * then the first of 24, 21, 22 that is met; for a text that is written 20, 4, 13,
- * 14. What a refusal leaves in the store
- * is said at each function. Of sheets and listings, what is returned and what
- * stays is said there.
+ * 14. What a refusal leaves in the store is said at each function. Of sheets and
+ * listings, what is returned and what stays is said there.
  *
  * OF A CALLER nothing is asked but C's own rules: a list is a pointer to as many
  * elements as its length says, aligned for their type (8 bytes for uint64_t and
@@ -45,9 +44,9 @@
  * stores and name lists that are not sound are refused, with 20; damage that
  * leaves a sound one, as another name in a list, is not noticed. No function
  * keeps a pointer, allocates, or touches other memory, but for its stack: as
- * compiled now, the listing of a sheet takes about 290 KB of it, a text 61 KB, a
- * sheet 43 KB, a prune 35 KB, a name call 17 KB, a simplify 13 KB and any other
- * call under 1 KB.
+ * compiled now, the listing of a sheet takes about 290 KB of it, a write of a
+ * text up to 100 KB, a text that is read 61 KB, a sheet 43 KB, a prune 35 KB, a
+ * name call 17 KB, a simplify 13 KB and any other call under 1 KB.
  *
  * NOT PROVED, but read or measured: time, stack, how often a store is looked
  * over, and what the compiled code needs of C's library and its calls.
@@ -388,11 +387,12 @@ uint64_t curvalique_read_text(
  * Writes the text of a node as the first bytes of the lent `text`, and its length.
  * It has no blanks, and no text that reads to that node with the same names has
  * fewer bracket pairs. Whole constants from 0 to 999,999,999 are in fewest digits
- * (not -0.0), others are # and 16 capital hex digits of their bits. Reading it
+ * (not -0.0), others are # and 16 hex digits of their bits, A to F in capitals. Reading it
  * with the same store and names gives the same id and adds nothing. It covers
- * variables, constants, Neg and operators of two operands but Mod, with the flags
- * that the constructors give; of marks nothing is asked. Each node under the id is
- * looked at once for 13, and no more nodes are visited than the text has bytes.
+ * variables, constants (a NaN has no text), Neg and operators of two operands but
+ * Mod, with the flags that the constructors give; marks do not matter. Each node
+ * under the id is looked at once for 13, and no more nodes are visited than the
+ * text has bytes.
  * Bytes past the text stay. Refusals: 20 for the store or the name list, 4, 13,
  * 14, in this order; nothing is changed, and no byte of `text`.
  */

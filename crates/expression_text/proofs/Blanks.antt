@@ -1,5 +1,5 @@
 -- A text that is written has no blanks.
-use Prim.Native.Nat.{ℕ, zero, suc, _+_}
+use Prim.Native.Nat.{ℕ, _+_}
 use mathlib.Core.Path.{_≡_, refl, ap, _∙_}
 use mathlib.Core.Bool.{Bool, true, false, _&&_, not, cond}
 use mathlib.Core.List.{List, [], _∷_, _++_}
@@ -7,7 +7,7 @@ use lib.ListN.{length}
 use lib.Dec.{leb, eqb}
 use native.Mathlib.Omega.{arith}
 use borrow.Author.Tests.{eqb-true}
-use Rattle.text_language.specs.Grammar.{Expr, constant, variable, negated, linked, raised, sums, products, isDigit, isLetter, isWord, isHex, under, chain, power, factor, sign}
+use Rattle.text_language.specs.Grammar.{Expr, constant, variable, negated, linked, raised, sums, products, isDigit, isLetter, isWord, isHex, under, chain, power, factor}
 use Rattle.text_language.proofs.Sound.{absurd-bool, and-both}
 use Rattle.expression_text.specs.Numeral.{decimals, hexes, wholePart, isWhole, numeral}
 use Rattle.expression_text.specs.Written.{fits, wrap, bare, textOf, count, blanks}

@@ -1,13 +1,12 @@
 -- The text of an expression reads back to it, and no text that does has fewer bracket pairs or nests less deep.
-use Prim.Native.Nat.{ℕ, zero, suc, _+_, _*_, _≤_, _<_, max}
-use mathlib.Core.Path.{_≡_, refl, sym, ap, _∙_, subst}
-use mathlib.Core.Bool.{Bool, true, false, _&&_, _||_, cond}
+use Prim.Native.Nat.{ℕ, suc, _+_, _≤_, max}
+use mathlib.Core.Path.{_≡_, refl, ap, _∙_}
+use mathlib.Core.Bool.{Bool, true, false, cond}
 use mathlib.Core.List.{List, [], _∷_, _++_}
-use lib.ListN.{length}
 use lib.Dec.{leb, eqb}
 use native.Mathlib.Omega.{arith}
 use borrow.Author.Tests.{eq-eqb, ne-eqb, le-leb, leb-true}
-use Rattle.text_language.specs.Grammar.{Chain, sums, products, Expr, constant, variable, negated, linked, raised, isDigit, isLetter, isWord, isHex, Run, stop, Atom, Sign, Level, chain, power, factor, under, sign, Reads, one, next, base, raise, atom, minus, bracket, Blanks, Text}
+use Rattle.text_language.specs.Grammar.{Chain, sums, products, Expr, constant, variable, negated, linked, raised, isDigit, isLetter, Run, stop, Atom, Sign, Level, chain, power, factor, under, sign, Reads, one, next, base, raise, atom, minus, bracket, Blanks, Text}
 use Rattle.text_language.specs.Reader.{rank}
 use Rattle.text_language.proofs.Sound.{absurd-bool}
 use Rattle.text_language.proofs.Complete.{rank-under}

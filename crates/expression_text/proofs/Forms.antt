@@ -1,7 +1,7 @@
 -- The expressions of texts are the proper ones.
-use Prim.Native.Nat.{ℕ, zero, suc, _+_, _*_, _^_, _≤_, _<_}
-use mathlib.Core.Path.{_≡_, refl, sym, ap, ap₂, _∙_, subst}
-use mathlib.Core.Bool.{Bool, true, false, _&&_, not, cond, false≢true}
+use Prim.Native.Nat.{ℕ, _+_, _^_, _<_}
+use mathlib.Core.Path.{_≡_, refl, sym, ap, ap₂, _∙_}
+use mathlib.Core.Bool.{Bool, true, false, _&&_, not, false≢true}
 use mathlib.Core.List.{List, [], _∷_, _++_}
 use lib.ListN.{length}
 use lib.Dec.{leb, ltb}
@@ -10,14 +10,14 @@ use lib.Ieee.{binary64, nanBits, ofInt}
 use lib.Ieee.Bits.{toBits-lt}
 use lib.Ieee.Fits.{ofInt-fits}
 use native.Mathlib.Omega.{arith}
-use borrow.Author.Tests.{leb-true, leb-false, le-leb, lt-ltb, ltb-true}
-use Rattle.text_language.specs.Grammar.{Expr, constant, variable, negated, linked, raised, isDigit, isLetter, isWord, isHex, hexDigit, digits, hexadecimal, wholeBits, Run, Atom, Level, Reads, Text}
+use borrow.Author.Tests.{leb-true, le-leb, lt-ltb, ltb-true}
+use Rattle.text_language.specs.Grammar.{Expr, constant, variable, negated, linked, raised, isLetter, isWord, isHex, hexDigit, hexadecimal, wholeBits, Run, Atom, Level, Reads}
 use Rattle.text_language.specs.Program.{Token, number, name, negate, join, Join, joinOf, postfix}
 use Rattle.text_language.specs.Program as Program
 use Rattle.text_language.specs.Reading.{nanToken, anyNan}
-use Rattle.text_language.proofs.Sound.{absurd-bool, and-both}
-use Rattle.expression_text.specs.Proper.{allWords, isName, isNumber, Proper}
-use Rattle.expression_text.specs.Listed.{All, HasText, ProperHasText}
+use Rattle.text_language.proofs.Sound.{and-both}
+use Rattle.expression_text.specs.Proper.{allWords, isName, numberBits, Proper}
+use Rattle.expression_text.specs.Listed.{All, OnlyProper}
 use Rattle.expression_text.proofs.Bracketing.{Spelled}
 use Rattle.expression_text.proofs.Numerals.{numeral-atom, NameForm, name-atom}
 use Rattle.expression_text.proofs.Digits.{run-all, digits-low, hex-low}
@@ -45,12 +45,12 @@ pub record NumberForm (b : ℕ) : Type 0 where
   pub low : b < 2 ^ 64
   pub number : nanBits binary64 b ≡ false
 
-pub number-form : (b : ℕ) → isNumber b ≡ true → NumberForm b
-unfolding isNumber
+pub number-form : (b : ℕ) → numberBits b ≡ true → NumberForm b
+unfolding numberBits
 number-form b h = let p = and-both (ltb b (2 ^ 64)) (not (nanBits binary64 b)) h in record { low = ltb-true b (2 ^ 64) (p .0); number = not-false (nanBits binary64 b) (p .1) }
 
-pub is-number : (b : ℕ) → NumberForm b → isNumber b ≡ true
-unfolding isNumber
+pub is-number : (b : ℕ) → NumberForm b → numberBits b ≡ true
+unfolding numberBits
 is-number b f = ap₂ (λ (x y : Bool). x && not y) (lt-ltb b (2 ^ 64) (f .low)) (f .number)
 
 pub spelled : (e : Expr) → Proper e → Spelled e
@@ -135,5 +135,5 @@ proper-reads (Reads.atom a) n = proper-atom a n
 proper-reads (Reads.minus {e = e} p v) n = proper-reads v (any-both (postfix e) _ n .0)
 proper-reads (Reads.bracket p v q) n = proper-reads v n
 
-pub has-text : ProperHasText
+pub has-text : OnlyProper
 has-text e t = proper-reads (t .reads .reads) (t .numbers)

@@ -1,5 +1,5 @@
 -- Whole constants from 0 to 999,999,999 are printed in fewest digits, and no others.
-use Prim.Native.Nat.{ℕ, zero, suc, _+_, _-_, _*_, _/_, _%_, _^_, _≤_, _<_}
+use Prim.Native.Nat.{ℕ, zero, suc, _+_, _-_, _/_, _%_, _^_, _≤_, _<_}
 use mathlib.Core.Path.{_≡_, refl, sym, ap, ap₂, _∙_}
 use mathlib.Core.Bool.{Bool, true, false, _&&_, _||_, cond, or-true}
 use mathlib.Core.List.{List, [], _∷_}
@@ -13,7 +13,7 @@ use lib.Ieee.Back.{unsigned-back}
 use native.Mathlib.Omega.{arith}
 use native.Mathlib.Nat.{pow-succ'}
 use borrow.Author.Tests.{eqb-true, eqb-false, eq-eqb, leb-true, leb-false, le-leb}
-use Rattle.text_language.specs.Grammar.{isDigit, digits, decimal, wholeBits}
+use Rattle.text_language.specs.Grammar.{isDigit, decimal, wholeBits}
 use Rattle.text_language.proofs.Sound.{and-both}
 use Rattle.expression_text.specs.Numeral.{mostWhole, mostDigits, hexDigits, numberSign, decimals, hexByte, hexes, wholePart, isWhole, numeral}
 use Rattle.expression_text.specs.Listed.{All, isCapitalHex, Numerals}

@@ -4,16 +4,11 @@ use mathlib.Core.Path.{_≡_, refl, sym, ap, _∙_, subst}
 use mathlib.Core.Bool.{Bool, true, false, _&&_, _||_, cond, or-true}
 use mathlib.Core.List.{List, [], _∷_, _++_}
 use lib.ListN.{length}
-use lib.Dec.{leb, eqb, le→leb}
-use lib.IntN.{pos}
-use lib.Ieee.{binary64, ofInt, toUnsigned, inFloat}
-use lib.Ieee.Bits.{ofBits-toBits}
-use lib.Ieee.Fits.{ofInt-fits}
-use lib.Ieee.Back.{unsigned-back}
+use lib.Dec.{leb, eqb}
 use native.Mathlib.Omega.{arith}
 use native.Mathlib.Nat.{pow-succ'}
-use borrow.Author.Tests.{eqb-true, eqb-false, eq-eqb, leb-true, leb-false, le-leb, lt-leb}
-use Rattle.text_language.specs.Grammar.{Expr, constant, variable, isDigit, isLetter, isWord, isHex, hexDigit, digits, decimal, hexadecimal, wholeBits, Run, stop, Atom}
+use borrow.Author.Tests.{eqb-true, leb-true, leb-false, le-leb, lt-leb}
+use Rattle.text_language.specs.Grammar.{constant, variable, isDigit, isLetter, isWord, isHex, hexDigit, digits, decimal, hexadecimal, wholeBits, Run, stop, Atom}
 use Rattle.text_language.proofs.Sound.{and-both}
 use Rattle.expression_text.specs.Numeral.{mostWhole, decimals, hexByte, hexes, wholePart, isWhole, numeral}
 use Rattle.expression_text.specs.Listed.{All}

@@ -1,10 +1,9 @@
 -- Texts of request d, computed.
-use Prim.Native.Nat.{ℕ}
 use mathlib.Core.Path.{_≡_, refl}
 use mathlib.Core.Bool.{true, false}
-use mathlib.Core.List.{List, [], _∷_}
+use mathlib.Core.List.{[], _∷_}
 use Rattle.text_language.specs.Grammar.{sums, products, Expr, constant, variable, negated, linked, raised}
-use Rattle.expression_text.specs.Written.{bare, textOf, depthOf}
+use Rattle.expression_text.specs.Written.{bare, textOf}
 
 abbrev a : Expr
 a = variable (97 ∷ [])

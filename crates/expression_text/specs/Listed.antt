@@ -5,7 +5,7 @@ use mathlib.Core.Bool.{Bool, true, false, _||_, _&&_}
 use mathlib.Core.List.{List, [], _∷_}
 use lib.ListN.{length}
 use lib.Dec.{leb}
-use Rattle.text_language.specs.Grammar.{Expr, Text, isDigit, decimal, hexadecimal, wholeBits}
+use Rattle.text_language.specs.Grammar.{Expr, Text, isDigit, decimal, wholeBits}
 use Rattle.text_language.specs.Program.{postfix}
 use Rattle.text_language.specs.Reading.{anyNan}
 use Rattle.expression_text.specs.Numeral.{mostWhole, mostDigits, hexDigits, numberSign, decimals, hexes, numeral}
@@ -35,11 +35,11 @@ pub record HasText (e : Expr) : Type 0 where
   pub reads : Text text e depth
   pub numbers : anyNan (postfix e) ≡ false
 
-abbrev pub ProperHasText : Type 0
-ProperHasText = (e : Expr) → HasText e → Proper e
+abbrev pub OnlyProper : Type 0
+OnlyProper = (e : Expr) → HasText e → Proper e
 
 -- and then its text is one: no blanks, and of all texts that read to it none has fewer bracket pairs or nests less deep
-pub record Writes (e : Expr) : Type 0 where
+pub record TextFacts (e : Expr) : Type 0 where
   pub reads : Text (textOf e) e (depthOf e)
   pub numbers : anyNan (postfix e) ≡ false
   pub some : 0 < length (textOf e)
@@ -47,5 +47,5 @@ pub record Writes (e : Expr) : Type 0 where
   pub fewest : (s : List ℕ) (d : ℕ) → Text s e d → bracketPairs (textOf e) ≤ bracketPairs s
   pub shallowest : (s : List ℕ) (d : ℕ) → Text s e d → depthOf e ≤ d
 
-abbrev pub ProperWrites : Type 0
-ProperWrites = (e : Expr) → Proper e → Writes e
+abbrev pub ProperTexts : Type 0
+ProperTexts = (e : Expr) → Proper e → TextFacts e

@@ -19,12 +19,12 @@ isName [] = false
 isName (c ∷ w) = isLetter c && (allWords w && leb (length w) 31)
 
 -- bits of a binary64 number, of which a NaN is none (10 of 02 b and c)
-unfoldable pub isNumber : ℕ → Bool
+unfoldable pub numberBits : ℕ → Bool
 unfolding nanBits
-isNumber b = ltb b (2 ^ 64) && not (nanBits binary64 b)
+numberBits b = ltb b (2 ^ 64) && not (nanBits binary64 b)
 
 abbrev pub Proper : Expr → Type 0
-Proper (constant b) = isNumber b ≡ true
+Proper (constant b) = numberBits b ≡ true
 Proper (variable w) = isName w ≡ true
 Proper (negated a) = Proper a
 Proper (linked k x a b) = Proper a × Proper b

@@ -4,11 +4,11 @@
 pub const MOST_WHOLE: u64 = 999_999_999;
 
 // The bytes round brackets, and that of a minus.
-pub const OPENING_BRACKET: u8 = 40;
+pub const OPENING_BRACKET: u8 = b'(';
 
-pub const CLOSING_BRACKET: u8 = 41;
+pub const CLOSING_BRACKET: u8 = b')';
 
-pub const MINUS: u8 = 45;
+pub const MINUS: u8 = b'-';
 
 // The byte before hex digits.
-pub const NUMBER_SIGN: u8 = 35;
+pub const NUMBER_SIGN: u8 = b'#';

@@ -1,6 +1,8 @@
 // Reads a formula typed as text from standard input and prints its listing and its names; of a text that is refused also a line in words. A line
 // feed at the end of the input is no part of the text. A text that could not be read to its end is not listed, since the part that was read could
 // be a formula too.
+ghost use Prim.Native.Nat.{_≤_};
+ghost use lib.ListN.{length};
 use libc::STDERR_FILENO;
 use libc::STDIN_FILENO;
 use libc::STDOUT_FILENO;
@@ -23,7 +25,9 @@ fn at_end() -> bool {
 }
 
 // The length of the text: without a line feed at its end.
-fn text_length(input: &[u8]) -> usize {
+fn text_length(input: &[u8]) -> usize
+    ensures { λ r. ⌜ r ≤ length (now (input .entry)) ⌝ }
+{
     let length = input.len();
     if length == 0 {
         return 0;
@@ -45,7 +49,7 @@ fn print_words(number: u64) -> bool {
     if number == OUTSIDE_LANGUAGE {
         return io::write_all(
             STDOUT_FILENO,
-            b"This is no formula: no formula goes on with the byte at that place, counted from 0. At the end of the text something is missing.\n",
+            b"This is no formula: look at the byte at that place, counted from 0. At the end of the text, something is missing there.\n",
         );
     }
     if number == NESTED_TOO_DEEP {
@@ -81,6 +85,12 @@ fn print(text: &[u8]) -> bool {
     }
 }
 
+// Whether the listing of the text in the input was written.
+fn print_text(input: &[u8]) -> bool {
+    let end = text_length(input);
+    print(&input[..end])
+}
+
 fn complain(text: &[u8]) {
     io::write_all(STDERR_FILENO, text);
 }
@@ -94,11 +104,7 @@ fn main() {
             return;
         }
     }
-    let end = text_length(&input[..length]);
-    if end > length {
-        return;
-    }
-    if !print(&input[..end]) {
+    if !print_text(&input[..length]) {
         complain(b"text_listing: the listing could not be written\n");
     }
 }

@@ -3,32 +3,29 @@ use Prim.Native.Nat.{ℕ, _≤_, _<_}
 use mathlib.Core.Path.{_≡_, refl, sym, ap, _∙_, subst}
 use mathlib.Core.Bool.{Bool, true, false}
 use mathlib.Core.Option.{Option, none, some}
-use mathlib.Core.Logic.{_⊎_, inl, inr}
-use mathlib.Core.List.{List, [], _∷_, _++_}
+use mathlib.Core.Logic.{inl, inr}
+use mathlib.Core.List.{List, []}
 use lib.ListN.{length}
 use native.Mathlib.Omega.{arith}
 use native.Mathlib.Decide.{decLe}
 use Rattle.text_language.specs.Grammar.{Expr, Text}
-use Rattle.text_language.specs.Reading.{mostBytes, mostNested, Denotes, denotes}
+use Rattle.text_language.specs.Reading.{mostBytes, mostNested}
 use Rattle.text_language.proofs.Reading.{verdict-denotes}
 use Rattle.definitions.specs.Refusals.{notSound, badOperand, noText, textTooLong}
 use Rattle.definitions.specs.Says.{Says}
-use Rattle.definitions.specs.Formula.{formula}
-use Rattle.definitions.specs.Making.{Made, made, make}
-use Rattle.definitions.specs.Controller.{LentLists, Controller, AfterCall, reading, stored, controllerCall, onText, fromMade}
+use Rattle.definitions.specs.Controller.{Controller, controllerCall, onText, fromMade}
 use Rattle.arena.specs.declared.DagArena.{DagArena}
 use Rattle.store.specs.Sound.{Sound}
-use Rattle.store.specs.View.{nodesIn}
 use Rattle.store.proofs.Viewing.{plain-length}
 use Rattle.names.specs.Sound as Names
-use Rattle.expression_text.specs.Written.{textOf, depthOf, bracketPairs}
+use Rattle.expression_text.specs.Written.{textOf, depthOf}
 use Rattle.expression_text.specs.Proper.{Proper}
-use Rattle.expression_text.specs.Listed.{Writes as WritesProper, HasText}
+use Rattle.expression_text.specs.Listed.{TextFacts}
 use Rattle.expression_text.proofs.Texts.{writes}
 use Rattle.expression_text.proofs.Forms.{has-text}
 use Rattle.writer.specs.Placing.{Known, expressionAt}
 use Rattle.writer.specs.Sweeping.{Texted, WritesExpression}
-use Rattle.writer.specs.Writing.{Lists, lists, SoundLists, plain, lent, NodeText, WrittenText, TooLong, ReadsBack, Writes, unsound, unknown, textless, tooLong, written}
+use Rattle.writer.specs.Writing.{Lists, lists, SoundLists, plain, lent, NodeText, WrittenText, TooLong, ReadsBack, Writes, unsound, unknown, textless, tooLong, written, Covers}
 use Rattle.writer.specs.declared.Answer.{Answer}
 use Rattle.writer.specs.declared.Answer.the-variants.{Length, Refused}
 use Rattle.writer.proofs.Spelling.{spelled, only-one}
@@ -70,7 +67,7 @@ module _ (w slots : List ℕ) (a : DagArena) (es : List ℕ) (named id : ℕ) (b
         proper : Proper e
         proper = spelled w slots a s es named t id l e q .proper
 
-        says : WritesProper e
+        says : TextFacts e
         says = writes e proper
 
         abbrev own : NodeText (plain m) id (textOf e)
@@ -136,3 +133,17 @@ module _ (w slots : List ℕ) (a : DagArena) (es : List ℕ) (named id : ℕ) (b
 
     pub with-text : id < a .count → {r : Answer} {buffer′ : List ℕ} → WritesExpression (expressionAt w (a .count) es named id) buffer r buffer′ → Writes m id buffer r buffer′
     with-text l h = with-own (s .yes e) (t .yes f) l h
+
+-- ---- which nodes have a text
+
+pub covers : Covers
+covers m id h l = (own-text, no-own)
+  where
+    low : id < m .store .arena .count
+    low = omega (arith, plain-length (m .store .words) (m .store .arena .count))
+
+    own-text : (e : Expr) → expressionAt (m .store .words) (m .store .arena .count) (m .names .bytes) (m .names .count) id ≡ some e → NodeText (plain m) id (textOf e)
+    own-text e q = own (m .store .words) (m .store .slots) (m .store .arena) (m .names .bytes) (m .names .count) id [] (h .store) (h .names) low e q
+
+    no-own : expressionAt (m .store .words) (m .store .arena .count) (m .names .bytes) (m .names .count) id ≡ none → (t : List ℕ) → NodeText (plain m) id t → ⊥
+    no-own q = no-text (m .store .words) (m .store .slots) (m .store .arena) (m .names .bytes) (m .names .count) id [] (h .store) (h .names) low q

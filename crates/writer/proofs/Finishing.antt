@@ -1,27 +1,22 @@
 -- The text copied to the lent buffer, and the refusals.
-use Prim.Native.Nat.{ℕ, zero, suc, _+_, _-_, _*_, _≤_, _<_}
-use mathlib.Core.Path.{_≡_, refl, sym, ap, ap₂, _∙_, subst}
-use mathlib.Core.Bool.{Bool, true, false, false≢true, true≢false}
+use Prim.Native.Nat.{ℕ, zero, suc, _+_, _-_, _≤_, _<_}
+use mathlib.Core.Path.{_≡_, refl, sym, ap, ap₂, _∙_}
+use mathlib.Core.Bool.{Bool, true, false, false≢true}
 use mathlib.Core.Option.{Option, none, some}
 use mathlib.Core.Logic.{_⊎_, inl, inr}
 use mathlib.Core.List.{List, [], _∷_, _++_, append-assoc}
-use lib.ListN.{length, getD, take, drop, set, replicate, length-set, length-drop, length-append, length-replicate}
+use lib.ListN.{length, getD, take, drop, set, replicate, length-drop, length-append, length-replicate}
 use lib.Seq.{drop-cons, take-suc, take-all, set-at, getD-drop, length-take-le, drop-length}
 use native.Mathlib.Omega.{arith}
 use Rattle.text_language.specs.Grammar.{Expr}
-use Rattle.expression_text.specs.Numeral.{numeral}
-use Rattle.expression_text.specs.Written.{bare, textOf, depthOf}
+use Rattle.expression_text.specs.Written.{textOf, depthOf}
 use Rattle.writer.specs.Expression.{isSome, orAny}
 use Rattle.text_language.specs.Reading.{mostBytes, mostNested}
-use Rattle.writer.specs.Placing.{spare, space, placed, deep, Placed, Open, Known, expressionAt}
+use Rattle.writer.specs.Placing.{spare, space, placed, Placed, Open}
 use Rattle.writer.specs.Sweeping.{Copies, Texted, WritesExpression, Unreached}
-use Rattle.arena.specs.declared.DagArena.{DagArena}
-use Rattle.store.specs.Sound.{Sound}
 use Rattle.names.specs.Sound as Names
 use Rattle.definitions.specs.Limits.{mostNodes}
 use Rattle.definitions.specs.Refusals.{noText, textTooLong}
-use Rattle.definitions.specs.Says.{Says}
-use Rattle.writer.specs.declared.Answer.{Answer}
 use Rattle.writer.specs.declared.Answer.the-variants.{Length, Refused}
 use Rattle.writer.proofs.Pieces.{placed-bare, deep-bare, rank-high}
 

@@ -1,5 +1,5 @@
 -- An operator by its node's kind.
-use Prim.Native.Nat.{ℕ, zero, suc, _≤_, _<_}
+use Prim.Native.Nat.{ℕ, zero, suc, _<_}
 use mathlib.Core.Path.{_≡_, refl, sym, ap, _∙_, subst}
 use native.Mathlib.Omega.{arith}
 use mathlib.Core.Bool.{true}
@@ -8,7 +8,7 @@ use borrow.Author.Tests.{eqb-true}
 use Rattle.text_language.proofs.Sound.{and-both}
 use Rattle.store.specs.View.{listed}
 use Rattle.text_language.specs.Program.{Join, plus, minus, times, over, raise}
-use Rattle.definitions.specs.Promise.{joinKind}
+use Rattle.writer.specs.Expression.{joinKind}
 use Rattle.writer.specs.Placing.{Joins, JoinsKind}
 use Rattle.writer.specs.declared.operators.Joint.{Joint}
 

@@ -1,9 +1,9 @@
 -- A leaf's text is its constant's or its name's.
 use Prim.Native.Nat.{ℕ, zero, suc, _+_, _*_, _≤_, _<_}
 use mathlib.Core.Path.{_≡_, refl, sym, ap, _∙_, subst}
-use mathlib.Core.Bool.{Bool, true, false, false≢true}
+use mathlib.Core.Bool.{true, false, false≢true}
 use mathlib.Core.List.{List, [], _∷_, _++_}
-use lib.ListN.{length, getD, take, drop}
+use lib.ListN.{length, getD, drop}
 use lib.Seq.{getD-take, getD-drop}
 use native.Mathlib.Omega.{arith}
 use native.Mathlib.Decide.{decLt}
@@ -16,8 +16,8 @@ use Rattle.text_language.specs.Grammar.{Expr, constant, variable}
 use Rattle.expression_text.specs.Numeral.{numeral}
 use Rattle.expression_text.specs.Written.{bare}
 use Rattle.expression_text.specs.Proper.{isName}
-use Rattle.writer.specs.Expression.{nameOf}
-use Rattle.writer.specs.Placing.{spare, Named, Open, Puts, Known, Writable, meant}
+use Rattle.writer.specs.Expression.{symbolName}
+use Rattle.writer.specs.Placing.{spare, Named, Puts, Writable, meant}
 use Rattle.writer.proofs.Walking.{at-name, at-number}
 
 past : (l : List (List ℕ)) (i : ℕ) → length l ≤ i → getD l i [] ≡ []
@@ -34,7 +34,7 @@ module _ (es : List ℕ) (named : ℕ) (s : Names.Sound es named) where
       let g : getD (entryAt es i) 0 0 ≡ getD es (i * 33) 0 = getD-take 33 (drop (i * 33) es) 0 0 (omega arith) ∙ getD-drop (i * 33) es 0 0 ∙ ap (λ (k : ℕ). getD es k 0) (omega arith) in
       record { fits = omega arith; short = omega arith }
 
-  pub name-known : (i : ℕ) → isName (nameOf (Names.namesOf es named) i) ≡ true → i < named
+  pub name-known : (i : ℕ) → isName (symbolName (Names.namesOf es named) i) ≡ true → i < named
   unfolding isName
   name-known i h = go (decLt i named)
     where
@@ -68,4 +68,4 @@ module _ {w : List ℕ} {count : ℕ} {es : List ℕ} {named i : ℕ} (v : Writa
     unfolding bare
     leaf-name {place} {q} r {out} t =
         subst (λ (x : Expr). Puts (bare x r) spare place q out)
-        (ap variable (sym (names-at es named p known) ∙ ap (λ (x : ℕ). nameOf (Names.namesOf es named) x) ep) ∙ sym (at-name w count es named i v zero-kind .0)) t
+        (ap variable (sym (names-at es named p known) ∙ ap (λ (x : ℕ). symbolName (Names.namesOf es named) x) ep) ∙ sym (at-name w count es named i v zero-kind .0)) t

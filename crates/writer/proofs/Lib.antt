@@ -12,3 +12,4 @@ pub mod Spelling
 pub mod ReadsBack
 pub mod Answering
 pub mod Once
+pub mod AfterWriting

@@ -1,16 +1,14 @@
 -- One write has one answer: each refusal is answered exactly in its case.
-use Prim.Native.Nat.{ℕ, _≤_, _<_}
-use mathlib.Core.Path.{_≡_, refl, sym, ap, ap₂, _∙_}
+use Prim.Native.Nat.{ℕ}
+use mathlib.Core.Path.{_≡_, refl, sym, ap, _∙_}
 use mathlib.Core.Option.{some}
-use mathlib.Core.Logic.{_⊎_, inl, inr}
-use mathlib.Core.List.{List, _++_}
-use lib.ListN.{length, drop}
+use mathlib.Core.Logic.{inl, inr}
+use mathlib.Core.List.{List}
+use lib.ListN.{length}
 use native.Mathlib.Omega.{arith}
-use Rattle.text_language.specs.Grammar.{Expr}
 use Rattle.expression_text.specs.Written.{textOf}
-use Rattle.writer.specs.Writing.{Lists, SoundLists, plain, NodeText, WrittenText, TooLong, inBuffer, Writes, unsound, unknown, textless, tooLong, written, WritesOnce}
-use Rattle.writer.specs.declared.Answer.{Answer}
-use Rattle.writer.specs.declared.Answer.the-variants.{Length, Refused}
+use Rattle.writer.specs.Writing.{Lists, SoundLists, plain, NodeText, WrittenText, TooLong, inBuffer, unsound, unknown, textless, tooLong, written, WritesOnce}
+use Rattle.writer.specs.declared.Answer.the-variants.{Length}
 use Rattle.writer.proofs.Spelling.{only-one}
 use Rattle.writer.proofs.Answering.{proper-of}
 

@@ -1,26 +1,26 @@
 -- When a node has a text, and what its expression is, over its operands' expressions.
-use Prim.Native.Nat.{ℕ, zero, suc, _+_, _≤_, _<_}
-use mathlib.Core.Path.{_≡_, refl, sym, ap, ap₂, _∙_, subst}
-use mathlib.Core.Bool.{Bool, true, false, cond, true≢false, false≢true}
+use Prim.Native.Nat.{ℕ, suc, _<_}
+use mathlib.Core.Path.{_≡_, refl, sym, ap, _∙_, subst}
+use mathlib.Core.Bool.{Bool, true, false, cond, false≢true}
 use mathlib.Core.Logic.{_⊎_, inl, inr}
 use mathlib.Core.Option.{Option, none, some}
-use mathlib.Core.List.{List, [], _∷_, _++_, map}
+use mathlib.Core.List.{List, [], _∷_, map}
 use lib.ListN.{length, getD}
 use lib.Dec.{eqb}
 use native.Mathlib.Omega.{arith}
 use borrow.Author.Tests.{eqb-true}
 use Rattle.definitions.specs.Node.{Node, at, variableKind, constantKind, addKind, subKind, mulKind, divKind, powKind, negKind, bothFlags}
-use Rattle.definitions.specs.Formula.{Tree, tree, Forest, nil, cons, forest, formula}
+use Rattle.definitions.specs.Formula.{Tree, forest, formula}
 use Rattle.definitions.proofs.Stable.{Lower, opened}
 use Rattle.store.specs.View.{nodesIn}
 use Rattle.store.specs.Lookup.{Lookup}
 use Rattle.store.proofs.Reading as R
 use Rattle.store.proofs.Viewing.{plain-length}
-use Rattle.text_language.specs.Grammar.{Expr, constant, variable, negated}
+use Rattle.text_language.specs.Grammar.{Expr, constant, variable}
 use Rattle.text_language.specs.Program.{Join, plus, minus, times, over, raise}
-use Rattle.definitions.specs.Promise.{joinKind, joinFlags}
-use Rattle.expression_text.specs.Proper.{isName, isNumber}
-use Rattle.writer.specs.Expression.{joinExprs, nothing, unary, pairOf, binary, flagged, nameOf, overOperands, expressionIn, expressionsIn, expressionOf, isSome, orAny, Standing, aName, aNumber, aMinus, aPair}
+use Rattle.writer.specs.Expression.{joinKind, joinFlags}
+use Rattle.expression_text.specs.Proper.{isName, numberBits}
+use Rattle.writer.specs.Expression.{leafOnly, unary, pairOf, binary, flagged, symbolName, overOperands, expressionIn, expressionsIn, expressionOf, isSome, Standing, aName, aNumber, aMinus, aPair}
 
 no-some : {A : Type 0} → isSome none ≡ true → A
 no-some h = absurd (false≢true h)
@@ -42,7 +42,7 @@ All f [] = Unit {0}
 All f (k ∷ ks) = (isSome (f k) ≡ true) × All f ks
 
 module _ (f : ℕ → Option Expr) where
-  none-of : (ks : List ℕ) (e : Expr) → isSome (nothing (map f ks) e) ≡ true → ks ≡ []
+  none-of : (ks : List ℕ) (e : Expr) → isSome (leafOnly (map f ks) e) ≡ true → ks ≡ []
   none-of [] e h = refl
   none-of (k ∷ ks) e h = no-some h
 
@@ -82,9 +82,9 @@ module _ (f : ℕ → Option Expr) where
   pub standing-of : (names : List (List ℕ)) (n : Node) → isSome (over-at names n) ≡ true → Standing names n × All f (n .children)
   unfolding overOperands
   standing-of names n h = elim (choose (eqb (n .kind) variableKind) _ _ h) [
-    | inl y ↦ let g = flag-is (n .flags) 0 _ (y .1) in named (eqb-true _ _ (y .0)) (g .0) (choose (isName (nameOf names (n .payload))) _ _ (g .1))
+    | inl y ↦ let g = flag-is (n .flags) 0 _ (y .1) in named (eqb-true _ _ (y .0)) (g .0) (choose (isName (symbolName names (n .payload))) _ _ (g .1))
     | inr y₁ ↦ elim (choose (eqb (n .kind) constantKind) _ _ y₁) [
-      | inl y ↦ let g = flag-is (n .flags) 0 _ (y .1) in numbered (eqb-true _ _ (y .0)) (g .0) (choose (isNumber (n .payload)) _ _ (g .1))
+      | inl y ↦ let g = flag-is (n .flags) 0 _ (y .1) in numbered (eqb-true _ _ (y .0)) (g .0) (choose (numberBits (n .payload)) _ _ (g .1))
       | inr y₂ ↦ elim (choose (eqb (n .kind) negKind) _ _ y₂) [
         | inl y ↦ let g = flag-is (n .flags) 0 _ (y .1) in let t = one-of (n .children) (g .1) in (aMinus (t .0) (eqb-true _ _ (y .0)) (g .0) (t .1 .0), subst (All f) (sym (t .1 .0)) (t .1 .1, tt))
         | inr y₃ ↦ elim (choose (eqb (n .kind) addKind) _ _ y₃) [
@@ -107,19 +107,19 @@ module _ (f : ℕ → Option Expr) where
     ]
   ]
     where
-      named : n .kind ≡ variableKind → n .flags ≡ 0 → ((isName (nameOf names (n .payload)) ≡ true) × (isSome (nothing (map f (n .children)) (variable (nameOf names (n .payload)))) ≡ true)) ⊎ (isSome none ≡ true)
+      named : n .kind ≡ variableKind → n .flags ≡ 0 → ((isName (symbolName names (n .payload)) ≡ true) × (isSome (leafOnly (map f (n .children)) (variable (symbolName names (n .payload)))) ≡ true)) ⊎ (isSome none ≡ true)
           → Standing names n × All f (n .children)
-      named k g (inl y) = let e = none-of (n .children) (variable (nameOf names (n .payload))) (y .1) in (aName k g e (y .0), subst (All f) (sym e) tt)
+      named k g (inl y) = let e = none-of (n .children) (variable (symbolName names (n .payload))) (y .1) in (aName k g e (y .0), subst (All f) (sym e) tt)
       named k g (inr y) = no-some y
 
-      numbered : n .kind ≡ constantKind → n .flags ≡ 0 → ((isNumber (n .payload) ≡ true) × (isSome (nothing (map f (n .children)) (constant (n .payload))) ≡ true)) ⊎ (isSome none ≡ true)
+      numbered : n .kind ≡ constantKind → n .flags ≡ 0 → ((numberBits (n .payload) ≡ true) × (isSome (leafOnly (map f (n .children)) (constant (n .payload))) ≡ true)) ⊎ (isSome none ≡ true)
           → Standing names n × All f (n .children)
       numbered k g (inl y) = let e = none-of (n .children) (constant (n .payload)) (y .1) in (aNumber k g e (y .0), subst (All f) (sym e) tt)
       numbered k g (inr y) = no-some y
 
   -- what a standing node makes of its operands
   abbrev pub result : (names : List (List ℕ)) (n : Node) → Standing names n → Option Expr
-  result names n (aName k g c w) = some (variable (nameOf names (n .payload)))
+  result names n (aName k g c w) = some (variable (symbolName names (n .payload)))
   result names n (aNumber k g c q) = some (constant (n .payload))
   result names n (aMinus a k g c) = unary (f a ∷ [])
   result names n (aPair o a b k g c) = pairOf o (f a) (f b)
@@ -133,7 +133,7 @@ module _ (f : ℕ → Option Expr) where
 
     pub result-is : (s : Standing names n) → over-at names n ≡ result names n s
     unfolding overOperands
-    result-is (aName k g c w) = at-parts 0 0 [] k g c ∙ ap (λ (b : Bool). cond b (some (variable (nameOf names (n .payload)))) none) w
+    result-is (aName k g c w) = at-parts 0 0 [] k g c ∙ ap (λ (b : Bool). cond b (some (variable (symbolName names (n .payload)))) none) w
     result-is (aNumber k g c q) = at-parts 1 0 [] k g c ∙ ap (λ (b : Bool). cond b (some (constant (n .payload))) none) q
     result-is (aMinus a k g c) = at-parts 8 0 (a ∷ []) k g c
     result-is (aPair plus a b k g c) = at-parts 2 3 (a ∷ (b ∷ [])) k g c

@@ -1,9 +1,9 @@
 -- How the text of an expression stands in front of others: laws for each step of the writer.
-use Prim.Native.Nat.{ℕ, zero, suc, _+_, _-_, _*_, _≤_, _<_, max}
-use mathlib.Core.Path.{_≡_, refl, sym, ap, ap₂, _∙_, subst}
+use Prim.Native.Nat.{ℕ, suc, _+_, _-_, _≤_, _<_, max}
+use mathlib.Core.Path.{_≡_, refl, sym, ap, _∙_}
 use mathlib.Core.Bool.{Bool, true, false}
 use mathlib.Core.Logic.{_⊎_, inl, inr}
-use mathlib.Core.List.{List, [], _∷_, _++_}
+use mathlib.Core.List.{List, _∷_}
 use lib.ListN.{length, drop, length-append, length-drop}
 use lib.Dec.{leb}
 use native.Mathlib.Omega.{arith}
@@ -11,7 +11,7 @@ use borrow.Author.Tests.{le-leb, lt-leb}
 use Rattle.text_language.specs.Grammar.{Expr, constant, variable, negated, linked, raised, chain, power, factor, under, sign}
 use Rattle.expression_text.specs.Numeral.{numeral}
 use Rattle.text_language.specs.Reader.{rank}
-use Rattle.expression_text.specs.Written.{natural, fits, wrap, bare, textOf, deeper, depthOf}
+use Rattle.expression_text.specs.Written.{natural, fits, wrap, bare, deeper, depthOf}
 use Rattle.text_language.specs.Program.{Join, plus, minus, times, over, raise}
 use Rattle.writer.specs.Expression.{joinExprs}
 use Rattle.text_language.specs.Reading.{mostBytes}

@@ -2,10 +2,9 @@
 use Prim.Native.Nat.{ℕ, zero, suc, _+_, _-_, _*_, _%_, _≤_, _<_}
 use mathlib.Core.Path.{_≡_, refl, sym, ap, ap₂, _∙_, subst}
 use mathlib.Core.Bool.{Bool, true, false, _&&_, false≢true}
-use mathlib.Core.Option.{Option, none, some}
-use mathlib.Core.Logic.{_⊎_, inl, inr}
-use mathlib.Core.List.{List, [], _∷_, _++_}
-use lib.ListN.{length, getD, take, drop, set, length-set, length-drop, List·getD-eq-default}
+use mathlib.Core.Option.{Option}
+use mathlib.Core.List.{List, [], _∷_}
+use lib.ListN.{length, getD, drop, set, length-set, length-drop, List·getD-eq-default}
 use lib.Seq.{getD-set-same, getD-set-other, drop-cons, getD-take, getD-drop}
 use lib.Dec.{leb}
 use native.Mathlib.Omega.{arith}
@@ -13,7 +12,6 @@ use native.Mathlib.Decide.{decLt}
 use borrow.Author.Tests.{le-leb}
 use Rattle.definitions.specs.Node.{Node, at}
 use Rattle.definitions.specs.Says.{Says}
-use Rattle.arena.specs.Nodes.{Nodes}
 use Rattle.arena.specs.Layout.{nodeWords, flagsWord}
 use Rattle.arena.specs.Node.{nodeAt, canonical}
 use Rattle.store.specs.View.{nodesIn, plainNode}
@@ -26,13 +24,13 @@ use Rattle.names.proofs.Listing.{names-length, names-at}
 use Rattle.text_language.specs.Grammar.{Expr, isLetter, isWord}
 use Rattle.text_language.specs.Program.{Join, plus, minus, times, over, raise}
 use Rattle.definitions.specs.Limits.{mostChildren, mostNodes}
-use Rattle.definitions.specs.Promise.{joinKind, joinFlags}
-use Rattle.expression_text.specs.Proper.{isName, allWords, isNumber}
-use Rattle.writer.specs.Expression.{nameOf, expressionOf, isSome, Standing, aName, aNumber, aMinus, aPair}
+use Rattle.writer.specs.Expression.{joinKind, joinFlags}
+use Rattle.expression_text.specs.Proper.{isName, allWords, numberBits}
+use Rattle.writer.specs.Expression.{symbolName, isSome, Standing, aName, aNumber, aMinus, aPair}
 use Rattle.writer.specs.Placing.{Named, Known, expressionAt}
 use Rattle.writer.specs.Sweeping.{FormOf, Marks, Unreached}
 use Rattle.writer.specs.declared.sweeping.Form.{Form}
-use Rattle.writer.proofs.Parts.{All, standing-of, some-of, opened-up, over-at}
+use Rattle.writer.proofs.Parts.{All, standing-of, some-of, opened-up}
 use Rattle.writer.proofs.InFront.{name-length, name-byte}
 use Rattle.writer.proofs.Leaves.{named-at}
 use Rattle.text_language.proofs.Sound.{absurd-bool}
@@ -53,7 +51,7 @@ flags-is w count i k = sym (ap (λ (m : Node). m .flags) (at-plain w count i (k 
 
 module _ (es : List ℕ) (named : ℕ) (s : Names.Sound es named) (i : ℕ) where
   abbrev the-name : List ℕ
-  the-name = nameOf (Names.namesOf es named) i
+  the-name = symbolName (Names.namesOf es named) i
 
   pub name-none : named ≤ i → false ≡ isName the-name
   unfolding isName
@@ -177,14 +175,14 @@ module _ (names : List (List ℕ)) (n : Node) {kind : ℕ} (ek : kind ≡ n .kin
   other-flags {x} e h = record { yes = λ z. absurd (false≢true z); no = λ z s. h (e ∙ stand-flags s) }
 
   module _ {x y : ℕ} (ea : x ≡ length (n .children)) (ha : x ≡ r .arity) (ef : y ≡ n .flags) (hf : y ≡ r .flags) where
-    pub by-name : kind ≡ 0 → {p : ℕ} → p ≡ n .payload → {b : Bool} → b ≡ isName (nameOf names p) → Says b (Standing names n)
+    pub by-name : kind ≡ 0 → {p : ℕ} → p ≡ n .payload → {b : Bool} → b ≡ isName (symbolName names p) → Says b (Standing names n)
     by-name k {p} ep {b} eb = record {
-      yes = λ z. aName (sym ek ∙ k) (sym ef ∙ hf ∙ f .leaf-flags (omega arith)) (none-left (n .children) (sym ea ∙ ha ∙ f .leaf (omega arith))) (ap (λ (i : ℕ). isName (nameOf names i)) (sym ep) ∙ sym eb ∙ z);
+      yes = λ z. aName (sym ek ∙ k) (sym ef ∙ hf ∙ f .leaf-flags (omega arith)) (none-left (n .children) (sym ea ∙ ha ∙ f .leaf (omega arith))) (ap (λ (i : ℕ). isName (symbolName names i)) (sym ep) ∙ sym eb ∙ z);
       no = λ z s. only s z;
     }
       where
         only : Standing names n → b ≡ false → ⊥
-        only (aName k′ g c w) z = absurd-bool (eb ∙ ap (λ (i : ℕ). isName (nameOf names i)) ep ∙ w) z
+        only (aName k′ g c w) z = absurd-bool (eb ∙ ap (λ (i : ℕ). isName (symbolName names i)) ep ∙ w) z
         only (aNumber k′ g c q) z = omega arith
         only (aMinus a k′ g c) z = omega arith
         only (aPair plus a b k′ g c) z = omega arith
@@ -193,15 +191,15 @@ module _ (names : List (List ℕ)) (n : Node) {kind : ℕ} (ek : kind ≡ n .kin
         only (aPair over a b k′ g c) z = omega arith
         only (aPair raise a b k′ g c) z = omega arith
 
-    pub by-number : kind ≡ 1 → {p : ℕ} → p ≡ n .payload → {b : Bool} → b ≡ isNumber p → Says b (Standing names n)
+    pub by-number : kind ≡ 1 → {p : ℕ} → p ≡ n .payload → {b : Bool} → b ≡ numberBits p → Says b (Standing names n)
     by-number k {p} ep {b} eb = record {
-      yes = λ z. aNumber (sym ek ∙ k) (sym ef ∙ hf ∙ f .leaf-flags (omega arith)) (none-left (n .children) (sym ea ∙ ha ∙ f .leaf (omega arith))) (ap isNumber (sym ep) ∙ sym eb ∙ z);
+      yes = λ z. aNumber (sym ek ∙ k) (sym ef ∙ hf ∙ f .leaf-flags (omega arith)) (none-left (n .children) (sym ea ∙ ha ∙ f .leaf (omega arith))) (ap numberBits (sym ep) ∙ sym eb ∙ z);
       no = λ z s. only s z;
     }
       where
         only : Standing names n → b ≡ false → ⊥
         only (aName k′ g c w) z = omega arith
-        only (aNumber k′ g c q) z = absurd-bool (eb ∙ ap isNumber ep ∙ q) z
+        only (aNumber k′ g c q) z = absurd-bool (eb ∙ ap numberBits ep ∙ q) z
         only (aMinus a k′ g c) z = omega arith
         only (aPair plus a b k′ g c) z = omega arith
         only (aPair minus a b k′ g c) z = omega arith
@@ -426,7 +424,7 @@ module _ {es : List ℕ} {named i start size j : ℕ} (d : Wording es named i st
   q′ : b ≡ isWord (getD es (i * 33 + (j + 1)) 0)
   q′ = q ∙ ap (λ (k : ℕ). isWord (getD es (k + (j + 1)) 0)) (d .start-is)
 
-  pub wording-none : b ≡ false → false ≡ isName (nameOf (Names.namesOf es named) i)
+  pub wording-none : b ≡ false → false ≡ isName (symbolName (Names.namesOf es named) i)
   wording-none f = no-word es named (d .sound) i (d .below) (d .words) (let z = d .size-is in omega arith) q′ f
 
   pub wording-on : b ≡ true → Wording es named i start size (j + 1)
@@ -440,5 +438,5 @@ module _ {es : List ℕ} {named i start size j : ℕ} (d : Wording es named i st
     short = d .short;
   }
 
-pub wording-end : {es : List ℕ} {named i start size j : ℕ} (d : Wording es named i start size j) → size ≤ j → true ≡ isName (nameOf (Names.namesOf es named) i)
+pub wording-end : {es : List ℕ} {named i start size j : ℕ} (d : Wording es named i start size j) → size ≤ j → true ≡ isName (symbolName (Names.namesOf es named) i)
 wording-end {es} {named} {i} {start} {size} {j} d h = words-end es named (d .sound) i (d .below) (d .words) (let z = d .size-is in omega arith)

@@ -1,33 +1,33 @@
 -- Reading a node's expression with the same store and names gives the same id, and adds nothing.
-use Prim.Native.Nat.{ℕ, zero, suc, _+_, _*_, _≤_, _<_}
+use Prim.Native.Nat.{ℕ, zero, suc, _+_, _<_}
 use mathlib.Core.Path.{_≡_, refl, sym, ap, ap₂, _∙_, subst}
 use mathlib.Core.Bool.{Bool, true, false, _&&_, cond, false≢true}
-use mathlib.Core.Option.{Option, none, some}
+use mathlib.Core.Option.{Option, some}
 use mathlib.Core.List.{List, [], _∷_}
 use lib.ListN.{length, getD}
-use lib.Dec.{T, leb, ltb, eqb}
+use lib.Dec.{T, leb, eqb}
 use native.Mathlib.Omega.{arith}
 use borrow.Author.Tests.{eqb-true, le-leb, leb-true, lt-ltb}
-use Rattle.text_language.specs.Grammar.{Expr, constant, variable, negated, isLetter}
+use Rattle.text_language.specs.Grammar.{Expr, constant, variable, isLetter}
 use Rattle.text_language.specs.Program.{Join, plus, minus, times, over, raise}
 use Rattle.text_language.proofs.Sound.{and-both}
 use Rattle.definitions.specs.Node as N
 use Rattle.definitions.specs.Intern as I
 use Rattle.definitions.specs.Names as Names
 use Rattle.definitions.specs.Machine as M
-use Rattle.definitions.specs.Making.{LentLists, Controller, controller, Made, made, stopped, bind, storedAs, storing, namedAs, naming, joined, make}
-use Rattle.definitions.specs.Promise.{joinKind, joinFlags}
+use Rattle.definitions.specs.Making.{LentLists, Controller, controller, Made, made, bind, storedAs, storing, namedAs, naming, joined, make}
+use Rattle.writer.specs.Expression.{joinKind, joinFlags}
 use Rattle.definitions.proofs.Intern.{eq-same, T-true, sameChildren-eq}
 use Rattle.arena.specs.declared.DagArena.{DagArena}
 use Rattle.arena.specs.Node.{nodeAt}
 use Rattle.store.specs.Sound.{Sound}
-use Rattle.store.specs.View.{nodesIn, plainNode, listed}
+use Rattle.store.specs.View.{nodesIn, listed}
 use Rattle.store.proofs.Viewing.{plain-length, at-plain, neat-at, same-one}
 use Rattle.store.proofs.Reading as R
 use Rattle.names.specs.Sound as NameList
 use Rattle.names.proofs.Listing.{names-length, names-at, number-found}
 use Rattle.expression_text.specs.Proper.{isName, allWords}
-use Rattle.writer.specs.Expression.{joinExprs, nameOf, isSome, orAny, Standing, aName, aNumber, aMinus, aPair}
+use Rattle.writer.specs.Expression.{joinExprs, symbolName, isSome, orAny, Standing, aName, aNumber, aMinus, aPair}
 use Rattle.writer.specs.Placing.{Known, Writable, expressionAt, meant}
 use Rattle.writer.proofs.Walking.{stands, at-minus, at-pair, at-name, at-number}
 use Rattle.writer.proofs.Joining.{kind-one, two-up, minus-payload, pair-payload}
@@ -148,19 +148,19 @@ module _ (w slots : List ℕ) (a : DagArena) (s : Sound w slots a) (es : List �
       let z = leb-true (length v) 31 (q .1) in
       ap₂ (λ (x y : Bool). x && y) (le-leb 1 (suc (length v)) (omega arith)) (le-leb (suc (length v)) 32 (omega arith))
 
-  number-own : (p : ℕ) → isName (nameOf names p) ≡ true → Names.numberFrom names 0 (nameOf names p) ≡ some p
+  number-own : (p : ℕ) → isName (symbolName names p) ≡ true → Names.numberFrom names 0 (symbolName names p) ≡ some p
   number-own p h =
       let k = name-known es named t p h in
-      number-found names 0 p (nameOf names p) (omega (arith, names-length es named)) refl
+      number-found names 0 p (symbolName names p) (omega (arith, names-length es named)) refl
       (λ j x q. let z = t .once j p (omega arith) k (sym (names-at es named j (omega arith)) ∙ q ∙ names-at es named p k) in omega arith)
       ∙ ap some (omega arith)
 
-  name-own : (p : ℕ) → isName (nameOf names p) ≡ true → naming l (nameOf names p) S ≡ made p S
+  name-own : (p : ℕ) → isName (symbolName names p) ≡ true → naming l (symbolName names p) S ≡ made p S
   unfolding naming Names.nameCall
   name-own p h =
       ap (λ (x : Names.NameResult). namedAs ns (x .answer) (x .names))
-      (ap (λ (b : Bool). cond b (Names.internAt (l .names) names (nameOf names p) (Names.numberFrom names 0 (nameOf names p))) (Names.answers (Names.refused 9) names)) (allowed (nameOf names p) h)
-      ∙ ap (Names.internAt (l .names) names (nameOf names p)) (number-own p h))
+      (ap (λ (b : Bool). cond b (Names.internAt (l .names) names (symbolName names p) (Names.numberFrom names 0 (symbolName names p))) (Names.answers (Names.refused 9) names)) (allowed (symbolName names p) h)
+      ∙ ap (Names.internAt (l .names) names (symbolName names p)) (number-own p h))
 
   known : Known w count es named
   known = record { nodes = s .nodes; names = t }

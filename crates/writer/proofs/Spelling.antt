@@ -1,17 +1,18 @@
 -- A node's expression is the one that denotes its formula under the names as they are: `Spells` and `expressionOf` say the same of proper expressions.
-use Prim.Native.Nat.{ℕ, zero, suc, _+_, _≤_, _<_}
+use Prim.Native.Nat.{ℕ, zero, suc, _<_}
 use mathlib.Core.Path.{_≡_, refl, sym, ap, ap₂, _∙_, subst}
 use mathlib.Core.Bool.{Bool, true, false, cond}
 use mathlib.Core.Option.{Option, none, some}
 use mathlib.Core.List.{List, [], _∷_}
 use lib.ListN.{length, getD}
 use native.Mathlib.Omega.{arith}
-use Rattle.text_language.specs.Grammar.{sums, products, Expr, constant, variable, negated, linked, raised}
+use Rattle.text_language.specs.Grammar.{sums, products, Expr, constant, variable}
 use Rattle.text_language.specs.Program as Program
 use Rattle.text_language.specs.Program.{Join}
 use Rattle.definitions.specs.Node as N
 use Rattle.definitions.specs.Formula.{Tree, tree, forest, nil, cons, formula}
-use Rattle.definitions.specs.Promise.{nth, joinKind, joinFlags, Spells, number, name, minus, link, power}
+use Rattle.definitions.specs.Promise.{nth, Spells, number, name, minus, sum, difference, product, quotient, power}
+use Rattle.writer.specs.Expression.{joinKind, joinFlags}
 use Rattle.definitions.proofs.Stable.{opened}
 use Rattle.arena.specs.declared.DagArena.{DagArena}
 use Rattle.store.specs.Sound.{Sound}
@@ -20,8 +21,8 @@ use Rattle.store.proofs.Viewing.{plain-length}
 use Rattle.store.proofs.Reading as R
 use Rattle.names.specs.Sound as NameList
 use Rattle.names.proofs.Listing.{names-length}
-use Rattle.expression_text.specs.Proper.{isName, isNumber, Proper}
-use Rattle.writer.specs.Expression.{joinExprs, unary, pairOf, nameOf, overOperands, expressionIn, expressionsIn, expressionOf, isSome, orAny, Standing, aName, aNumber, aMinus, aPair}
+use Rattle.expression_text.specs.Proper.{isName, Proper}
+use Rattle.writer.specs.Expression.{joinExprs, unary, pairOf, symbolName, overOperands, expressionIn, expressionsIn, expressionOf, isSome, orAny, Standing, aName, aNumber, aMinus, aPair}
 use Rattle.writer.specs.Placing.{Known, Writable, expressionAt, meant}
 use Rattle.writer.proofs.Parts.{lower}
 use Rattle.writer.proofs.Walking.{stands, at-minus, at-pair, at-name, at-number}
@@ -30,12 +31,12 @@ use Rattle.writer.proofs.Leaves.{name-known}
 
 -- ---- an expression that denotes a formula is the formula's
 
-nth-is : (names : List (List ℕ)) (n : ℕ) (w : List ℕ) → nth names n ≡ some w → nameOf names n ≡ w
+nth-is : (names : List (List ℕ)) (n : ℕ) (w : List ℕ) → nth names n ≡ some w → symbolName names n ≡ w
 nth-is [] n w e = let z : _≡_ {A = ℕ} 0 1 = cc in absurd (omega arith)
 nth-is (x ∷ names) zero w e = cc
 nth-is (x ∷ names) (suc n) w e = nth-is names n w e
 
-nth-at : (names : List (List ℕ)) (n : ℕ) → n < length names → nth names n ≡ some (nameOf names n)
+nth-at : (names : List (List ℕ)) (n : ℕ) → n < length names → nth names n ≡ some (symbolName names n)
 nth-at [] n h = absurd (omega arith)
 nth-at (x ∷ names) zero h = refl
 nth-at (x ∷ names) (suc n) h = nth-at names n (omega arith)
@@ -47,10 +48,10 @@ module _ (names : List (List ℕ)) where
   complete (name {w} {n} e) h =
       ap (λ (v : List ℕ). cond (isName v) (some (variable v)) none) (nth-is names n w e) ∙ ap (λ (b : Bool). cond b (some (variable w)) none) h
   complete (minus p) h = ap (λ (o : Option Expr). unary (o ∷ [])) (complete p h)
-  complete (link {k = sums} {x = false} p q) h = ap₂ (pairOf Program.plus) (complete p (h .0)) (complete q (h .1))
-  complete (link {k = sums} {x = true} p q) h = ap₂ (pairOf Program.minus) (complete p (h .0)) (complete q (h .1))
-  complete (link {k = products} {x = false} p q) h = ap₂ (pairOf Program.times) (complete p (h .0)) (complete q (h .1))
-  complete (link {k = products} {x = true} p q) h = ap₂ (pairOf Program.over) (complete p (h .0)) (complete q (h .1))
+  complete (sum p q) h = ap₂ (pairOf Program.plus) (complete p (h .0)) (complete q (h .1))
+  complete (difference p q) h = ap₂ (pairOf Program.minus) (complete p (h .0)) (complete q (h .1))
+  complete (product p q) h = ap₂ (pairOf Program.times) (complete p (h .0)) (complete q (h .1))
+  complete (quotient p q) h = ap₂ (pairOf Program.over) (complete p (h .0)) (complete q (h .1))
   complete (power p q) h = ap₂ (pairOf Program.raise) (complete p (h .0)) (complete q (h .1))
 
 -- ---- a node's expression denotes its formula, and is proper
@@ -58,10 +59,10 @@ module _ (names : List (List ℕ)) where
 -- two operands' formulas and what joins them
 joined-spells : {names : List (List ℕ)} (o : Join) {a b : Expr} {t u : Tree} → Spells names a t → Spells names b u
     → Spells names (joinExprs o a b) (tree (joinKind o) 0 (joinFlags o) (cons t (cons u nil)))
-joined-spells Program.plus p q = link {k = sums} {x = false} p q
-joined-spells Program.minus p q = link {k = sums} {x = true} p q
-joined-spells Program.times p q = link {k = products} {x = false} p q
-joined-spells Program.over p q = link {k = products} {x = true} p q
+joined-spells Program.plus p q = sum p q
+joined-spells Program.minus p q = difference p q
+joined-spells Program.times p q = product p q
+joined-spells Program.over p q = quotient p q
 joined-spells Program.raise p q = power p q
 
 joined-proper : (o : Join) (a b : Expr) → Proper a → Proper b → Proper (joinExprs o a b)

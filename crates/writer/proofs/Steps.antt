@@ -1,20 +1,18 @@
 -- The needs of `put`, each a law over plain variables.
-use Prim.Native.Nat.{ℕ, zero, suc, _+_, _-_, _*_, _≤_, _<_, max}
-use mathlib.Core.Path.{_≡_, refl, sym, ap, ap₂, _∙_, subst}
-use mathlib.Core.List.{List, [], _∷_, _++_}
+use Prim.Native.Nat.{ℕ, _+_, _-_, _≤_, _<_}
+use mathlib.Core.Path.{_≡_, sym, _∙_, subst}
+use mathlib.Core.List.{List, _∷_}
 use lib.ListN.{length, getD, drop}
 use native.Mathlib.Omega.{arith}
-use Rattle.definitions.specs.Node.{Node, at}
+use Rattle.definitions.specs.Node.{at}
 use Rattle.store.specs.View.{nodesIn}
 use Rattle.store.specs.Lookup.{Lookup}
 use Rattle.text_language.specs.Grammar.{Expr, negated}
-use Rattle.expression_text.specs.Numeral.{numeral}
 use Rattle.text_language.specs.Reader.{rank}
-use Rattle.expression_text.specs.Written.{natural, bare, depthOf}
+use Rattle.expression_text.specs.Written.{natural, bare}
 use Rattle.text_language.specs.Program.{Join}
-use Rattle.definitions.specs.Promise.{joinKind}
 use Rattle.writer.specs.Expression.{joinExprs}
-use Rattle.writer.specs.Placing.{spare, space, signOf, ownRank, leftRank, rightRank, nests, Open, Puts, Ranked, Joins, JoinsKind, Known, Writable, Placed, expressionAt, meant}
+use Rattle.writer.specs.Placing.{spare, space, signOf, ownRank, leftRank, rightRank, nests, Open, Puts, Ranked, Joins, JoinsKind, Writable, Placed, meant}
 use Rattle.writer.specs.declared.operators.Joint.{Joint}
 use Rattle.writer.proofs.Walking.{Pair, Minus, look, at-minus, at-pair, leaf-is, pair-rank, rank-is}
 use Rattle.writer.proofs.Pieces.{Going, going-self, going-on, finish, bracket-none, bracket-full, bracket-stop, bracket-done, leaf-done, minus-none, minus-stop, minus-done, pair-none, pair-stop, pair-full, pair-on}

@@ -1,11 +1,10 @@
 -- The steps of the writer over memory.
-use Prim.Native.Nat.{ℕ, zero, suc, _+_, _-_, _*_, _≤_, _<_, max}
+use Prim.Native.Nat.{ℕ, _-_, _≤_, _<_}
 use mathlib.Core.Path.{_≡_, refl, sym, ap, ap₂, _∙_, subst}
-use mathlib.Core.Bool.{Bool, true, false, false≢true}
+use mathlib.Core.Bool.{true, false, false≢true}
 use mathlib.Core.Option.{Option, none, some}
-use mathlib.Core.Logic.{_⊎_, inl, inr}
-use mathlib.Core.List.{List, [], _∷_, _++_}
-use lib.ListN.{length, getD, drop}
+use mathlib.Core.List.{List, [], _∷_}
+use lib.ListN.{length, getD}
 use native.Mathlib.Omega.{arith}
 use Rattle.definitions.specs.Node.{Node, at}
 use Rattle.store.specs.View.{nodesIn}
@@ -13,17 +12,15 @@ use Rattle.store.specs.Lookup.{Lookup}
 use Rattle.store.proofs.Reading as R
 use Rattle.names.specs.Sound as Names
 use Rattle.text_language.specs.Grammar.{Expr, constant, variable, negated}
-use Rattle.expression_text.specs.Numeral.{numeral}
 use Rattle.text_language.specs.Reader.{rank}
-use Rattle.expression_text.specs.Written.{natural, bare, depthOf}
+use Rattle.expression_text.specs.Written.{natural, depthOf}
 use Rattle.text_language.specs.Program.{Join, plus, minus, times, over, raise}
-use Rattle.definitions.specs.Promise.{joinKind}
+use Rattle.writer.specs.Expression.{joinKind}
 use Rattle.expression_text.specs.Proper.{isName}
-use Rattle.writer.specs.Expression.{joinExprs, unary, pairOf, nameOf, expressionOf, isSome, orAny, Standing, aName, aNumber, aMinus, aPair}
-use Rattle.writer.specs.Placing.{spare, space, placed, deep, signOf, ownRank, leftRank, rightRank, nests, Open, Puts, Ranked, Joins, JoinsKind, Known, Writable, Placed, expressionAt, meant}
-use Rattle.writer.specs.declared.operators.Joint.{Joint}
-use Rattle.writer.proofs.Parts.{All, standing-of, result, result-is, opened-up, over-at}
-use Rattle.writer.proofs.Pieces.{Going, going-self, going-on, finish, own-rank, bracket-none, bracket-full, bracket-stop, bracket-done, leaf-done, minus-none, minus-stop, minus-done, pair-none, pair-stop, pair-full, pair-on}
+use Rattle.writer.specs.Expression.{joinExprs, unary, pairOf, symbolName, expressionOf, isSome, orAny, Standing, aName, aNumber, aMinus, aPair}
+use Rattle.writer.specs.Placing.{ownRank, Ranked, Writable, meant}
+use Rattle.writer.proofs.Parts.{All, standing-of, result, result-is, opened-up}
+use Rattle.writer.proofs.Pieces.{own-rank}
 
 -- the operator of a node of two operands
 pub record Pair (w : List ℕ) (count : ℕ) (es : List ℕ) (named i : ℕ) : Type 0 where
@@ -133,10 +130,10 @@ module _ (w : List ℕ) (count : ℕ) (es : List ℕ) (named i : ℕ) (v : Writa
       go (aPair o a b k g c) e = pair-made o a b k c e
 
   -- a variable or a constant
-  pub at-name : n .kind ≡ 0 → (meant w count es named i ≡ variable (nameOf names (n .payload))) × (isName (nameOf names (n .payload)) ≡ true)
+  pub at-name : n .kind ≡ 0 → (meant w count es named i ≡ variable (symbolName names (n .payload))) × (isName (symbolName names (n .payload)) ≡ true)
   at-name h = go stands (is-result stands)
     where
-      go : (s : Standing names n) → f i ≡ result f names n s → (meant w count es named i ≡ variable (nameOf names (n .payload))) × (isName (nameOf names (n .payload)) ≡ true)
+      go : (s : Standing names n) → f i ≡ result f names n s → (meant w count es named i ≡ variable (symbolName names (n .payload))) × (isName (symbolName names (n .payload)) ≡ true)
       go (aName k g c x) e = (ap orAny e, x)
       go (aNumber k g c q) e = absurd (omega arith)
       go (aMinus a k g c) e = absurd (omega arith)

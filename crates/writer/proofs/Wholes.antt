@@ -1,25 +1,24 @@
 -- Which constants are printed as whole numbers.
-use Prim.Native.Nat.{ℕ, zero, suc, _+_, _*_, _%_, _^_, _≤_, _<_}
+use Prim.Native.Nat.{ℕ, _+_, _*_, _^_, _≤_, _<_}
 use mathlib.Core.Path.{_≡_, refl, sym, ap, _∙_, subst}
-use mathlib.Core.Bool.{Bool, true, false, _&&_, not}
-use mathlib.Core.List.{List, [], _∷_}
-use lib.Dec.{T, leb, eqb, ltb}
+use mathlib.Core.Bool.{Bool, true, false, not}
+use lib.Dec.{T}
 use lib.IntN.{pos}
-use lib.Ieee.{Float, nan, inf, fin, binary64, ofBits, toBits, ofInt, toUnsigned, isNan, nanBits, lt, up, down, round}
+use lib.Ieee.{Float, nan, inf, fin, binary64, ofBits, ofInt, toUnsigned, isNan, lt, up, down}
 use lib.Ieee.Bits.{ofBits-toBits, nanBits-is}
 use lib.Ieee.Fits.{ofInt-fits}
 use lib.Ieee.Exact.{HasValue}
 use lib.Ieee.Back.{round-whole}
 use lib.Ieee.Fits.{down-pos}
 use native.Mathlib.Omega.{arith}
-use native.Mathlib.Nat.{mul-one, mul-lt-mul-of-pos-right}
-use borrow.Author.Tests.{lt-ltb, eqb-true, leb-true}
+use native.Mathlib.Nat.{mul-lt-mul-of-pos-right}
+use borrow.Author.Tests.{lt-ltb}
 use Rattle.text_language.specs.Grammar.{wholeBits}
-use Rattle.expression_text.specs.Numeral.{numeral, decimals, hexes, wholePart}
+use Rattle.expression_text.specs.Numeral.{numeral, wholePart}
 use Rattle.expression_text.specs.Numeral.{mostWhole}
 use Rattle.writer.specs.Placing.{IsWhole}
-use Rattle.text_language.proofs.Sound.{absurd-bool, and-both}
-use Rattle.expression_text.specs.Proper.{isNumber}
+use Rattle.text_language.proofs.Sound.{absurd-bool}
+use Rattle.expression_text.specs.Proper.{numberBits}
 use Rattle.expression_text.proofs.Listing.{numerals, value-back}
 use Rattle.expression_text.proofs.Forms.{is-number, whole-bits}
 
@@ -79,7 +78,7 @@ no-nan true h = absurd h
 no-nan false h = refl
 
 module _ (b : ℕ) where
-  pub nan-no : isNumber b ≡ false → NoWhole b
+  pub nan-no : numberBits b ≡ false → NoWhole b
   nan-no l n h e =
       absurd-bool
       (is-number b (record { low = subst (λ (x : ℕ). x < 2 ^ 64) e (whole-bits n); number = nanBits-is binary64 b ∙ no-nan (isNan (ofBits binary64 b)) (value-number (ofBits binary64 b) n (has b n h e)) }))

@@ -1,17 +1,31 @@
 -- The expression of a node, if it has one: what a text that reads to it says, with the names as they are (02 d).
-use Prim.Native.Nat.{ℕ, zero, suc, _≤_}
+use Prim.Native.Nat.{ℕ}
 use mathlib.Core.Path.{_≡_}
-use mathlib.Core.Bool.{Bool, true, false, _&&_, cond}
+use mathlib.Core.Bool.{Bool, true, false, cond}
 use mathlib.Core.Option.{Option, none, some}
-use mathlib.Core.List.{List, [], _∷_, map}
+use mathlib.Core.List.{List, [], _∷_}
 use lib.ListN.{getD}
 use lib.Dec.{eqb}
 use Rattle.text_language.specs.Grammar.{sums, products, Expr, constant, variable, negated, linked, raised}
 use Rattle.text_language.specs.Program.{Join, plus, minus, times, over, raise}
 use Rattle.definitions.specs.Node.{Node, variableKind, constantKind, addKind, subKind, mulKind, divKind, powKind, negKind, bothFlags}
 use Rattle.definitions.specs.Formula.{Tree, tree, Forest, nil, cons, formula}
-use Rattle.definitions.specs.Promise.{joinKind, joinFlags}
-use Rattle.expression_text.specs.Proper.{isName, isNumber}
+use Rattle.expression_text.specs.Proper.{isName, numberBits}
+
+-- the kind and the constructors' flags of a sign
+abbrev pub joinKind : Join → ℕ
+joinKind plus = addKind
+joinKind minus = subKind
+joinKind times = mulKind
+joinKind over = divKind
+joinKind raise = powKind
+
+abbrev pub joinFlags : Join → ℕ
+joinFlags plus = bothFlags
+joinFlags minus = 0
+joinFlags times = bothFlags
+joinFlags over = 0
+joinFlags raise = 0
 
 abbrev pub joinExprs : Join → Expr → Expr → Expr
 joinExprs plus a b = linked sums false a b
@@ -20,11 +34,11 @@ joinExprs times a b = linked products false a b
 joinExprs over a b = linked products true a b
 joinExprs raise a b = raised a b
 
--- ---- what a node's own sign makes of its operands' expressions, none where one has none or their number is another
+-- ---- a node's expression from those of its operands: none if an operand has none, or if there are too many or too few
 
-abbrev pub nothing : List (Option Expr) → Expr → Option Expr
-nothing [] e = some e
-nothing (x ∷ xs) e = none
+abbrev pub leafOnly : List (Option Expr) → Expr → Option Expr
+leafOnly [] e = some e
+leafOnly (x ∷ xs) e = none
 
 abbrev pub unary : List (Option Expr) → Option Expr
 unary [] = none
@@ -51,15 +65,15 @@ provided b o = cond b o none
 abbrev pub flagged : ℕ → ℕ → Option Expr → Option Expr
 flagged f g o = provided (eqb f g) o
 
-abbrev pub nameOf : List (List ℕ) → ℕ → List ℕ
-nameOf names p = getD names p []
+abbrev pub symbolName : List (List ℕ) → ℕ → List ℕ
+symbolName names p = getD names p []
 
 -- "variables, constants, Neg and two-operand operators but Mod"
 unfoldable pub overOperands : List (List ℕ) → ℕ → ℕ → ℕ → List (Option Expr) → Option Expr
-unfolding isName isNumber
+unfolding isName numberBits
 overOperands names k p f xs =
-    cond (eqb k variableKind) (flagged f 0 (provided (isName (nameOf names p)) (nothing xs (variable (nameOf names p))))) (
-    cond (eqb k constantKind) (flagged f 0 (provided (isNumber p) (nothing xs (constant p)))) (
+    cond (eqb k variableKind) (flagged f 0 (provided (isName (symbolName names p)) (leafOnly xs (variable (symbolName names p))))) (
+    cond (eqb k constantKind) (flagged f 0 (provided (numberBits p) (leafOnly xs (constant p)))) (
     cond (eqb k negKind) (flagged f 0 (unary xs)) (
     cond (eqb k addKind) (flagged f bothFlags (binary plus xs)) (
     cond (eqb k subKind) (flagged f 0 (binary minus xs)) (
@@ -90,9 +104,9 @@ abbrev pub orAny : Option Expr → Expr
 orAny none = constant 0
 orAny (some e) = e
 
--- a node with a sign of its own in texts, its operands aside
+-- a node whose kind, flags and number of children texts have, its operands aside
 pub data Standing (names : List (List ℕ)) (n : Node) : Type 0 where
-  aName : n .kind ≡ variableKind → n .flags ≡ 0 → n .children ≡ [] → isName (nameOf names (n .payload)) ≡ true → Standing names n
-  aNumber : n .kind ≡ constantKind → n .flags ≡ 0 → n .children ≡ [] → isNumber (n .payload) ≡ true → Standing names n
+  aName : n .kind ≡ variableKind → n .flags ≡ 0 → n .children ≡ [] → isName (symbolName names (n .payload)) ≡ true → Standing names n
+  aNumber : n .kind ≡ constantKind → n .flags ≡ 0 → n .children ≡ [] → numberBits (n .payload) ≡ true → Standing names n
   aMinus : (a : ℕ) → n .kind ≡ negKind → n .flags ≡ 0 → n .children ≡ a ∷ [] → Standing names n
   aPair : (o : Join) (a b : ℕ) → n .kind ≡ joinKind o → n .flags ≡ joinFlags o → n .children ≡ a ∷ (b ∷ []) → Standing names n

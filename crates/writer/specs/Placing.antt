@@ -12,7 +12,7 @@ use Rattle.text_language.specs.Reader.{rank}
 use Rattle.text_language.specs.Program.{Join, plus, minus, times, over, raise}
 use Rattle.text_language.specs.Reading.{mostBytes}
 use Rattle.definitions.specs.Names.{longestName, entryBytes}
-use Rattle.definitions.specs.Promise.{joinKind}
+use Rattle.writer.specs.Expression.{joinKind}
 use Rattle.arena.specs.Nodes.{Nodes}
 use Rattle.store.specs.View.{nodesIn}
 use Rattle.names.specs.Sound as Names

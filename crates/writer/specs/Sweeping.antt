@@ -1,10 +1,10 @@
 -- What the functions say that decide which nodes have a text (13).
 use Prim.Native.Nat.{ℕ, _+_, _≤_, _<_}
 use mathlib.Core.Path.{_≡_}
-use mathlib.Core.List.{List, _++_}
+use mathlib.Core.List.{List}
 use mathlib.Core.Logic.{_⊎_}
 use mathlib.Core.Option.{Option, none, some}
-use lib.ListN.{length, getD, drop}
+use lib.ListN.{length, getD}
 use Rattle.text_language.specs.Grammar.{Expr}
 use Rattle.text_language.specs.Reading.{mostBytes, mostNested}
 use Rattle.definitions.specs.Refusals.{noText, textTooLong}

@@ -3,20 +3,22 @@ use Prim.Native.Nat.{ℕ, _≤_, _<_}
 use mathlib.Core.Path.{_≡_}
 use mathlib.Core.Bool.{false}
 use mathlib.Core.Logic.{_⊎_}
-use mathlib.Core.List.{List, [], _∷_, _++_}
-use lib.ListN.{length, drop}
+use mathlib.Core.List.{List, _++_}
+use mathlib.Core.Option.{none, some}
+use lib.ListN.{length, take, drop}
 use Rattle.text_language.specs.Grammar.{Expr, Text}
 use Rattle.text_language.specs.Program.{postfix}
 use Rattle.text_language.specs.Reading.{mostBytes, mostNested, anyNan}
 use Rattle.definitions.specs.Refusals.{notSound, badOperand, noText, textTooLong}
 use Rattle.definitions.specs.Formula.{formula}
-use Rattle.definitions.specs.Controller.{LentLists, Controller, AfterCall, reading, stored, controllerCall}
-use Rattle.definitions.specs.Promise.{Spells}
+use Rattle.definitions.specs.Controller.{LentLists, Controller, ControllerAnswer, reading, stored, controllerCall}
+use Rattle.definitions.specs.Promise.{Spells, ControllerCalled}
 use Rattle.definitions.specs.Beside.{Beside, beside, controllerModel}
 use Rattle.arena.specs.declared.DagArena.{DagArena}
 use Rattle.store.specs.Memory.{memory, model}
 use Rattle.names.specs.Memory.{nameMemory, nameModel}
 use Rattle.expression_text.specs.Written.{textOf, bracketPairs, blanks}
+use Rattle.writer.specs.Expression.{expressionOf}
 use Rattle.writer.specs.declared.Answer.{Answer}
 use Rattle.writer.specs.declared.Answer.the-variants.{Length, Refused}
 
@@ -54,7 +56,8 @@ pub record NodeText (s : Controller) (id : ℕ) (t : List ℕ) : Type 0 where
 -- the text that is written
 pub record WrittenText (s : Controller) (id : ℕ) (t : List ℕ) : Type 0 where
   pub of : NodeText s id t
-  -- signs, names and numerals, and brackets only where an operand does not fit without (specs Written and Numeral of expression_text)
+  -- signs, names and numerals, and brackets only where an operand does not fit without (specs Written of expression_text); how constants are
+  -- printed is said by `Numerals` of its specs Listed
   pub is : t ≡ textOf (of .expr)
   -- "without blanks"
   pub no-blanks : blanks t ≡ 0
@@ -92,3 +95,16 @@ pub data Writes (m : Lists) (id : ℕ) (buffer : List ℕ) : Answer → List ℕ
 abbrev pub WritesOnce : Type 0
 WritesOnce = (m : Lists) (id : ℕ) (buffer : List ℕ) (r r′ : Answer) (buffer′ buffer″ : List ℕ)
     → Writes m id buffer r buffer′ → Writes m id buffer r′ buffer″ → (r ≡ r′) × (buffer′ ≡ buffer″)
+
+-- "It covers variables, constants, Neg and two-operand operators but Mod, with the constructors' flags, marks aside": a node with an expression
+-- (specs Expression) has a text, and no other has one
+abbrev pub Covers : Type 0
+Covers = (m : Lists) (id : ℕ) → SoundLists m → id < length (plain m .nodes)
+    → ((e : Expr) → expressionOf (plain m .names) (plain m .nodes) id ≡ some e → NodeText (plain m) id (textOf e))
+    × (expressionOf (plain m .names) (plain m .nodes) id ≡ none → (t : List ℕ) → NodeText (plain m) id t → ⊥)
+
+-- what a write left in the buffer, handed to a reading on the same lists, gives the id and adds nothing
+abbrev pub ReadAfterWrite : Type 0
+ReadAfterWrite = (m m′ : Lists) (id size : ℕ) (buffer buffer′ : List ℕ) (a : ControllerAnswer)
+    → Writes m id buffer (Length size) buffer′ → ControllerCalled (controllerModel model nameModel) (reading (take size buffer′)) m a m′
+    → (a ≡ stored id) × (plain m′ ≡ plain m)

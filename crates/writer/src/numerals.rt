@@ -4,7 +4,7 @@ ghost use mathlib.Core.List.{_∷_, _++_};
 ghost use Prim.Native.Nat.{_≤_, _<_};
 ghost use lib.ListN.{drop};
 ghost use Rattle.expression_text.specs.Numeral.{mostWhole, mostDigits, hexDigits, numberSign, numeral, decimals, hexes, hexByte};
-ghost use Rattle.expression_text.specs.Proper.{isNumber};
+ghost use Rattle.expression_text.specs.Proper.{numberBits};
 ghost use Rattle.writer.specs.Placing.{spare, IsWhole, Open, Puts};
 use crate::placing::SPACE;
 use expression_text::MOST_WHOLE;
@@ -69,7 +69,7 @@ fn put_hex(out: &mut [u8; SPACE], at: usize, bits: u64) -> usize
 
 // Whether bits are a number's: those of a NaN are not.
 pub(crate) fn is_number(bits: u64) -> bool
-    ensures { λ r. ⌜ r ≡ isNumber bits ⌝ }
+    ensures { λ r. ⌜ r ≡ numberBits bits ⌝ }
 {
     bits % SIGN_BIT <= BITS_OF_INFINITY
 }

@@ -30,31 +30,31 @@ pub(crate) fn joint_of(kind: u64) -> Joint
 {
     match kind {
         ADD => Joint {
-            sign: 43,
+            sign: b'+',
             left: SUM,
             right: PRODUCT,
             nesting: 0,
         },
         SUB => Joint {
-            sign: 45,
+            sign: b'-',
             left: SUM,
             right: PRODUCT,
             nesting: 0,
         },
         MUL => Joint {
-            sign: 42,
+            sign: b'*',
             left: PRODUCT,
             right: POWER,
             nesting: 0,
         },
         DIV => Joint {
-            sign: 47,
+            sign: b'/',
             left: PRODUCT,
             right: POWER,
             nesting: 0,
         },
         _ => Joint {
-            sign: 94,
+            sign: b'^',
             left: FACTOR,
             right: POWER,
             nesting: 1,

@@ -9,7 +9,7 @@ ghost use Rattle.store.specs.View.{nodesIn};
 ghost use Rattle.store.specs.Lookup.{Lookup};
 ghost use Rattle.names.specs.Sound as Names;
 ghost use Rattle.expression_text.specs.Proper.{isName};
-ghost use Rattle.writer.specs.Expression.{Standing, isSome, nameOf};
+ghost use Rattle.writer.specs.Expression.{Standing, isSome, symbolName};
 ghost use Rattle.writer.specs.Placing.{Known, expressionAt};
 ghost use Rattle.writer.specs.Sweeping.{FormOf, Marks, Unreached};
 use crate::bytes::index;
@@ -81,7 +81,7 @@ fn flags(nodes: &[u64], count: u64, id: u64) -> u64
 // Whether a symbol has a name of the text's form.
 fn is_named(entries: &[u8], named: usize, symbol: u64) -> bool
     requires { ⌜ Names.Sound (now entries) named ⌝ }
-    ensures { λ r. ⌜ r ≡ isName (nameOf (Names.namesOf (now (entries .entry)) named) symbol) ⌝ }
+    ensures { λ r. ⌜ r ≡ isName (symbolName (Names.namesOf (now (entries .entry)) named) symbol) ⌝ }
 {
     if named as u64 <= symbol {
         return false;
@@ -101,7 +101,7 @@ fn is_named(entries: &[u8], named: usize, symbol: u64) -> bool
     true
 }
 
-// Whether a node has a sign of its own in texts, its operands aside.
+// Whether a node's kind, flags and number of children are such as texts have, its operands aside.
 fn stands(nodes: &[u64], count: u64, entries: &[u8], named: usize, id: u64) -> bool
     requires { ⌜ Known (now nodes) count (now entries) named × (id < count) ⌝ }
     ensures { λ r. ⌜ Says r (Standing (Names.namesOf (now (entries .entry)) named) (N.at (nodesIn (now (nodes .entry)) count) id)) ⌝ }

@@ -1,11 +1,8 @@
 use native.Mathlib.Omega.{arith}
-use mathlib.Core.Path.{sym, _∙_}
 use Rattle.writer.proofs.Finishing.{CopyLeft, copy-start, copy-long, copy-on, copy-end}
 use Prim.Native.Nat.{_-_}
 use Rattle.writer.proofs.copy.Statement.{statement}
 use Rattle.writer.proofs.copy.Tie as tie
-use Rattle.writer.proofs.copy.Reads as reads
-use Rattle.writer.proofs.copy.Lts as lts
 
 abbrev Inv-loop : tie.InvT-loop
 Inv-loop out place buffer₀ size i₀ buffer i = CopyLeft out place buffer₀ size buffer i

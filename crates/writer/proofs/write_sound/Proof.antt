@@ -1,17 +1,12 @@
 use native.Mathlib.Omega.{arith}
 use borrow.Author.Tests.{not-true, not-false}
-use Rattle.writer.proofs.Finishing.{write-none, write-stop, write-short, write-done, has-some, blank-of, open-of}
+use Rattle.writer.proofs.Finishing.{write-none, write-stop, write-short, write-done, blank-of, open-of}
 use mathlib.Core.Path.{refl, sym, _∙_}
 use Prim.Native.Nat.{ℕ}
 use lib.ListN.{replicate}
 use borrow.Author.Needs.{needs}
 use Rattle.writer.proofs.write_sound.Statement.{statement}
 use Rattle.writer.proofs.write_sound.Tie as tie
-use Rattle.writer.proofs.write_sound.Reads as reads
-use Rattle.writer.proofs.write_sound.Lts as lts
-use Rattle.writer.proofs.copy.Reads as copy-reads
-use Rattle.writer.proofs.sweeping.has_text.Reads as has-text-reads
-use Rattle.writer.proofs.placing.put.Reads as put-reads
 
 has-text-requires : tie.Need-has-text-requires
 has-text-requires c κs = search needs

@@ -1,8 +1,6 @@
 use borrow.Author.Tests.{le-leb, lt-leb}
 use Rattle.writer.proofs.bytes.between.Statement.{statement}
 use Rattle.writer.proofs.bytes.between.Tie as tie
-use Rattle.writer.proofs.bytes.between.Reads as reads
-use Rattle.writer.proofs.bytes.between.Lts as lts
 
 returns : tie.Need-returns
 returns c = simp (lt-leb _ _ (c .if1 .taken))

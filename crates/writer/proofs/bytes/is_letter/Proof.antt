@@ -2,9 +2,6 @@ use Rattle.text_language.proofs.Or.{or-left, or-right}
 use borrow.Author.Needs.{needs}
 use Rattle.writer.proofs.bytes.is_letter.Statement.{statement}
 use Rattle.writer.proofs.bytes.is_letter.Tie as tie
-use Rattle.writer.proofs.bytes.is_letter.Reads as reads
-use Rattle.writer.proofs.bytes.is_letter.Lts as lts
-use Rattle.writer.proofs.bytes.between.Reads as between-reads
 
 between-requires : tie.Need-between-requires
 between-requires c κs = search needs

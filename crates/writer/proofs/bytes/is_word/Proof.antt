@@ -2,10 +2,6 @@ use Rattle.text_language.proofs.Or.{or-left, or-right}
 use borrow.Author.Needs.{needs}
 use Rattle.writer.proofs.bytes.is_word.Statement.{statement}
 use Rattle.writer.proofs.bytes.is_word.Tie as tie
-use Rattle.writer.proofs.bytes.is_word.Reads as reads
-use Rattle.writer.proofs.bytes.is_word.Lts as lts
-use Rattle.writer.proofs.bytes.is_digit.Reads as is-digit-reads
-use Rattle.writer.proofs.bytes.is_letter.Reads as is-letter-reads
 
 is-letter-requires : tie.Need-is-letter-requires
 is-letter-requires c κs = search needs

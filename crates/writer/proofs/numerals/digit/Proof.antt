@@ -6,8 +6,6 @@ use borrow.Author.Tests.{le-leb, lt-leb}
 use borrow.Author.Needs.{needs}
 use Rattle.writer.proofs.numerals.digit.Statement.{statement}
 use Rattle.writer.proofs.numerals.digit.Tie as tie
-use Rattle.writer.proofs.numerals.digit.Reads as reads
-use Rattle.writer.proofs.numerals.digit.Lts as lts
 
 cast-result : tie.Need-cast-result
 cast-result c = search needs

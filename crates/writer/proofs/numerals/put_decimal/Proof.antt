@@ -2,9 +2,6 @@ use native.Mathlib.Omega.{arith}
 use Rattle.writer.proofs.InFront.{DecimalsLeft, decimals-start, decimals-place, decimals-on, decimals-end}
 use Rattle.writer.proofs.numerals.put_decimal.Statement.{statement}
 use Rattle.writer.proofs.numerals.put_decimal.Tie as tie
-use Rattle.writer.proofs.numerals.put_decimal.Reads as reads
-use Rattle.writer.proofs.numerals.put_decimal.Lts as lts
-use Rattle.writer.proofs.numerals.digit.Reads as digit-reads
 
 abbrev Inv-loop : tie.InvT-loop
 Inv-loop out₀ at n place₀ rest₀ out place rest = DecimalsLeft n at out₀ out place rest

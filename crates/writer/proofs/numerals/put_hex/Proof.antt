@@ -2,9 +2,6 @@ use native.Mathlib.Omega.{arith}
 use Rattle.writer.proofs.InFront.{HexesLeft, hexes-start, hexes-place, hexes-on, hexes-end}
 use Rattle.writer.proofs.numerals.put_hex.Statement.{statement}
 use Rattle.writer.proofs.numerals.put_hex.Tie as tie
-use Rattle.writer.proofs.numerals.put_hex.Reads as reads
-use Rattle.writer.proofs.numerals.put_hex.Lts as lts
-use Rattle.writer.proofs.numerals.digit.Reads as digit-reads
 
 abbrev Inv-loop : tie.InvT-loop
 Inv-loop out₀ at bits place₀ rest₀ left₀ out place rest left = HexesLeft bits at out₀ out place rest left

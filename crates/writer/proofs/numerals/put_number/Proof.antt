@@ -1,12 +1,6 @@
-use native.Mathlib.Omega.{arith}
 use Rattle.writer.proofs.InFront.{number-whole, number-hex}
 use Rattle.writer.proofs.numerals.put_number.Statement.{statement}
 use Rattle.writer.proofs.numerals.put_number.Tie as tie
-use Rattle.writer.proofs.numerals.put_number.Reads as reads
-use Rattle.writer.proofs.numerals.put_number.Lts as lts
-use Rattle.writer.proofs.numerals.put_decimal.Reads as put-decimal-reads
-use Rattle.writer.proofs.numerals.put_hex.Reads as put-hex-reads
-use Rattle.writer.proofs.numerals.whole.Reads as whole-reads
 
 whole-requires : tie.Need-whole-requires
 whole-requires c κs = tt

@@ -1,22 +1,14 @@
-use native.Mathlib.Omega.{arith}
-use mathlib.Core.Path.{_≡_, refl, sym, _∙_, subst, ap}
-use mathlib.Core.Bool.{Bool, true, not}
-use Prim.Native.Nat.{ℕ, _%_}
-use borrow.Author.Tests.{le-ltb, lt-ltb, not-true, not-false}
+use mathlib.Core.Path.{sym, _∙_, subst, ap}
+use mathlib.Core.Bool.{Bool, not}
+use borrow.Author.Tests.{not-true, not-false}
 use Rattle.expression_text.proofs.Forms.{number-form}
-use lib.Dec.{T, ltb}
-use lib.IntN.{pos}
-use lib.Ieee.{Float, binary64, ofBits, toBits, ofInt, neg, isNan, nanBits}
-use lib.Ieee.Bits.{nanBits-above}
+use lib.Dec.{T}
+use lib.Ieee.{Float, binary64, ofBits, toBits, neg, isNan}
 use Rattle.text_language.specs.Grammar.{wholeBits}
 use Rattle.writer.proofs.Wholes.{whole-yes, whole-no, nan-no, low-no, high-no, great-no, other-no, whole-number}
 use borrow.Author.Needs.{needs}
 use Rattle.writer.proofs.numerals.whole.Statement.{statement}
 use Rattle.writer.proofs.numerals.whole.Tie as tie
-use Rattle.writer.proofs.numerals.whole.Reads as reads
-use Rattle.writer.proofs.numerals.whole.Lts as lts
-use Rattle.std.proofs.num.nearest_u64_to_f64.Reads as nearest-u64-to-f64-reads
-use Rattle.std.proofs.num.truncating_f64_to_u64.Reads as truncating-f64-to-u64-reads
 
 returns : tie.Need-returns
 returns c = whole-no _ (nan-no _ (sym (c .before .is-number .ensures) ∙ not-true _ (c .if1 .taken)))

@@ -4,8 +4,6 @@ use Rattle.text_language.specs.Program.{plus, minus, times, over}
 use Rattle.writer.proofs.Joining.{by-kind, by-rest}
 use Rattle.writer.proofs.operators.joint_of.Statement.{statement}
 use Rattle.writer.proofs.operators.joint_of.Tie as tie
-use Rattle.writer.proofs.operators.joint_of.Reads as reads
-use Rattle.writer.proofs.operators.joint_of.Lts as lts
 
 returns : tie.Need-returns
 returns c = by-kind plus _ _ (omega arith) (record { sign = refl; left = refl; right = refl; nesting = refl })

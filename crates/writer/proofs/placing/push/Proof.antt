@@ -2,8 +2,6 @@ use Rattle.writer.proofs.InFront.{push-is}
 use borrow.Author.Needs.{needs}
 use Rattle.writer.proofs.placing.push.Statement.{statement}
 use Rattle.writer.proofs.placing.push.Tie as tie
-use Rattle.writer.proofs.placing.push.Reads as reads
-use Rattle.writer.proofs.placing.push.Lts as lts
 
 sub-place : tie.Need-sub-place
 sub-place c = search needs

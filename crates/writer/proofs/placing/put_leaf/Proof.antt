@@ -1,14 +1,7 @@
-use native.Mathlib.Omega.{arith}
 use Rattle.writer.proofs.Walking.{look}
 use Rattle.writer.proofs.Leaves.{leaf-number, leaf-named, leaf-name}
 use Rattle.writer.proofs.placing.put_leaf.Statement.{statement}
 use Rattle.writer.proofs.placing.put_leaf.Tie as tie
-use Rattle.writer.proofs.placing.put_leaf.Reads as reads
-use Rattle.writer.proofs.placing.put_leaf.Lts as lts
-use Rattle.store.proofs.kind.Reads as kind-reads
-use Rattle.store.proofs.payload.Reads as payload-reads
-use Rattle.writer.proofs.placing.put_name.Reads as put-name-reads
-use Rattle.writer.proofs.numerals.put_number.Reads as put-number-reads
 
 payload-requires : tie.Need-payload-requires
 payload-requires c κs = look _ _ _ _ _ (c .before .before .pre .0)

@@ -4,9 +4,6 @@ use mathlib.Core.Path.{_≡_}
 use Prim.Native.Nat.{_*_}
 use Rattle.writer.proofs.placing.put_name.Statement.{statement}
 use Rattle.writer.proofs.placing.put_name.Tie as tie
-use Rattle.writer.proofs.placing.put_name.Reads as reads
-use Rattle.writer.proofs.placing.put_name.Lts as lts
-use Rattle.writer.proofs.bytes.index.Reads as index-reads
 
 abbrev Inv-loop : tie.InvT-loop
 Inv-loop entries symbol out₀ at start left₀ place₀ out left place = NameLeft entries symbol at out₀ out left place × (start ≡ symbol * 33)

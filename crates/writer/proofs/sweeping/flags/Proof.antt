@@ -2,8 +2,6 @@ use Rattle.writer.proofs.Reached.{flags-is}
 use borrow.Author.Needs.{needs}
 use Rattle.writer.proofs.sweeping.flags.Statement.{statement}
 use Rattle.writer.proofs.sweeping.flags.Tie as tie
-use Rattle.writer.proofs.sweeping.flags.Reads as reads
-use Rattle.writer.proofs.sweeping.flags.Lts as lts
 
 mul-result : tie.Need-mul-result
 mul-result c = search needs

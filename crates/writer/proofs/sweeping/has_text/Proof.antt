@@ -1,12 +1,8 @@
-use native.Mathlib.Omega.{arith}
 use mathlib.Core.Path.{refl}
 use Rattle.writer.proofs.Finishing.{unreached-of}
 use borrow.Author.Needs.{needs}
 use Rattle.writer.proofs.sweeping.has_text.Statement.{statement}
 use Rattle.writer.proofs.sweeping.has_text.Tie as tie
-use Rattle.writer.proofs.sweeping.has_text.Reads as reads
-use Rattle.writer.proofs.sweeping.has_text.Lts as lts
-use Rattle.writer.proofs.sweeping.sweep.Reads as sweep-reads
 
 sweep-requires : tie.Need-sweep-requires
 sweep-requires c κs = (c .before .before .before .pre .0, c .before .before .before .pre .1, unreached-of 65536 refl)

@@ -5,11 +5,6 @@ use mathlib.Core.Path.{refl}
 use Prim.Native.Nat.{_-_}
 use Rattle.writer.proofs.sweeping.is_named.Statement.{statement}
 use Rattle.writer.proofs.sweeping.is_named.Tie as tie
-use Rattle.writer.proofs.sweeping.is_named.Reads as reads
-use Rattle.writer.proofs.sweeping.is_named.Lts as lts
-use Rattle.writer.proofs.bytes.index.Reads as index-reads
-use Rattle.writer.proofs.bytes.is_letter.Reads as is-letter-reads
-use Rattle.writer.proofs.bytes.is_word.Reads as is-word-reads
 
 abbrev Inv-loop : tie.InvT-loop
 Inv-loop entries named symbol start size j₀ j = Wording entries named symbol start size j

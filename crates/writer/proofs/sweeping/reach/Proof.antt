@@ -5,10 +5,6 @@ use mathlib.Core.Path.{sym, _∙_}
 use borrow.Author.Needs.{needs}
 use Rattle.writer.proofs.sweeping.reach.Statement.{statement}
 use Rattle.writer.proofs.sweeping.reach.Tie as tie
-use Rattle.writer.proofs.sweeping.reach.Reads as reads
-use Rattle.writer.proofs.sweeping.reach.Lts as lts
-use Rattle.store.proofs.arity.Reads as arity-reads
-use Rattle.store.proofs.child.Reads as child-reads
 
 arity-requires : tie.Need-arity-requires
 arity-requires c κs = search needs

@@ -3,10 +3,6 @@ use borrow.Author.Tests.{not-true, not-false}
 use Rattle.writer.proofs.Reached.{Swept, swept-start, swept-look, swept-past, swept-none, few, swept-on, swept-end}
 use Rattle.writer.proofs.sweeping.sweep.Statement.{statement}
 use Rattle.writer.proofs.sweeping.sweep.Tie as tie
-use Rattle.writer.proofs.sweeping.sweep.Reads as reads
-use Rattle.writer.proofs.sweeping.sweep.Lts as lts
-use Rattle.writer.proofs.sweeping.reach.Reads as reach-reads
-use Rattle.writer.proofs.sweeping.stands.Reads as stands-reads
 
 abbrev Inv-loop : tie.InvT-loop
 Inv-loop nodes count entries named root reached₀ i₀ reached i = Swept nodes count entries named root reached i

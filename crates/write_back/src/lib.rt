@@ -1,0 +1,167 @@
+// What the program `formula` does with a text: it is read into a fresh store, simplified, pruned by a setting if one is given, and written back.
+ghost use mathlib.Core.Path.{_≡_};
+ghost use Rattle.store.specs.Memory.{memory};
+ghost use Rattle.writer.specs.Writing.{lists};
+ghost use Rattle.write_back.specs.Ids.{idOf};
+ghost use Rattle.write_back.specs.Answers.{Pruned, Finishes, Simplifies, Answers};
+use arena::DagArena;
+use writer::Answer;
+
+// 01's greatest depth limit, and a budget that no text of 8,192 bytes is known to use up.
+const DEPTH: u32 = 255;
+
+const BUDGET: u64 = 100_000_000;
+
+// The setting that the formula is pruned by, if it is.
+pub enum Pruning {
+    Skipped,
+    BySetting(u32),
+}
+
+// The length of the text that was written, the walk's steps and whether its budget was used up, and the terms kept and dropped; or a refusal.
+pub enum Outcome {
+    Written {
+        length: usize,
+        steps: u64,
+        spent: bool,
+        kept: u64,
+        dropped: u64,
+    },
+    Refused(u64),
+}
+
+// An id as calls take it.
+fn id_of(id: u64) -> u32
+    ensures { λ r. ⌜ r ≡ idOf id ⌝ }
+{
+    (id % 4_294_967_296) as u32
+}
+
+// The prune, if a setting is given.
+fn prune(
+    nodes: &mut [u64],
+    slots: &mut [u32],
+    arena: DagArena,
+    id: u64,
+    pruning: Pruning,
+) -> pruner::Outcome
+    ensures { λ r. ⌜ Pruned pruning (memory (now (nodes .entry)) (now (slots .entry)) arena) id (r .answer) (memory (now (nodes .exit)) (now (slots .exit)) (r .arena)) ⌝ }
+{
+    match pruning {
+        Pruning::Skipped => pruner::Outcome {
+            answer: pruner::Answer::Pruned {
+                id,
+                kept: 1,
+                dropped: 0,
+            },
+            arena,
+        },
+        Pruning::BySetting(setting) => {
+            pruner::prune_by_setting(nodes, slots, arena, id_of(id), setting)
+        }
+    }
+}
+
+// The prune and the write, after a walk.
+fn finish(
+    nodes: &mut [u64],
+    slots: &mut [u32],
+    arena: DagArena,
+    entries: &[u8],
+    names: usize,
+    id: u64,
+    pruning: Pruning,
+    steps: u64,
+    spent: bool,
+    text: &mut [u8],
+) -> Outcome
+    ensures { λ r. ⌜ Finishes pruning steps spent (lists (now (nodes .entry)) (now (slots .entry)) arena (now (entries .entry)) names) id (now (text .entry)) r (now (text .exit)) ⌝ }
+{
+    let pruned = prune(nodes, slots, arena, id, pruning);
+    let after = pruned.arena;
+    let answer = pruned.answer;
+    match answer {
+        pruner::Answer::Pruned { id, kept, dropped } => {
+            let written = writer::write(nodes, slots, after, entries, names, id_of(id), text);
+            match written {
+                Answer::Length(length) => Outcome::Written {
+                    length,
+                    steps,
+                    spent,
+                    kept,
+                    dropped,
+                },
+                Answer::Refused(number) => Outcome::Refused(number),
+            }
+        }
+        pruner::Answer::Refused(number) => Outcome::Refused(number),
+    }
+}
+
+// The walk and what follows, after a reading.
+fn simplify(
+    nodes: &mut [u64],
+    slots: &mut [u32],
+    arena: DagArena,
+    entries: &[u8],
+    names: usize,
+    id: u64,
+    pruning: Pruning,
+    text: &mut [u8],
+) -> Outcome
+    ensures { λ r. ⌜ Simplifies pruning (lists (now (nodes .entry)) (now (slots .entry)) arena (now (entries .entry)) names) id (now (text .entry)) r (now (text .exit)) ⌝ }
+{
+    let walked = walk::simplify(nodes, slots, arena, id_of(id), DEPTH, BUDGET);
+    let after = walked.arena;
+    let answer = walked.answer;
+    match answer {
+        walk::Answer::Simplified { id, steps } => finish(
+            nodes,
+            slots,
+            after,
+            entries,
+            names,
+            id,
+            pruning,
+            steps,
+            false,
+            text,
+        ),
+        walk::Answer::Spent { id, steps } => finish(
+            nodes,
+            slots,
+            after,
+            entries,
+            names,
+            id,
+            pruning,
+            steps,
+            true,
+            text,
+        ),
+        walk::Answer::Refused(number) => Outcome::Refused(number),
+    }
+}
+
+// All of it, on lent lists.
+pub fn answer(
+    typed: &[u8],
+    pruning: Pruning,
+    nodes: &mut [u64],
+    slots: &mut [u32],
+    arena: DagArena,
+    entries: &mut [u8],
+    names: usize,
+    text: &mut [u8],
+) -> Outcome
+    ensures { λ r. ⌜ Answers (now (typed .entry)) pruning (lists (now (nodes .entry)) (now (slots .entry)) arena (now (entries .entry)) names) (now (text .entry)) r (now (text .exit)) ⌝ }
+{
+    let made = text::read(typed, nodes, slots, arena, entries, names);
+    let after = made.arena;
+    let known = made.names;
+    let answer = made.answer;
+    match answer {
+        store::Answer::Id(id) => simplify(nodes, slots, after, entries, known, id, pruning, text),
+        store::Answer::Refused(number) => Outcome::Refused(number),
+    }
+}
