@@ -6,3 +6,4 @@ pub mod Program
 pub mod Refusals
 pub mod Reading
 pub mod Examples
+pub mod VerdictExamples
