@@ -107,7 +107,8 @@ instance-stopped =
     let e : Expr = linked sums false (name (120 ∷ [])) (name (121 ∷ [])) in
     kept-texts .reads-stopped 1 24 (120 ∷ 43 ∷ 121 ∷ []) e refl (subst (Judged (120 ∷ 43 ∷ 121 ∷ [])) second-denotes (judged (120 ∷ 43 ∷ 121 ∷ []))) refl
 
--- The knob (02 a, m): flow + 0.25 simplified; settings 0 and 19 answer it untouched, with 1 kept; 20 and 200 keep both of its terms; 4 comes before 8, which begins at 201.
+-- The knob (02 a, m): flow + 0.25 simplified; settings 0 and 19 answer it untouched, with 1 kept; 20 and 200 keep both of its terms; 4 comes
+-- before 8, which begins at 201.
 abbrev knob : List ControllerCall
 knob =
     building (variable 0) ∷ building (constant 0x3FD0000000000000) ∷ building (add 0 1) ∷ simplifying 2 255 100 ∷ pruningBySetting 2 0 ∷ pruningBySetting 2 19

@@ -132,8 +132,8 @@ pruneChain l ns t ts =
     let ks = filter (keeps ns t) ts in
     cond (ltb mostTerms (length ts)) (outcome (refused tooManyTerms) ns) (prunedAs (length ks) (length ts - length ks) (sumOfKept l ns ks))
 
--- "A root that is no Add has no chain and is answered itself, 1 kept, 0 dropped." Without a threshold every root is (02 a), with no chain looked at:
--- "23, 21 and 22 do not occur there".
+-- "A root that is no Add has no chain and is answered itself, 1 kept, 0 dropped." Without a threshold every root is (02 a), with no chain
+-- looked at: "23, 21 and 22 do not occur there".
 unfoldable pub pruneAt : Lent → List Node → ℕ → Threshold → Outcome
 unfolding chain pruneChain ofBits
 pruneAt l ns i (bits t) =

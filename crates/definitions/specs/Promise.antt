@@ -185,8 +185,8 @@ pub record Promise (l : LentLists) (cs : List ControllerCall) (al : List Control
   pub untouched-answers : (j id : ℕ) (p : ControllerCall) (s s' : Controller)
       → nth cs j ≡ some p → prunes p ≡ some (id, untouched) → nth (emptyController ∷ ss) j ≡ some s → nth ss j ≡ some s' → id < length (s .nodes)
       → (nth al j ≡ some (pruned id 1 0)) × (s' ≡ s)
-  -- and after an answered simplify at i, of a formula of the exact kind, a prune of its answer at j, without a threshold, is answered so and "demand 3's
-  -- value balance still holds, with nothing dropped"
+  -- and after an answered simplify at i, of a formula of the exact kind, a prune of its answer at j, without a threshold, is answered so and
+  -- "demand 3's value balance still holds, with nothing dropped"
   pub untouched-balance : (i j root depth budget id steps : ℕ) (spent : Bool) (p : ControllerCall) (s0 s1 s3 : Controller) → i < j
       → nth cs i ≡ some (simplifying root depth budget) → nth al i ≡ some (simplified id spent steps)
       → nth cs j ≡ some p → prunes p ≡ some (id, untouched)

@@ -1,5 +1,5 @@
--- Prune settings. 02 (m): "Settings 0 to 19 prune nothing; the upper end of refusal 8 moves to above 200." What the thresholds of the others are,
--- and that they are the nearest numbers, stands in the crate thresholds.
+-- Prune settings. 02 (m): "Settings 0 to 19 prune nothing; the upper end of refusal 8 moves to above 200." What the thresholds of the
+-- others are, and that they are the nearest numbers, stands in the crate thresholds.
 use Prim.Native.Nat.{ℕ}
 use mathlib.Core.Bool.{cond}
 use lib.Dec.{leb, ltb}

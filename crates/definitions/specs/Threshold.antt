@@ -5,7 +5,8 @@ use lib.Dec.{leb}
 use Rattle.definitions.specs.Limits.{infinityBits}
 use Rattle.definitions.specs.Refusals.{badThreshold}
 
--- a threshold's bits; none, so that the root is answered untouched (02 a: "Such a prune has no threshold"); or the refusal of what was handed in
+-- a threshold's bits; none, so that the root is answered untouched (02 a: "Such a prune has no threshold"); or the refusal of what was
+-- handed in
 pub data Threshold : Type 0 where
   bits : ℕ → Threshold
   untouched : Threshold

@@ -1,5 +1,5 @@
--- The settings of 01: "Setting n, 10 to 100, is the binary64 number nearest 10^((3n-400)/100)". 02 (m): "Old setting n is new setting 2n, and both
--- tables agree there." Definitions only.
+-- The settings of 01: "Setting n, 10 to 100, is the binary64 number nearest 10^((3n-400)/100)". 02 (m): "Old setting n is new setting 2n,
+-- and both tables agree there." Definitions only.
 use mathlib.Core.Path.{_≡_}
 use mathlib.Core.List.{List, [], _∷_}
 use Prim.Native.Nat.{ℕ, _-_, _*_, _≤_}

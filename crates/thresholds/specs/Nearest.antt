@@ -38,6 +38,7 @@ pub record Nearest (scale : Scale) (n pattern : ℕ) : Type 0 where
   pub above-lower : raised scale (units (pattern - 1) + units pattern) < target scale n
   pub below-upper : target scale n < raised scale (units pattern + units (pattern + 1))
 
--- what a table is believed for, "for all entries by the same statement": its number for each setting from the first to the last is the nearest
+-- what a table is believed for, "for all entries by the same statement": its number for each setting from the first to the last is the
+-- nearest
 abbrev pub TableNearest : Scale → ℕ → ℕ → (ℕ → ℕ) → Type 0
 TableNearest scale first last pattern = (n : ℕ) → first ≤ n → n ≤ last → Nearest scale n (pattern n)

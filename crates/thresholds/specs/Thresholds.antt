@@ -1,4 +1,5 @@
--- The thresholds of settings. 02 (m): "A table holds the 181 binary64 numbers nearest to 10^((3n-800)/200), n from 20 to 200". Definitions only.
+-- The thresholds of settings. 02 (m): "A table holds the 181 binary64 numbers nearest to 10^((3n-800)/200), n from 20 to 200". Definitions
+-- only.
 use mathlib.Core.Path.{_≡_}
 use mathlib.Core.List.{List, [], _∷_}
 use Prim.Native.Nat.{ℕ, _-_, _≤_}
