@@ -1,5 +1,6 @@
-// Simplifies a formula that is typed on standard input, prunes it by the setting that is its argument (without one it is not pruned), and prints it as
-// text, with the walk's steps, the terms kept and dropped and a bound on the dropped ones; or the refusal in words.
+// Simplifies a formula that is typed on standard input, 255 levels deep, prunes it by the setting that is its argument (without one it is not
+// pruned), and prints it as text, with the walk's steps, the terms kept and dropped and a bound on the dropped ones; or the refusal in words. A text
+// that could not be read to its end is not taken, since the part that was read could be a formula too.
 ghost use mathlib.Core.Path.{_≡_};
 ghost use Prim.Native.Nat.{_≤_};
 ghost use lib.ListN.{length};
@@ -10,6 +11,7 @@ use definitions::refusals::NO_NAME_PLACE;
 use definitions::refusals::NO_TEXT;
 use definitions::refusals::TEXT_TOO_LONG;
 use definitions::refusals::TOO_MANY_TERMS;
+use libc::STDERR_FILENO;
 use libc::STDIN_FILENO;
 use libc::STDOUT_FILENO;
 use text_language::BAD_TEXT;
@@ -87,8 +89,8 @@ fn say_steps(steps: u64, spent: bool) {
     say(b"\n");
 }
 
-// The terms kept and dropped, and a bound on what was dropped: each dropped term is a constant below the threshold of the setting. For a formula of
-// the exact kind (01) the value has moved by less than that.
+// The terms kept and dropped, and a bound on what was dropped: each dropped term is a constant below the threshold of the setting, or a NaN. For a
+// formula of the exact kind (01) the value has moved by less than that.
 fn say_pruned(setting: u32, kept: u64, dropped: u64) {
     say(b"kept ");
     say_number(kept);
@@ -98,7 +100,7 @@ fn say_pruned(setting: u32, kept: u64, dropped: u64) {
         say(b"\nno term was dropped\n");
         return;
     }
-    say(b"\nthe dropped terms are together below ");
+    say(b"\nthe dropped terms that are numbers are together below ");
     say_number(dropped);
     say(b" times the threshold of setting ");
     say_number(setting as u64);
@@ -209,9 +211,25 @@ fn typed_length(input: &[u8], read: usize) -> usize
     read
 }
 
+// Whether so many bytes are the whole input: a read answers 0 at its end alone.
+fn is_whole(length: usize) -> bool {
+    if INPUT_BYTES <= length {
+        return true;
+    }
+    let mut next = [0; 1];
+    libc::read(STDIN_FILENO, &mut next) == 0
+}
+
 fn main() {
     let mut input = [0; INPUT_BYTES];
     let length = io::read_full(STDIN_FILENO, &mut input);
+    if !is_whole(length) {
+        io::write_all(
+            STDERR_FILENO,
+            b"formula: the text could not be read to its end\n",
+        );
+        return;
+    }
     let size = typed_length(&input, length);
     run(&input[..size], pruning_of());
 }

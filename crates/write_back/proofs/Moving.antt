@@ -133,7 +133,16 @@ module _ (typed : List ℕ) (setting t : ℕ) (m : Lists) (buffer : List ℕ) (f
         (dropped-count-bounds (formula (plain m1 .nodes) (idOf id)) (formula (plain m2 .nodes) i) (formula (plain m3 .nodes) j) (ofBits binary64 t) kept dropped one (b .4) r))
 
     all-moved : MovedText typed text t dropped
-    all-moved = record { before = plain m1; id = id; read = was-read; after = plain m3; answer = idOf j; written = w; moved = moved }
+    all-moved = record {
+      before = plain m1;
+      id = id;
+      read = was-read;
+      after = plain m3;
+      same-names = ap (nameModel .view) (c2 .untouched .0);
+      answer = idOf j;
+      written = w;
+      moved = moved;
+    }
 
   -- ---- from the cases of `Answers`
 

@@ -33,6 +33,8 @@ pub record MovedText (typed text : List ℕ) (t dropped : ℕ) : Type 0 where
   pub id : ℕ
   pub read : ReadTo typed before id
   pub after : Controller
+  -- a variable is one and the same in both: the names are those that the reading left
+  pub same-names : after .names ≡ before .names
   pub answer : ℕ
   pub written : WrittenText after answer text
   pub moved : Exact (formula (before .nodes) id) → (r : Reading)

@@ -7,7 +7,7 @@ ghost use Rattle.write_back.specs.Answers.{Pruned, Finishes, Simplifies,
 use arena::DagArena;
 use writer::Answer;
 
-// 01's greatest depth limit, and a budget that no text of 8,192 bytes is known to use up.
+// 01's greatest depth limit, and a budget; a walk that uses it up says so.
 const DEPTH: u32 = 255;
 
 const BUDGET: u64 = 100_000_000;
