@@ -8,7 +8,7 @@ use native.Mathlib.Omega.{arith}
 use borrow.Author.Tests.{ltb-true, leb-true, eqb-true}
 use lib.Dec.{T, eqb, leb, ltb}
 use lib.Ieee.Fits.{and-l, and-r}
-use Rattle.definitions.specs.Node.{Node, childCountListed}
+use Rattle.definitions.specs.Node.{Node, nanConstant, childCountListed}
 use Rattle.definitions.specs.Intern.{Lent, Built, built, stopped, intern}
 use Rattle.definitions.specs.Machine.{Answer, stored, simplified, pruned, refused, Outcome, outcome, Request, allBelow, storedAs, storeCall}
 use Rattle.definitions.specs.Formula.{formula}
@@ -50,7 +50,7 @@ StoreSays ns n ms (refused r) = Unit {0}
 
 pub builds : (l : Lent) (ns : List Node) (r : Request) → Sound ns → Done ns (StoreSays ns (r .node)) (storeCall l ns r)
 unfolding storeCall
-builds l ns r s = one (r .listed)
+builds l ns r s = coded (r .listed)
   where
     n : Node
     n = r .node
@@ -62,18 +62,26 @@ builds l ns r s = one (r .listed)
     close (built ms i) x = record { step = x .0; says = (x .1, x .2) }
     close (stopped ms k) x = record { step = x; says = tt }
 
-    three : T (childCountListed (n .kind) (n .payload) (length (n .children))) → (b : Bool) → allBelow (length ns) (n .children) ≡ b
+    fits : T (childCountListed (n .kind) (n .payload) (length (n .children))) → T (allBelow (length ns) (n .children)) → nanConstant (n .kind) (n .payload) ≡ false → Fit (length ns) n
+    fits t b e = record { low = lower-of (length ns) (n .children) b; filled = filled (n .kind) (n .payload) (length (n .children)) t; number = e }
+
+    below : nanConstant (n .kind) (n .payload) ≡ false → T (childCountListed (n .kind) (n .payload) (length (n .children))) → (b : Bool) → allBelow (length ns) (n .children) ≡ b
         → Done ns (StoreSays ns n) (cond b (storedAs (intern l ns n)) (outcome (refused 4) ns))
-    three t true e =
-        close (intern l ns n)
-        (interned l ns n s (record { low = lower-of (length ns) (n .children) (subst T (sym e) tt); filled = filled (n .kind) (n .payload) (length (n .children)) t }))
-    three t false e = refusal 4
+    below v t true e = close (intern l ns n) (interned l ns n s (fits t (subst T (sym e) tt) v))
+    below v t false e = refusal 4
 
-    two : (b : Bool) → childCountListed (n .kind) (n .payload) (length (n .children)) ≡ b
+    counted : nanConstant (n .kind) (n .payload) ≡ false → (b : Bool) → childCountListed (n .kind) (n .payload) (length (n .children)) ≡ b
         → Done ns (StoreSays ns n) (cond b (cond (allBelow (length ns) (n .children)) (storedAs (intern l ns n)) (outcome (refused 4) ns)) (outcome (refused 6) ns))
-    two true e = three (subst T (sym e) tt) (allBelow (length ns) (n .children)) refl
-    two false e = refusal 6
+    counted v true e = below v (subst T (sym e) tt) (allBelow (length ns) (n .children)) refl
+    counted v false e = refusal 6
 
-    one : (b : Bool) → Done ns (StoreSays ns n) (cond b (cond (childCountListed (n .kind) (n .payload) (length (n .children))) (cond (allBelow (length ns) (n .children)) (storedAs (intern l ns n)) (outcome (refused 4) ns)) (outcome (refused 6) ns)) (outcome (refused 5) ns))
-    one true = two (childCountListed (n .kind) (n .payload) (length (n .children))) refl
-    one false = refusal 5
+    after-count : Outcome
+    after-count = cond (childCountListed (n .kind) (n .payload) (length (n .children))) (cond (allBelow (length ns) (n .children)) (storedAs (intern l ns n)) (outcome (refused 4) ns)) (outcome (refused 6) ns)
+
+    a-number : (b : Bool) → nanConstant (n .kind) (n .payload) ≡ b → Done ns (StoreSays ns n) (cond b (outcome (refused 10) ns) after-count)
+    a-number true e = refusal 10
+    a-number false e = counted e (childCountListed (n .kind) (n .payload) (length (n .children))) refl
+
+    coded : (b : Bool) → Done ns (StoreSays ns n) (cond b (cond (nanConstant (n .kind) (n .payload)) (outcome (refused 10) ns) after-count) (outcome (refused 5) ns))
+    coded true = a-number (nanConstant (n .kind) (n .payload)) refl
+    coded false = refusal 5

@@ -222,6 +222,7 @@ plain-promise l cs = record {
       store-says l s s' c id (whole i s e0) (q .0) (q .1);
   stays = λ i j id s s' h ei ej k. let st = goes-on l emptyController cs i j s s' fresh-whole h ei ej .step in (st .longer, st .kept id k);
   unique = λ i id id' s e h h' k. reaches l emptyController cs (suc i) s fresh-whole e .step .one fresh-unique id id' h h' k;
+  numbers = λ i id s e h. reaches l emptyController cs (suc i) s fresh-whole e .step .sound id h .number;
   balance = λ i j root depth budget id steps t answer k d spent p s0 s1 s3 lt ec ea ep eq ea' e0 e1 e3 tu ex.
       let q = at-call l emptyController cs i (simplifying root depth budget) (simplified id spent steps) s0 s1 ec ea e0 e1 in
       let simple = simplify-says l s0 s1 root depth budget id steps spent (whole i s0 e0) (q .0) (q .1) in

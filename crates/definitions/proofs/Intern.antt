@@ -12,16 +12,17 @@ use lib.Ieee.Fits.{and-l, and-r}
 use native.Mathlib.Omega.{arith}
 use native.Mathlib.Decide.{ℕ-discrete}
 use native.Mathlib.Nat.{lt-irrefl, not-suc-le-zero, le-of-suc-le-suc, add-zero, add-suc}
-use Rattle.definitions.specs.Node.{Node, node, at, blank, sameChildren, same}
+use Rattle.definitions.specs.Node.{Node, node, at, blank, sameChildren, same, nanConstant}
 use Rattle.definitions.specs.Intern.{find, Built, built, stopped, Lent, noPlace, addNew, foundOrNew, intern, then}
 use Rattle.definitions.specs.Walk.{Mode, marked}
 use Rattle.definitions.specs.Formula.{Tree, tree, Forest, nil, cons, forest, formulaAt, formulaOf, formulas, formula}
 use Rattle.definitions.proofs.Stable.{stable, marking, Lower, opened, grow-cong}
 
--- a node fit for the id i: its children lie below, and a sum has some
+-- a node fit for the id i: its children lie below, a sum has some, and a constant is no NaN
 pub record Fit (i : ℕ) (n : Node) : Type 0 where
   pub low : Lower i (n .children)
   pub filled : T (eqb (n .kind) 2 || eqb (n .kind) 3) → 0 < length (n .children)
+  pub number : nanConstant (n .kind) (n .payload) ≡ false
 
 abbrev pub Sound : List Node → Type 0
 Sound ns = (i : ℕ) → i < length ns → Fit i (at ns i)
@@ -256,7 +257,7 @@ markedStep p ns i s = record {
       | yes e ↦
           let hi : i < length ns = omega (arith, e, length-set ns i (marked p (at ns i))) in
           subst (λ (k : ℕ). Fit k (at (set ns i (marked p (at ns i))) k)) (sym e)
-          (subst (λ (m : Node). Fit i m) (sym (getD-set-same ns i (marked p (at ns i)) blank hi)) (record { low = s i hi .low; filled = s i hi .filled }))
+          (subst (λ (m : Node). Fit i m) (sym (getD-set-same ns i (marked p (at ns i)) blank hi)) (record { low = s i hi .low; filled = s i hi .filled; number = s i hi .number }))
       | no d ↦
           let hj : j < length ns = omega (arith, length-set ns i (marked p (at ns i))) in
           subst (λ (m : Node). Fit j m) (sym (getD-set-other ns i j (marked p (at ns i)) blank d)) (s j hj)

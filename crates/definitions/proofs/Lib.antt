@@ -31,3 +31,4 @@ pub mod Coefficients
 pub mod OneNumber
 pub mod SheetCalls
 pub mod Listing
+pub mod NoNaN

@@ -8,12 +8,13 @@ use lib.ListN.{length, getD}
 use native.Mathlib.Omega.{arith}
 use native.Mathlib.Nat.{lt-irrefl}
 use lib.Dec.{T, eqb, eqb→eq}
-use lib.Ieee.{Float, nan, inf, fin, binary64, ofBits, toBits, add, sub, mul, div, eq}
+use lib.Ieee.{Float, nan, inf, fin, binary64, ofBits, toBits, isNan, add, sub, mul, div, eq}
+use lib.Ieee.Bits.{ofBits-toBits, nanBits-is}
 use lib.Ieee as I
 use lib.Ieee.Fits.{add-fits, sub-fits, mul-fits, div-fits}
 use Rattle.definitions.specs.Node.{Node, node, at, blank, sameChildren}
 use Rattle.definitions.specs.Intern.{Built, built, stopped, Lent, intern, then}
-use Rattle.definitions.specs.Patterns.{internConstant, internAdd, internMul, constantValue, isZero, isOne, isFinite, finite, isPositive, zero64, one64, orElse, when, addZero, subIdentity, mulIdentity, divIdentity, powIdentity, onlyChild, negDouble, folded, foldBoth, pair, pairOf, mulMerged, mulMerge, addMerged, addMerge, identities, merges, tryApply, fold, constantFold, mulCoefMerge, addCoefMerge}
+use Rattle.definitions.specs.Patterns.{internConstant, internAdd, internMul, constantValue, isZero, isOne, isFinite, finite, isPositive, zero64, one64, orElse, when, addZero, subIdentity, mulIdentity, divIdentity, powIdentity, onlyChild, negDouble, folded, foldBoth, pair, pairOf, mulMerged, mulMerge, addMerged, addMerge, identities, merges, tryApply, binary64Result, unlessNaN, fold, constantFold, mulLeft, mulRight, addRight, mulCoefMerge, addCoefMerge}
 use Rattle.definitions.specs.Walk.{rebuiltFlags, rebuilt, rebuildOrMatch}
 use Rattle.definitions.specs.Formula.{Tree, tree, Forest, nil, cons, forest, formula}
 use Rattle.definitions.specs.Dyadic.{Dyadic, zeroValue, oneValue}
@@ -56,6 +57,14 @@ module _ (ns : List Node) (Q : List Node → ℕ → Type 0) where
   pub cond-fires : (b : Bool) (x y : Option Built) → (b ≡ true → Fires ns Q x) → Fires ns Q y → Fires ns Q (cond b x y)
   cond-fires true x y f g = f refl
   cond-fires false x y f g = g
+
+  -- what is made of a result that is folded, unless it is a NaN
+  pub unless-nan : (f : Option Float → Option Built) (z : Float) → Fires ns Q (f none) → (isNan z ≡ false → Fires ns Q (f (some z))) → Fires ns Q (f (unlessNaN (some z)))
+  unless-nan f z h g = go (isNan z) refl
+    where
+      go : (b : Bool) → isNan z ≡ b → Fires ns Q (f (cond b none (some z)))
+      go true e = h
+      go false e = g e
 
 pub and-true : (a b : Bool) → a && b ≡ true → (a ≡ true) × (b ≡ true)
 and-true true b e = (refl, e)
@@ -196,20 +205,25 @@ pub heavy : (ns : List Node) → Sound ns → (i : ℕ) → i < length ns → He
 heavy ns s i h = heavy-under ns s (suc i) i (omega arith) h
 
 -- ---- building what a pattern answers
-pub constantly : (l : Lent) (ns : List Node) (z : Float) → Sound ns → T (I.fits binary64 z) → Result ns (λ ms i. formula ms i ≡ constantTree z) (internConstant l ns z)
-unfolding internConstant
-constantly l ns z s h = interned l ns (node 1 (toBits binary64 z) 0 []) s (record { low = tt; filled = λ t. absurd t })
 
-const-stands : (l : Lent) (ns : List Node) (z : Float) (t : Tree) → Sound ns → T (I.fits binary64 z) → Replaces (constantTree z) t → Result ns (λ ms i. Replaces (formula ms i) t) (internConstant l ns z)
+-- a binary64 number, and no NaN
+abbrev pub Number : Float → Type 0
+Number z = T (I.fits binary64 z) × (isNan z ≡ false)
+
+pub constantly : (l : Lent) (ns : List Node) (z : Float) → Sound ns → Number z → Result ns (λ ms i. formula ms i ≡ constantTree z) (internConstant l ns z)
+unfolding internConstant
+constantly l ns z s h = interned l ns (node 1 (toBits binary64 z) 0 []) s (record { low = tt; filled = λ t. absurd t; number = nanBits-is binary64 (toBits binary64 z) ∙ ap isNan (ofBits-toBits binary64 z (h .0)) ∙ h .1 })
+
+const-stands : (l : Lent) (ns : List Node) (z : Float) (t : Tree) → Sound ns → Number z → Replaces (constantTree z) t → Result ns (λ ms i. Replaces (formula ms i) t) (internConstant l ns z)
 const-stands l ns z t s h g = result-map ns (λ ms i. formula ms i ≡ constantTree z) (λ ms i. Replaces (formula ms i) t) (internConstant l ns z) (λ ms i st e. subst (λ u. Replaces u t) (sym e) g) (constantly l ns z s h)
 
 pub added : (l : Lent) (ns : List Node) (a b : ℕ) → Sound ns → a < length ns → b < length ns → Result ns (λ ms i. formula ms i ≡ binary 2 0 3 (formula ns a) (formula ns b)) (internAdd l ns a b)
 unfolding internAdd
-added l ns a b s ha hb = interned l ns (node 2 0 3 (a ∷ b ∷ [])) s (record { low = (ha, (hb, tt)); filled = λ t. omega arith })
+added l ns a b s ha hb = interned l ns (node 2 0 3 (a ∷ b ∷ [])) s (record { low = (ha, (hb, tt)); filled = λ t. omega arith; number = refl })
 
 multiplied : (l : Lent) (ns : List Node) (a b : ℕ) → Sound ns → a < length ns → b < length ns → Result ns (λ ms i. formula ms i ≡ binary 4 0 3 (formula ns a) (formula ns b)) (internMul l ns a b)
 unfolding internMul
-multiplied l ns a b s ha hb = interned l ns (node 4 0 3 (a ∷ b ∷ [])) s (record { low = (ha, (hb, tt)); filled = λ t. omega arith })
+multiplied l ns a b s ha hb = interned l ns (node 4 0 3 (a ∷ b ∷ [])) s (record { low = (ha, (hb, tt)); filled = λ t. omega arith; number = refl })
 
 -- ---- the patterns for two children
 no-div : (p f : ℕ) (a b t : Tree) → Replaces t (binary 5 p f a b)
@@ -220,13 +234,13 @@ no-pow : (p f : ℕ) (a b t : Tree) → Replaces t (binary 6 p f a b)
 unfolding Exact
 no-pow p f a b t x = absurd (x .1)
 
-pub zero-fits : T (I.fits binary64 zero64)
-unfolding I.fits
-zero-fits = tt
+pub zero-number : Number zero64
+unfolding I.fits isNan
+zero-number = (tt, refl)
 
-one-fits : T (I.fits binary64 one64)
-unfolding I.fits
-one-fits = tt
+one-number : Number one64
+unfolding I.fits isNan
+one-number = (tt, refl)
 
 or-true : (a b : Bool) → a || b ≡ true → (c : Type 0) → (a ≡ true → c) → (b ≡ true → c) → c
 or-true true b e c f g = f refl
@@ -234,7 +248,7 @@ or-true false b e c f g = g e
 
 module _ (L : FloatLaws) (l : Lent) (ns : List Node) (s : Sound ns) where
   -- a constant and a node over it
-  mul-left-made : (z : Float) (q : ℕ) (t : Tree) → T (I.fits binary64 z) → q < length ns → Replaces (binary 4 0 3 (constantTree z) (formula ns q)) t
+  mul-left-made : (z : Float) (q : ℕ) (t : Tree) → Number z → q < length ns → Replaces (binary 4 0 3 (constantTree z) (formula ns q)) t
       → Result ns (λ ms i. Replaces (formula ms i) t) (then (internConstant l ns z) (λ ms i. internMul l ms i q))
   mul-left-made z q t h hq g =
       result-then ns (λ ms i. formula ms i ≡ constantTree z) (λ ms i. Replaces (formula ms i) t) (internConstant l ns z) (λ ms i. internMul l ms i q)
@@ -243,7 +257,7 @@ module _ (L : FloatLaws) (l : Lent) (ns : List Node) (s : Sound ns) where
       (multiplied l ms i q (st .sound) hi (omega (arith, st .longer))))
       (constantly l ns z s h)
 
-  mul-right-made : (z : Float) (q : ℕ) (t : Tree) → T (I.fits binary64 z) → q < length ns → Replaces (binary 4 0 3 (formula ns q) (constantTree z)) t
+  mul-right-made : (z : Float) (q : ℕ) (t : Tree) → Number z → q < length ns → Replaces (binary 4 0 3 (formula ns q) (constantTree z)) t
       → Result ns (λ ms i. Replaces (formula ms i) t) (then (internConstant l ns z) (λ ms i. internMul l ms q i))
   mul-right-made z q t h hq g =
       result-then ns (λ ms i. formula ms i ≡ constantTree z) (λ ms i. Replaces (formula ms i) t) (internConstant l ns z) (λ ms i. internMul l ms q i)
@@ -252,7 +266,7 @@ module _ (L : FloatLaws) (l : Lent) (ns : List Node) (s : Sound ns) where
       (multiplied l ms q i (st .sound) (omega (arith, st .longer)) hi))
       (constantly l ns z s h)
 
-  add-right-made : (z : Float) (q : ℕ) (t : Tree) → T (I.fits binary64 z) → q < length ns → Replaces (binary 2 0 3 (formula ns q) (constantTree z)) t
+  add-right-made : (z : Float) (q : ℕ) (t : Tree) → Number z → q < length ns → Replaces (binary 2 0 3 (formula ns q) (constantTree z)) t
       → Result ns (λ ms i. Replaces (formula ms i) t) (then (internConstant l ns z) (λ ms i. internAdd l ms q i))
   add-right-made z q t h hq g =
       result-then ns (λ ms i. formula ms i ≡ constantTree z) (λ ms i. Replaces (formula ms i) t) (internConstant l ns z) (λ ms i. internAdd l ms q i)
@@ -263,16 +277,20 @@ module _ (L : FloatLaws) (l : Lent) (ns : List Node) (s : Sound ns) where
 
   -- w is p over q, o the constant beside it
   module _ (p f w o : ℕ) (c : Float) (co : IsConstant (formula ns o) c) (t : Tree) where
+    -- what the merge answers may stand for t
+    abbrev S : List Node → ℕ → Type 0
+    S ms i = Replaces (formula ms i) t
+
     merges-mul : (pq : ℕ × ℕ) → Pair ns s 4 w (pq .0) (pq .1) → Replaces (binary 4 p f (formula ns w) (formula ns o)) t → (x y : Option Float) → constantValue (at ns (pq .0)) ≡ x → constantValue (at ns (pq .1)) ≡ y
-        → Fires ns (λ ms i. Replaces (formula ms i) t) (mulMerged l ns c (pq .0) (pq .1) x y)
-    unfolding fold
+        → Fires ns S (mulMerged l ns c (pq .0) (pq .1) x y)
+    unfolding fold binary64Result
     merges-mul pq w' g (some d) y ex ey =
         let P = formula ns (pq .0) in
         let q = formula ns (pq .1) in
         let cp = constant-is ns s (pq .0) d (w' .left) ex in
         let base : Replaces (binary 4 p f (binary 4 (w' .payload) (w' .flags) P q) (formula ns o)) t = subst (λ u. Replaces (binary 4 p f u (formula ns o)) t) (w' .is) g in
-        mul-left-made (mul binary64 d c) (pq .1) t (mul-fits binary64 d c) (w' .right)
-        (replaces-trans (merge-mul-left L p f (w' .payload) (w' .flags) P q (formula ns o) d c cp co (heavy ns s (pq .1) (w' .right))) base)
+        unless-nan ns S (mulLeft l ns (pq .1)) (mul binary64 d c) tt (λ h. mul-left-made (mul binary64 d c) (pq .1) t (mul-fits binary64 d c, h) (w' .right)
+        (replaces-trans (merge-mul-left L p f (w' .payload) (w' .flags) P q (formula ns o) d c cp co (heavy ns s (pq .1) (w' .right))) base))
     merges-mul pq w' g none (some d) ex ey =
         let P = formula ns (pq .0) in
         let q = formula ns (pq .1) in
@@ -280,21 +298,21 @@ module _ (L : FloatLaws) (l : Lent) (ns : List Node) (s : Sound ns) where
         let base : Replaces (binary 4 p f (binary 4 (w' .payload) (w' .flags) P q) (formula ns o)) t = subst (λ u. Replaces (binary 4 p f u (formula ns o)) t) (w' .is) g in
         let turned : Replaces (binary 4 p f (binary 4 (w' .payload) (w' .flags) q P) (formula ns o)) t =
         replaces-trans (binary-cong 4 p f f (mul-swap (w' .payload) (w' .payload) (w' .flags) (w' .flags) P q) (replaces-refl (formula ns o))) base in
-        mul-right-made (mul binary64 d c) (pq .0) t (mul-fits binary64 d c) (w' .left)
+        unless-nan ns S (mulRight l ns (pq .0)) (mul binary64 d c) tt (λ h. mul-right-made (mul binary64 d c) (pq .0) t (mul-fits binary64 d c, h) (w' .left)
         (replaces-trans (mul-swap 0 0 3 3 (constantTree (mul binary64 d c)) P)
-        (replaces-trans (merge-mul-left L p f (w' .payload) (w' .flags) q P (formula ns o) d c cq co (heavy ns s (pq .0) (w' .left))) turned))
+        (replaces-trans (merge-mul-left L p f (w' .payload) (w' .flags) q P (formula ns o) d c cq co (heavy ns s (pq .0) (w' .left))) turned)))
     merges-mul pq w' g none none ex ey = tt
 
     merges-add : (pq : ℕ × ℕ) → Pair ns s 2 w (pq .0) (pq .1) → Replaces (binary 2 p f (formula ns w) (formula ns o)) t → (x y : Option Float) → constantValue (at ns (pq .0)) ≡ x → constantValue (at ns (pq .1)) ≡ y
-        → Fires ns (λ ms i. Replaces (formula ms i) t) (addMerged l ns c (pq .0) (pq .1) x y)
-    unfolding fold
+        → Fires ns S (addMerged l ns c (pq .0) (pq .1) x y)
+    unfolding fold binary64Result
     merges-add pq w' g (some d) y ex ey =
         let P = formula ns (pq .0) in
         let q = formula ns (pq .1) in
         let cp = constant-is ns s (pq .0) d (w' .left) ex in
         let base : Replaces (binary 2 p f (binary 2 (w' .payload) (w' .flags) P q) (formula ns o)) t = subst (λ u. Replaces (binary 2 p f u (formula ns o)) t) (w' .is) g in
-        add-right-made (add binary64 d c) (pq .1) t (add-fits binary64 d c) (w' .right)
-        (replaces-trans (merge-add-left L p f (w' .payload) (w' .flags) P q (formula ns o) d c cp co) base)
+        unless-nan ns S (addRight l ns (pq .1)) (add binary64 d c) tt (λ h. add-right-made (add binary64 d c) (pq .1) t (add-fits binary64 d c, h) (w' .right)
+        (replaces-trans (merge-add-left L p f (w' .payload) (w' .flags) P q (formula ns o) d c cp co) base))
     merges-add pq w' g none (some d) ex ey =
         let P = formula ns (pq .0) in
         let q = formula ns (pq .1) in
@@ -302,8 +320,8 @@ module _ (L : FloatLaws) (l : Lent) (ns : List Node) (s : Sound ns) where
         let base : Replaces (binary 2 p f (binary 2 (w' .payload) (w' .flags) P q) (formula ns o)) t = subst (λ u. Replaces (binary 2 p f u (formula ns o)) t) (w' .is) g in
         let turned : Replaces (binary 2 p f (binary 2 (w' .payload) (w' .flags) q P) (formula ns o)) t =
         replaces-trans (binary-cong 2 p f f (add-swap (w' .payload) (w' .payload) (w' .flags) (w' .flags) P q) (replaces-refl (formula ns o))) base in
-        add-right-made (add binary64 d c) (pq .0) t (add-fits binary64 d c) (w' .left)
-        (replaces-trans (merge-add-left L p f (w' .payload) (w' .flags) q P (formula ns o) d c cq co) turned)
+        unless-nan ns S (addRight l ns (pq .0)) (add binary64 d c) tt (λ h. add-right-made (add binary64 d c) (pq .0) t (add-fits binary64 d c, h) (w' .left)
+        (replaces-trans (merge-add-left L p f (w' .payload) (w' .flags) q P (formula ns o) d c cq co) turned))
     merges-add pq w' g none none ex ey = tt
 
   module _ (p f a b : ℕ) (ha : a < length ns) (hb : b < length ns) where
@@ -317,10 +335,10 @@ module _ (L : FloatLaws) (l : Lent) (ns : List Node) (s : Sound ns) where
     is-one c h e r = let (x, ek, ez) = one-inv (constantValue (at ns c)) e in constant-is ns s c x h ek .value r ∙ L .one-is x ez
 
     zero-stands : (k : ℕ) → Replaces (constantTree zero64) (binary k p f (formula ns a) (formula ns b)) → Result ns (Q k) (internConstant l ns zero64)
-    zero-stands k g = const-stands l ns zero64 (binary k p f (formula ns a) (formula ns b)) s zero-fits g
+    zero-stands k g = const-stands l ns zero64 (binary k p f (formula ns a) (formula ns b)) s zero-number g
 
     one-stands : (k : ℕ) → Replaces (constantTree one64) (binary k p f (formula ns a) (formula ns b)) → Result ns (Q k) (internConstant l ns one64)
-    one-stands k g = const-stands l ns one64 (binary k p f (formula ns a) (formula ns b)) s one-fits g
+    one-stands k g = const-stands l ns one64 (binary k p f (formula ns a) (formula ns b)) s one-number g
 
     add-id : Fires ns (Q 2) (addZero l ns a b)
     unfolding addZero
@@ -375,21 +393,21 @@ module _ (L : FloatLaws) (l : Lent) (ns : List Node) (s : Sound ns) where
         (cond-fires ns (Q k) (eqb k 5) (divIdentity l ns a b) (cond (eqb k 6) (powIdentity l ns a b) none) (kinded k 5 (divIdentity l ns a b) div-id)
         (cond-fires ns (Q k) (eqb k 6) (powIdentity l ns a b) none (kinded k 6 (powIdentity l ns a b) pow-id) tt))))
 
-    -- a folded constant may stand for the node
-    abbrev FoldStands : ℕ → Option Float → Type 0
-    FoldStands k none = Unit {0}
-    FoldStands k (some z) = T (I.fits binary64 z) × Replaces (constantTree z) (binary k p f (formula ns a) (formula ns b))
+    -- a result may stand for the node
+    abbrev ResultStands : ℕ → Option Float → Type 0
+    ResultStands k none = Unit {0}
+    ResultStands k (some z) = T (I.fits binary64 z) × Replaces (constantTree z) (binary k p f (formula ns a) (formula ns b))
 
-    cond-stands : (k : ℕ) (c : Bool) (x y : Option Float) → (c ≡ true → FoldStands k x) → FoldStands k y → FoldStands k (cond c x y)
+    cond-stands : (k : ℕ) (c : Bool) (x y : Option Float) → (c ≡ true → ResultStands k x) → ResultStands k y → ResultStands k (cond c x y)
     cond-stands k true x y h g = h refl
     cond-stands k false x y h g = g
 
-    kind-stands : (k j : ℕ) (o : Option Float) → FoldStands j o → eqb k j ≡ true → FoldStands k o
-    kind-stands k j o h e = subst (λ i. FoldStands i o) (sym (eqb-is k j e)) h
+    kind-stands : (k j : ℕ) (o : Option Float) → ResultStands j o → eqb k j ≡ true → ResultStands k o
+    kind-stands k j o h e = subst (λ i. ResultStands i o) (sym (eqb-is k j e)) h
 
-    fold-stands : (k : ℕ) (x y : Float) → IsConstant (formula ns a) x → IsConstant (formula ns b) y → FoldStands k (fold k x y)
-    unfolding fold
-    fold-stands k x y ca cb =
+    result-stands : (k : ℕ) (x y : Float) → IsConstant (formula ns a) x → IsConstant (formula ns b) y → ResultStands k (binary64Result k x y)
+    unfolding binary64Result
+    result-stands k x y ca cb =
         let A = formula ns a in
         let B = formula ns b in
         cond-stands k (eqb k 2) (some (add binary64 x y)) _ (kind-stands k 2 (some (add binary64 x y)) (add-fits binary64 x y, fold-add L p f A B x y ca cb))
@@ -398,14 +416,18 @@ module _ (L : FloatLaws) (l : Lent) (ns : List Node) (s : Sound ns) where
         (cond-stands k (eqb k 5 && not (eq y zero64)) (some (div binary64 x y)) none
         (λ e. kind-stands k 5 (some (div binary64 x y)) (div-fits binary64 x y, no-div p f A B (constantTree (div binary64 x y))) (and-true _ _ e .0)) tt)))
 
-    folded-fires : (k : ℕ) (o : Option Float) → FoldStands k o → Fires ns (Q k) (folded l ns o)
-    folded-fires k none h = tt
-    folded-fires k (some z) h = const-stands l ns z (binary k p f (formula ns a) (formula ns b)) s (h .0) (h .1)
+    result-fires : (k : ℕ) (o : Option Float) → ResultStands k o → Fires ns (Q k) (folded l ns (unlessNaN o))
+    result-fires k none h = tt
+    result-fires k (some z) h = unless-nan ns (Q k) (folded l ns) z tt (λ n. const-stands l ns z (binary k p f (formula ns a) (formula ns b)) s (h .0, n) (h .1))
+
+    folded-fires : (k : ℕ) (x y : Float) → IsConstant (formula ns a) x → IsConstant (formula ns b) y → Fires ns (Q k) (folded l ns (fold k x y))
+    unfolding fold
+    folded-fires k x y ca cb = result-fires k (binary64Result k x y) (result-stands k x y ca cb)
 
     both-fire : (k : ℕ) (x y : Option Float) → constantValue (at ns a) ≡ x → constantValue (at ns b) ≡ y → Fires ns (Q k) (foldBoth l ns k x y)
     both-fire k none y ex ey = tt
     both-fire k (some x) none ex ey = tt
-    both-fire k (some x) (some y) ex ey = folded-fires k (fold k x y) (fold-stands k x y (constant-is ns s a x ha ex) (constant-is ns s b y hb ey))
+    both-fire k (some x) (some y) ex ey = folded-fires k x y (constant-is ns s a x ha ex) (constant-is ns s b y hb ey)
 
     fold-fires : (k : ℕ) → Fires ns (Q k) (constantFold l ns k a b)
     unfolding constantFold
@@ -505,7 +527,7 @@ module _ (L : FloatLaws) (l : Lent) (ns : List Node) (s : Sound ns) where
           result-map ns (λ ms j. formula ms j ≡ over ns (node (n .kind) (n .payload) (rebuiltFlags (n .kind) (length vs)) vs)) (λ ms j. Replaces (formula ms j) (formula ns i)) (intern l ns (node (n .kind) (n .payload) (rebuiltFlags (n .kind) (length vs)) vs))
           (λ ms j st e. subst (λ t. Replaces t (formula ns i)) (sym e) (same (rebuiltFlags (n .kind) (length vs))))
           (interned l ns (node (n .kind) (n .payload) (rebuiltFlags (n .kind) (length vs)) vs) s
-          (record { low = low; filled = λ t. omega (arith, s i hi .filled t, pairs-length vs (n .children) ps) }))
+          (record { low = low; filled = λ t. omega (arith, s i hi .filled t, pairs-length vs (n .children) ps); number = s i hi .number }))
 
       go : (o : Option Built) → Fires ns (λ ms j. Replaces (formula ms j) (tree (n .kind) (n .payload) 0 (forest (formula ns) vs))) o → Result ns (λ ms j. Replaces (formula ms j) (formula ns i)) (rebuilt l ns i vs o)
       go none x = pick (sameChildren (n .children) vs)

@@ -26,14 +26,14 @@ use Rattle.definitions.specs.Promise.{Balanced}
 use Rattle.definitions.proofs.Stable.{opened}
 use Rattle.definitions.proofs.Intern.{Sound, Step, Result, stay}
 use Rattle.definitions.proofs.Numbers.{plus-zero}
-use Rattle.definitions.proofs.Patterns.{constantly, zero-fits}
+use Rattle.definitions.proofs.Patterns.{constantly, zero-number}
 use Rattle.definitions.proofs.Prune.{sum-terms, split-sum, split-length, Flat, terms-ok, balances, ExactEach, exact-terms, SmallThreshold, threshold-of, kept-is, flat-filter, filter-length}
 use Rattle.thresholds.proofs.NearestThresholds.{finite}
 use Rattle.definitions.proofs.Calls.{Done}
 
 pub remains-of : (l : Lent) (ns : List Node) (ks : List ℕ) → Sound ns → Flat ns ks → length ks ≤ 4096 → Result ns (λ ms i. Remains (map (formula ns) ks) (formula ms i)) (balancedAdd 13 l ns ks)
 unfolding balancedAdd toBits
-remains-of l ns [] s f h = constantly l ns zero64 s zero-fits
+remains-of l ns [] s f h = constantly l ns zero64 s zero-number
 remains-of l ns (a ∷ []) s f h = (stay ns s, f .0 .0, refl)
 remains-of l ns (a ∷ b ∷ r) s f h = balances 12 l ns (a ∷ b ∷ r) s f (omega arith) h
 

@@ -8,8 +8,8 @@ use lib.ListN.{length}
 use lib.Dec.{ltb}
 use Rattle.text_language.specs.Grammar.{constant, variable, negated, linked, raised}
 use Rattle.text_language.specs.Program.{joinOf}
-use Rattle.definitions.specs.Refusals.{badCode, badChildCount, badOperand, badNameLength, noNamePlace}
-use Rattle.definitions.specs.Node.{Node, childCountListed}
+use Rattle.definitions.specs.Refusals.{badCode, notANumber, badChildCount, badOperand, badNameLength, noNamePlace}
+use Rattle.definitions.specs.Node.{Node, nanConstant, childCountListed}
 use Rattle.definitions.specs.Intern.{Lent, Built, intern}
 use Rattle.definitions.specs.Intern as Intern
 use Rattle.definitions.specs.Names as Names
@@ -53,9 +53,15 @@ build-answers l ns r = listed (r .listed)
     counted true = below (M.allBelow (length ns) (n .children))
     counted false = tt
 
-    listed : (b : Bool)
-        → BuildAnswers (cond b (cond (childCountListed (n .kind) (n .payload) (length (n .children))) (cond (M.allBelow (length ns) (n .children)) (M.storedAs (intern l ns n)) (M.outcome (M.refused badOperand) ns)) (M.outcome (M.refused badChildCount) ns)) (M.outcome (M.refused badCode) ns) .answer)
-    listed true = counted (childCountListed (n .kind) (n .payload) (length (n .children)))
+    after-count : M.Outcome
+    after-count = cond (childCountListed (n .kind) (n .payload) (length (n .children))) (cond (M.allBelow (length ns) (n .children)) (M.storedAs (intern l ns n)) (M.outcome (M.refused badOperand) ns)) (M.outcome (M.refused badChildCount) ns)
+
+    a-number : (b : Bool) → BuildAnswers (cond b (M.outcome (M.refused notANumber) ns) after-count .answer)
+    a-number true = tt
+    a-number false = counted (childCountListed (n .kind) (n .payload) (length (n .children)))
+
+    listed : (b : Bool) → BuildAnswers (cond b (cond (nanConstant (n .kind) (n .payload)) (M.outcome (M.refused notANumber) ns) after-count) (M.outcome (M.refused badCode) ns) .answer)
+    listed true = a-number (nanConstant (n .kind) (n .payload))
     listed false = tt
 
 stored-as : (names : List (List ℕ)) (a : M.Answer) (nodes : List Node) → BuildAnswers a

@@ -6,9 +6,10 @@ use mathlib.Core.Option.{Option, none, some}
 use mathlib.Core.List.{List, [], _∷_, _++_}
 use lib.ListN.{length, length-append}
 use lib.Dec.{leb, ltb}
+use lib.Ieee.{binary64, nanBits}
 use native.Mathlib.Omega.{arith}
 use borrow.Author.Tests.{lt-ltb, le-leb}
-use Rattle.definitions.specs.Node.{Node, childCountListed, same}
+use Rattle.definitions.specs.Node.{Node, nanConstant, childCountListed, same}
 use Rattle.definitions.specs.Refusals.{noNamePlace, noNodePlace, noSlotPlace}
 use Rattle.definitions.specs.Intern.{Lent, find, noPlace, intern, addNew, foundOrNew, tableSize}
 use Rattle.definitions.specs.Limits.{mostNodes}
@@ -16,9 +17,10 @@ use Rattle.definitions.specs.Names as Names
 use Rattle.definitions.specs.Machine as M
 use Rattle.text_language.specs.Grammar.{Expr, constant, variable, negated, linked, raised, Level, Atom, Reads, one, next, base, raise, atom, minus, bracket}
 use Rattle.text_language.specs.Program as P
-use Rattle.text_language.specs.Program.{Join, joinOf}
+use Rattle.text_language.specs.Program.{Join, joinOf, postfix}
 use Rattle.definitions.specs.Making.{Controller, controller, LentLists, Made, made, stopped, bind, storedAs, namedAs, storing, naming, joined, make}
-use Rattle.text_language.specs.Reading.{Denotes}
+use Rattle.text_language.specs.Reading.{anyNan, Denotes}
+use Rattle.text_language.proofs.Constants.{any-parts, any-both, both-numbers}
 use Rattle.definitions.specs.Controller.{refused, fromMade}
 use Rattle.definitions.specs.Promise.{StopsReading, noName, noNode, noSlots}
 
@@ -27,13 +29,13 @@ abbrev Ends : ℕ → Made → Type 0
 Ends count (made i s) = (count ≤ length (s .nodes)) × (i < length (s .nodes))
 Ends count (stopped r s) = StopsReading r
 
--- "Names are a letter, then letters or digits, 32 at most"
-abbrev NamesAllowed : Expr → Type 0
-NamesAllowed (constant b) = Unit {0}
-NamesAllowed (variable w) = Names.lengthAllowed w ≡ true
-NamesAllowed (negated a) = NamesAllowed a
-NamesAllowed (linked k x a b) = NamesAllowed a × NamesAllowed b
-NamesAllowed (raised a b) = NamesAllowed a × NamesAllowed b
+-- "Names are a letter, then letters or digits, 32 at most", and no constant is a NaN
+abbrev LeavesAllowed : Expr → Type 0
+LeavesAllowed (constant b) = nanBits binary64 b ≡ false
+LeavesAllowed (variable w) = Names.lengthAllowed w ≡ true
+LeavesAllowed (negated a) = LeavesAllowed a
+LeavesAllowed (linked k x a b) = LeavesAllowed a × LeavesAllowed b
+LeavesAllowed (raised a b) = LeavesAllowed a × LeavesAllowed b
 
 -- what `find` finds is below the end
 pub find-from : (n : Node) (ns : List Node) (j : ℕ) (i : ℕ) → find n ns j ≡ some i → i < j + length ns
@@ -64,11 +66,11 @@ interned-ends names l ns n = go (find n ns 0) refl
     go none e = place (leb (min (l .nodes) mostNodes) (length ns))
 
 -- a call whose operands are ids, and which asks for a listed node
-storing-ends : (l : LentLists) (c : M.Store) (s : Controller) → M.requested c .listed ≡ true
+storing-ends : (l : LentLists) (c : M.Store) (s : Controller) → M.requested c .listed ≡ true → nanConstant (M.requested c .node .kind) (M.requested c .node .payload) ≡ false
     → childCountListed (M.requested c .node .kind) (M.requested c .node .payload) (length (M.requested c .node .children)) ≡ true
     → M.allBelow (length (s .nodes)) (M.requested c .node .children) ≡ true → Ends (length (s .nodes)) (storing l c s)
 unfolding storing M.storeCall
-storing-ends l c s p q r = rw (p, q, r) (interned-ends (s .names) (l .store) (s .nodes) (M.requested c .node))
+storing-ends l c s p v q r = rw (p, v, q, r) (interned-ends (s .names) (l .store) (s .nodes) (M.requested c .node))
 
 below-one : (n i : ℕ) → i < n → M.allBelow n (i ∷ []) ≡ true
 below-one n i l = ap (λ (b : Bool). b && true) (lt-ltb i n l)
@@ -78,23 +80,23 @@ below-two n i j l m = ap (λ (b : Bool). b && (ltb j n && true)) (lt-ltb i n l) 
 
 joining-ends : (l : LentLists) (o : Join) (i j : ℕ) (s : Controller) → i < length (s .nodes) → j < length (s .nodes) → Ends (length (s .nodes)) (storing l (joined o i j) s)
 unfolding childCountListed
-joining-ends l P.plus i j s p q = storing-ends l (M.add i j) s refl refl (below-two _ i j p q)
-joining-ends l P.minus i j s p q = storing-ends l (M.sub i j) s refl refl (below-two _ i j p q)
-joining-ends l P.times i j s p q = storing-ends l (M.mul i j) s refl refl (below-two _ i j p q)
-joining-ends l P.over i j s p q = storing-ends l (M.div i j) s refl refl (below-two _ i j p q)
-joining-ends l P.raise i j s p q = storing-ends l (M.pow i j) s refl refl (below-two _ i j p q)
+joining-ends l P.plus i j s p q = storing-ends l (M.add i j) s refl refl refl (below-two _ i j p q)
+joining-ends l P.minus i j s p q = storing-ends l (M.sub i j) s refl refl refl (below-two _ i j p q)
+joining-ends l P.times i j s p q = storing-ends l (M.mul i j) s refl refl refl (below-two _ i j p q)
+joining-ends l P.over i j s p q = storing-ends l (M.div i j) s refl refl refl (below-two _ i j p q)
+joining-ends l P.raise i j s p q = storing-ends l (M.pow i j) s refl refl refl (below-two _ i j p q)
 
 leaf-ends : (l : LentLists) (n : ℕ) (s : Controller) → Ends (length (s .nodes)) (storing l (M.variable n) s)
 unfolding childCountListed
-leaf-ends l n s = storing-ends l (M.variable n) s refl refl refl
+leaf-ends l n s = storing-ends l (M.variable n) s refl refl refl refl
 
-number-ends : (l : LentLists) (b : ℕ) (s : Controller) → Ends (length (s .nodes)) (storing l (M.constant b) s)
+number-ends : (l : LentLists) (b : ℕ) (s : Controller) → nanBits binary64 b ≡ false → Ends (length (s .nodes)) (storing l (M.constant b) s)
 unfolding childCountListed
-number-ends l b s = storing-ends l (M.constant b) s refl refl refl
+number-ends l b s v = storing-ends l (M.constant b) s refl v refl refl
 
 negated-ends : (l : LentLists) (i : ℕ) (s : Controller) → i < length (s .nodes) → Ends (length (s .nodes)) (storing l (M.neg i) s)
 unfolding childCountListed
-negated-ends l i s p = storing-ends l (M.neg i) s refl refl (below-one _ i p)
+negated-ends l i s p = storing-ends l (M.neg i) s refl refl refl (below-one _ i p)
 
 -- ---- a name, and its node
 
@@ -130,34 +132,36 @@ both-end l o e f s g h =
     (then (length (t .nodes)) (make l f t) (λ j u. storing l (joined o i j) u) (h t)
     (λ j u y z. up (length (t .nodes)) (length (u .nodes)) (storing l (joined o i j) u) y (joining-ends l o i j u (omega (arith, q, y)) z))))
 
-pub make-ends : (l : LentLists) (e : Expr) (s : Controller) → NamesAllowed e → Ends (length (s .nodes)) (make l e s)
+pub make-ends : (l : LentLists) (e : Expr) (s : Controller) → LeavesAllowed e → Ends (length (s .nodes)) (make l e s)
 unfolding make
-make-ends l (constant b) s a = number-ends l b s
+make-ends l (constant b) s a = number-ends l b s a
 make-ends l (variable w) s a = named-ends l w s a
 make-ends l (negated e) s a =
     then (length (s .nodes)) (make l e s) (λ i t. storing l (M.neg i) t) (make-ends l e s a) (λ i t p q. up (length (s .nodes)) (length (t .nodes)) (storing l (M.neg i) t) p (negated-ends l i t q))
 make-ends l (linked k x e f) s a = both-end l (joinOf k x) e f s (make-ends l e s (a .0)) (λ t. make-ends l f t (a .1))
 make-ends l (raised e f) s a = both-end l P.raise e f s (make-ends l e s (a .0)) (λ t. make-ends l f t (a .1))
 
--- ---- texts have allowed names
+-- ---- texts have allowed names, and no NaN where none is in their program
 
-atom-names : {s r : List ℕ} {e : Expr} → Atom s e r → NamesAllowed e
-atom-names (Atom.blank e a) = atom-names a
-atom-names (Atom.whole e h l) = tt
-atom-names (Atom.bits e h l) = tt
-atom-names (Atom.name {c} {s} {w} e h l) = ap (λ (b : Bool). b && leb (suc (length w)) 32) (le-leb 1 (suc (length w)) (omega arith)) ∙ le-leb (suc (length w)) 32 (omega arith)
+atom-leaves : {s r : List ℕ} {e : Expr} → Atom s e r → anyNan (postfix e) ≡ false → LeavesAllowed e
+unfolding postfix
+atom-leaves (Atom.blank e a) h = atom-leaves a h
+atom-leaves (Atom.whole e f l) h = any-parts _ [] h .0
+atom-leaves (Atom.bits e f l) h = any-parts _ [] h .0
+atom-leaves (Atom.name {c} {s} {w} e f l) h = ap (λ (b : Bool). b && leb (suc (length w)) 32) (le-leb 1 (suc (length w)) (omega arith)) ∙ le-leb (suc (length w)) 32 (omega arith)
 
-text-names : {l : Level} {s r : List ℕ} {e : Expr} {d : ℕ} → Reads l s e d r → NamesAllowed e
-text-names (one h) = text-names h
-text-names (next x h p q) = (text-names h, text-names q)
-text-names (base h) = text-names h
-text-names (raise h p q) = (text-names h, text-names q)
-text-names (atom a) = atom-names a
-text-names (minus p h) = text-names h
-text-names (bracket p h q) = text-names h
+text-leaves : {l : Level} {s r : List ℕ} {e : Expr} {d : ℕ} → Reads l s e d r → anyNan (postfix e) ≡ false → LeavesAllowed e
+unfolding postfix
+text-leaves (one h) n = text-leaves h n
+text-leaves (next {k} {a = a} {b = b} x h p q) n = let m = both-numbers a b (joinOf k x) n in (text-leaves h (m .0), text-leaves q (m .1))
+text-leaves (base h) n = text-leaves h n
+text-leaves (raise {a = a} {b = b} h p q) n = let m = both-numbers a b P.raise n in (text-leaves h (m .0), text-leaves q (m .1))
+text-leaves (atom a) n = atom-leaves a n
+text-leaves (minus {e = e} p h) n = text-leaves h (any-both (postfix e) _ n .0)
+text-leaves (bracket p h q) n = text-leaves h n
 
 pub reading-ends : (l : LentLists) (s : List ℕ) (e : Expr) (t : Controller) → Denotes s e → Ends (length (t .nodes)) (make l e t)
-reading-ends l s e t h = make-ends l e t (text-names (h .text .reads))
+reading-ends l s e t h = make-ends l e t (text-leaves (h .text .reads) (h .numbers))
 
 pub reading-stops : (l : LentLists) (s : List ℕ) (e : Expr) (t : Controller) (number : ℕ) → Denotes s e → fromMade (make l e t) .answer ≡ refused number → StopsReading number
 reading-stops l s e t number h = go (make l e t) (reading-ends l s e t h)

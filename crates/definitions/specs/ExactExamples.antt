@@ -136,14 +136,14 @@ Coefficients =
     (bits : ℕ) (b : Bool) (m : ℕ) (e : ℤ) → ofBits binary64 bits ≡ fin b m e → WholeAt m e 10
     → (constantBound (ofBits binary64 bits) .bits ≤ 10) × (m * up e ≤ 2 ^ 43 * down e → Exact (constant bits))
 
--- "constants finite": the zeros are, infinity and NaN are not
+-- "constants finite": the zeros are, the infinities are not
 pub zero-infinity : OnlyFirst (constant 0) (constant 0x7FF0000000000000)
 unfolding decide ofBits bound
 zero-infinity = decided tt tt
 
-pub minus-zero-nan : OnlyFirst (constant (2 ^ 63)) (constant 0x7FF8000000000000)
+pub minus-zero-infinity : OnlyFirst (constant (2 ^ 63)) (constant 0xFFF0000000000000)
 unfolding decide ofBits bound
-minus-zero-nan = decided tt tt
+minus-zero-infinity = decided tt tt
 
 -- ---- Add: the greatest P and the sum of W
 

@@ -64,8 +64,17 @@ infinity = 0x7FF0000000000000
 abbrev minusInfinity : ℕ
 minusInfinity = 0xFFF0000000000000
 
-abbrev storedNaN : ℕ
-storedNaN = 0x7FF8000000000000
+abbrev quietNaN : ℕ
+quietNaN = 0x7FF8000000000000
+
+abbrev signallingNaN : ℕ
+signallingNaN = 0x7FF0000000000001
+
+abbrev minusNaN : ℕ
+minusNaN = 0xFFF8000000000000
+
+abbrev greatestNaN : ℕ
+greatestNaN = 0xFFFFFFFFFFFFFFFF
 
 abbrev minusOne : ℕ
 minusOne = 0xBFF0000000000000
@@ -202,8 +211,8 @@ pub spent-listing : listing (sheet lent empty (take 37 sheetBytes ++ 2 ∷ []))
 unfolding sheet listing
 spent-listing = refl
 
--- where an identity fires before folding, and what a fold to NaN stores: two constants, an operator over them, simplified; then the expected
--- constant, which the simplify answered
+-- where an identity fires before folding: two constants, an operator over them, simplified; then the expected constant, which the simplify
+-- answered
 abbrev binary : ℕ → ℕ → ℕ → ℕ → List Call
 binary code a b expected = number a ∷ number b ∷ store (operator code 0 (0 ∷ 1 ∷ [])) ∷ simplify 2 255 100 ∷ number expected ∷ []
 
@@ -212,10 +221,8 @@ answeredBy i = stored 0 ∷ stored 1 ∷ stored 2 ∷ simplified i false 3 ∷ s
 
 abbrev identityCases : List (List Call)
 identityCases =
-    -- inf + -inf is folded to the stored NaN
-    binary 0 infinity minusInfinity storedNaN
     -- 0.0 + -0.0 gives -0.0, and -0.0 + 1 gives 1: zero tests accept -0.0
-    ∷ binary 0 plusZero minusZero minusZero
+    binary 0 plusZero minusZero minusZero
     ∷ binary 0 minusZero one one
     -- 0 * -1 gives 0.0, and so does -0.0 * 1
     ∷ binary 2 plusZero minusOne plusZero
@@ -225,9 +232,53 @@ identityCases =
     ∷ binary 3 minusZero five plusZero
     ∷ []
 
-pub identity-cases : map (λ (cs : List Call). answers lent empty cs) identityCases ≡ map answeredBy (3 ∷ 1 ∷ 1 ∷ 0 ∷ 3 ∷ 0 ∷ 3 ∷ [])
+pub identity-cases : map (λ (cs : List Call). answers lent empty cs) identityCases ≡ map answeredBy (1 ∷ 1 ∷ 0 ∷ 3 ∷ 0 ∷ 3 ∷ [])
 unfolding answers
 identity-cases = refl
+
+-- 02 (b), "A fold to NaN is now declined and the node is rebuilt plainly": the simplify answers its root, and the next new node has the next id,
+-- so that nothing was interned
+abbrev declinedFold : ℕ → ℕ → ℕ → List Call
+declinedFold code a b = number a ∷ number b ∷ store (operator code 0 (0 ∷ 1 ∷ [])) ∷ simplify 2 255 100 ∷ number five ∷ []
+
+-- inf + -inf, -inf + inf, 0 * inf, -inf * -0.0, inf / -inf
+pub declined-folds :
+    map (λ (cs : List Call). answers lent empty cs)
+    (declinedFold 0 infinity minusInfinity ∷ declinedFold 0 minusInfinity infinity ∷ declinedFold 2 plusZero infinity
+    ∷ declinedFold 2 minusInfinity minusZero ∷ declinedFold 3 infinity minusInfinity ∷ [])
+    ≡ let stays = stored 0 ∷ stored 1 ∷ stored 2 ∷ simplified 2 false 3 ∷ stored 3 ∷ [] in stays ∷ stays ∷ stays ∷ stays ∷ stays ∷ []
+unfolding answers
+declined-folds = refl
+
+-- "merging then does not fire": (inf * x) * 0, 0 * (x * inf), (x + inf) + -inf; and (inf * 0) * 0, where the second constant of the product is not
+-- tried after the first
+pub declined-merges :
+    map (λ (cs : List Call). answers lent empty cs)
+    ((x ∷ number infinity ∷ number plusZero ∷ times 1 0 ∷ times 3 2 ∷ simplify 4 255 100 ∷ number five ∷ [])
+    ∷ (x ∷ number infinity ∷ number plusZero ∷ times 0 1 ∷ times 2 3 ∷ simplify 4 255 100 ∷ number five ∷ [])
+    ∷ (x ∷ number infinity ∷ number minusInfinity ∷ plus 0 1 ∷ plus 3 2 ∷ simplify 4 255 100 ∷ number five ∷ [])
+    ∷ (x ∷ number infinity ∷ number plusZero ∷ times 1 2 ∷ times 3 2 ∷ simplify 4 255 100 ∷ number five ∷ [])
+    ∷ [])
+    ≡ let stays = stored 0 ∷ stored 1 ∷ stored 2 ∷ stored 3 ∷ stored 4 ∷ simplified 4 false 6 ∷ stored 5 ∷ [] in stays ∷ stays ∷ stays ∷ stays ∷ []
+unfolding answers
+declined-merges = refl
+
+-- "10, a constant whose bits are a NaN", quiet or signalling, of either sign; the infinities are numbers. Where no place is left it is 10 too.
+pub nan-refused :
+    map (λ (e : Example). answers (e .given) empty (e .calls))
+    (example (number quietNaN ∷ number signallingNaN ∷ number minusNaN ∷ number greatestNaN ∷ number infinity ∷ number minusInfinity ∷ []) []
+    ∷ exampleOn (record { nodes = 1; slots = 64 }) (x ∷ number quietNaN ∷ number one ∷ []) [] ∷ [])
+    ≡ (refused 10 ∷ refused 10 ∷ refused 10 ∷ refused 10 ∷ stored 0 ∷ stored 1 ∷ []) ∷ (stored 0 ∷ refused 10 ∷ refused 21 ∷ []) ∷ []
+unfolding answers
+nan-refused = refl
+
+-- a sheet of a variable and such a constant: "refused 10 at 1", and the variable's line
+pub nan-sheet : listing (sheet lent empty (take 8 sheetBytes ++ 0x00 ∷ 0x09 ∷ 0x02 ∷ 0xFF ∷ 0xF0 ∷ 0x00 ∷ 0x00 ∷ 0x00 ∷ 0x00 ∷ 0x00 ∷ 0x01 ∷ []))
+    ≡ 114 ∷ 101 ∷ 102 ∷ 117 ∷ 115 ∷ 101 ∷ 100 ∷ 32 ∷ 49 ∷ 48 ∷ 32 ∷ 97 ∷ 116 ∷ 32 ∷ 49 ∷ 10
+    ∷ 48 ∷ 32 ∷ 48 ∷ 32 ∷ 48 ∷ 48 ∷ 48 ∷ 48 ∷ 48 ∷ 48 ∷ 48 ∷ 48 ∷ 48 ∷ 48 ∷ 48 ∷ 48 ∷ 48 ∷ 48 ∷ 48 ∷ 55 ∷ 32 ∷ 48 ∷ 10
+    ∷ []
+unfolding sheet listing
+nan-sheet = refl
 
 -- -0.0 - (-0.0) gives -0.0, and inf - inf of one id 0.0; 0 / 0 gives 0.0, and inf / inf of one id 1.0
 pub one-id-cases :

@@ -26,4 +26,5 @@ pub mod Moved
 pub mod Sheet
 pub mod SheetCalls
 pub mod Listing
+pub mod NoNaN
 pub mod Examples

@@ -4,10 +4,10 @@ use mathlib.Core.Bool.{Bool, true, false, _&&_, cond}
 use mathlib.Core.List.{List, [], _∷_}
 use lib.ListN.{length}
 use lib.Dec.{leb, ltb, eqb}
-use lib.Ieee.{Float, binary64, ofBits}
+use lib.Ieee.{Float, binary64, ofBits, nanBits}
 use Rattle.definitions.specs.Limits.{mostDepth, mostTerms, firstTableSize}
-use Rattle.definitions.specs.Refusals.{badOperand, badCode, badChildCount, tooManyTerms}
-use Rattle.definitions.specs.Node.{Node, node, at, variableKind, constantKind, addKind, subKind, mulKind, divKind, powKind, modKind, negKind, functionKind, controlKind, selectControl, ifElseControl, forLoopControl, lastOperator, bothFlags, childCountListed}
+use Rattle.definitions.specs.Refusals.{badOperand, badCode, notANumber, badChildCount, tooManyTerms}
+use Rattle.definitions.specs.Node.{Node, node, at, variableKind, constantKind, addKind, subKind, mulKind, divKind, powKind, modKind, negKind, functionKind, controlKind, selectControl, ifElseControl, forLoopControl, lastOperator, bothFlags, nanConstant, childCountListed}
 use Rattle.definitions.specs.Intern.{Lent, Built, built, stopped, intern}
 use Rattle.definitions.specs.Walk.{Mode, standard, Walked, finished, spent, halted, walkRoot}
 use Rattle.definitions.specs.Prune.{chain, keeps, filter, sumOfKept}
@@ -92,15 +92,16 @@ abbrev pub storedAs : Built → Outcome
 storedAs (built ns i) = outcome (stored i) ns
 storedAs (stopped ns r) = outcome (refused r) ns
 
--- refusals 5, 6, 4, then 21 and 22 from interning
+-- refusals 5, 10 "right after 5" (02 b), 6, 4, then 21 and 22 from interning
 unfoldable pub storeCall : Lent → List Node → Request → Outcome
-unfolding childCountListed intern
+unfolding nanBits childCountListed intern
 storeCall l ns r =
     let n = r .node in
     cond (r .listed)
+    (cond (nanConstant (n .kind) (n .payload)) (outcome (refused notANumber) ns)
     (cond (childCountListed (n .kind) (n .payload) (length (n .children)))
     (cond (allBelow (length ns) (n .children)) (storedAs (intern l ns n)) (outcome (refused badOperand) ns))
-    (outcome (refused badChildCount) ns))
+    (outcome (refused badChildCount) ns)))
     (outcome (refused badCode) ns)
 
 -- ---- simplify

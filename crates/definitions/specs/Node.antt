@@ -4,6 +4,7 @@ use mathlib.Core.Bool.{Bool, true, false, _&&_, _||_, cond}
 use mathlib.Core.List.{List, [], _∷_}
 use lib.ListN.{getD}
 use lib.Dec.{leb, ltb, eqb}
+use lib.Ieee.{binary64, nanBits}
 use Rattle.definitions.specs.Limits.{mostChildren}
 
 -- ---- kinds: 0 variable, 1 constant, 2 to 8 operator Add, Sub, Mul, Div, Pow, Mod, Neg, 16 function, 32 control
@@ -95,6 +96,10 @@ sameChildren (a ∷ al) (b ∷ bs) = eqb a b && sameChildren al bs
 -- "Two nodes are one if kind, payload, children and flags without 4 agree."
 abbrev pub same : Node → Node → Bool
 same m n = eqb (m .kind) (n .kind) && (eqb (m .payload) (n .payload) && (eqb (m .flags) (n .flags) && sameChildren (m .children) (n .children)))
+
+-- 02 (b), "a constant whose bits are a NaN": of any pattern, quiet or signalling, of either sign
+abbrev pub nanConstant : ℕ → ℕ → Bool
+nanConstant k p = eqb k constantKind && nanBits binary64 p
 
 -- ---- numbers of children
 

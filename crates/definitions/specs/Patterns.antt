@@ -5,7 +5,7 @@ use mathlib.Core.Option.{Option, none, some}
 use mathlib.Core.List.{List, [], _∷_}
 use lib.Dec.{eqb}
 use lib.IntN.{pos}
-use lib.Ieee.{Float, nan, inf, fin, binary64, ofBits, toBits, add, sub, mul, div, eq, lt}
+use lib.Ieee.{Float, nan, inf, fin, binary64, ofBits, toBits, isNan, add, sub, mul, div, eq, lt}
 use Rattle.definitions.specs.Node.{Node, node, at, constantKind, addKind, subKind, mulKind, divKind, powKind, negKind, bothFlags}
 use Rattle.definitions.specs.Intern.{Lent, Built, built, then, intern}
 
@@ -47,7 +47,7 @@ isPositive (some x) = lt zero64 x
 
 -- ---- what patterns build
 
--- a constant; a NaN is stored as 7FF8000000000000, which is its pattern by toBits
+-- a constant
 unfoldable pub internConstant : Lent → List Node → Float → Built
 unfolding intern toBits
 internConstant l ns x = intern l ns (node constantKind (toBits binary64 x) 0 [])
@@ -127,13 +127,22 @@ negDouble ns a = cond (eqb (at ns a .kind) negKind) (onlyChild ns (at ns a .chil
 -- ---- folding
 
 -- "Sums fold as binary64, each single addition rounded once, ties to even; likewise Sub, Mul, Div (not by zero)." No other kind folds.
-unfoldable pub fold : ℕ → Float → Float → Option Float
+unfoldable pub binary64Result : ℕ → Float → Float → Option Float
 unfolding add sub mul div eq
-fold k x y =
+binary64Result k x y =
     cond (eqb k addKind) (some (add binary64 x y))
     (cond (eqb k subKind) (some (sub binary64 x y))
     (cond (eqb k mulKind) (some (mul binary64 x y))
     (cond (eqb k divKind && not (eq y zero64)) (some (div binary64 x y)) none)))
+
+-- 02 (b): "A fold to NaN is now declined"
+abbrev pub unlessNaN : Option Float → Option Float
+unlessNaN none = none
+unlessNaN (some z) = cond (isNan z) none (some z)
+
+unfoldable pub fold : ℕ → Float → Float → Option Float
+unfolding binary64Result isNan
+fold k x y = unlessNaN (binary64Result k x y)
 
 abbrev pub folded : Lent → List Node → Option Float → Option Built
 folded l ns none = none

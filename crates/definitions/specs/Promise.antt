@@ -12,7 +12,7 @@ use Rattle.definitions.specs.Intern.{Lent}
 use Rattle.definitions.specs.Patterns.{one64}
 use Rattle.definitions.specs.Threshold.{Threshold, bits, untouched, given}
 use Rattle.definitions.specs.Settings.{setting}
-use Rattle.definitions.specs.Node.{Node, variableKind, constantKind, addKind, subKind, mulKind, divKind, powKind, negKind, bothFlags}
+use Rattle.definitions.specs.Node.{Node, at, nanConstant, variableKind, constantKind, addKind, subKind, mulKind, divKind, powKind, negKind, bothFlags}
 use Rattle.definitions.specs.Machine.{Store, Call, Answer, requested, State, empty, call}
 use Rattle.definitions.specs.Machine as Machine
 use Rattle.definitions.specs.Names.{NameCall, internName, lookupName, nameOf}
@@ -170,9 +170,12 @@ pub record Promise (l : LentLists) (cs : List ControllerCall) (al : List Control
   -- no two ids have one formula
   pub unique : (i id id' : ℕ) (s : Controller) → nth ss i ≡ some s → id < length (s .nodes) → id' < length (s .nodes)
       → formula (s .nodes) id ≡ formula (s .nodes) id' → id ≡ id'
+  -- 02 (b), "No NaN in the store": no constant of any node is one
+  pub numbers : (i id : ℕ) (s : Controller) → nth ss i ≡ some s → id < length (s .nodes)
+      → nanConstant (at (s .nodes) id .kind) (at (s .nodes) id .payload) ≡ false
   -- an answered simplify at i, of a formula of the exact kind, and a later answered prune of its answer at j, at a threshold from 0 to 1: the
-  -- simplified formula is of the exact kind too, so that every constant in it is a number; each of the three ids is that of a node, so that
-  -- none of the three formulas is what stands for an id without one (`noFormula` of Formula.antt)
+  -- simplified formula is of the exact kind too; each of the three ids is that of a node, so that none of the three formulas is what stands for
+  -- an id without one (`noFormula` of Formula.antt)
   pub balance : (i j root depth budget id steps t answer keptCount droppedCount : ℕ) (spent : Bool) (p : ControllerCall) (s0 s1 s3 : Controller) → i < j
       → nth cs i ≡ some (simplifying root depth budget) → nth al i ≡ some (simplified id spent steps)
       → nth cs j ≡ some p → prunes p ≡ some (id, bits t) → nth al j ≡ some (pruned answer keptCount droppedCount)

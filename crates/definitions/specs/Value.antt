@@ -30,7 +30,7 @@ abbrev pub signed : Bool → ℕ → ℕ → Fraction
 signed false a k = fraction a 0 k
 signed true a k = fraction 0 a k
 
--- "a constant its own number, both zeros 0"; a NaN or an infinity is in no formula of the exact kind
+-- "a constant its own number, both zeros 0"; an infinity is in no formula of the exact kind, a NaN in no store
 unfoldable pub number : Float → Dyadic
 number nan = zeroValue
 number (inf s) = zeroValue

@@ -16,6 +16,7 @@ use Rattle.text_language.specs.Program.{Token, number, name, negate, join, Join
 use Rattle.text_language.specs.Program as Program
 use Rattle.text_language.specs.Reading.{nanToken, anyNan}
 use Rattle.text_language.proofs.Sound.{and-both}
+use Rattle.text_language.proofs.Constants.{any-first, any-parts, any-append, any-both, both-numbers}
 use Rattle.expression_text.specs.Proper.{allWords, isName, numberBits, Proper}
 use Rattle.expression_text.specs.Listed.{All, OnlyProper}
 use Rattle.expression_text.proofs.Bracketing.{Spelled}
@@ -62,27 +63,6 @@ spelled (raised a b) h = (spelled a (h .0), spelled b (h .1))
 
 -- ---- its constants are numbers
 
-any-first : (t : Token) (ts : List Token) → nanToken t ≡ false → anyNan ts ≡ false → anyNan (t ∷ ts) ≡ false
-unfolding anyNan
-any-first t ts h k = ap (λ (x : Bool). elim x as (λ y. Bool) [ true ↦ true | false ↦ anyNan ts ]) h ∙ k
-
-any-parts : (t : Token) (ts : List Token) → anyNan (t ∷ ts) ≡ false → (nanToken t ≡ false) × (anyNan ts ≡ false)
-unfolding anyNan
-any-parts t ts h = go (nanToken t) refl h
-  where
-    go : (b : Bool) → nanToken t ≡ b → (elim b as (λ y. Bool) [ true ↦ true | false ↦ anyNan ts ]) ≡ false → (nanToken t ≡ false) × (anyNan ts ≡ false)
-    go true e k = absurd (false≢true (sym k))
-    go false e k = (e, k)
-
-any-append : (s ts : List Token) → anyNan s ≡ false → anyNan ts ≡ false → anyNan (s ++ ts) ≡ false
-any-append [] ts h k = k
-any-append (t ∷ s) ts h k = let p = any-parts t s h in any-first t (s ++ ts) (p .0) (any-append s ts (p .1) k)
-
-any-both : (s ts : List Token) → anyNan (s ++ ts) ≡ false → (anyNan s ≡ false) × (anyNan ts ≡ false)
-unfolding anyNan
-any-both [] ts h = (refl, h)
-any-both (t ∷ s) ts h = let p = any-parts t (s ++ ts) h in let q = any-both s ts (p .1) in (any-first t s (p .0) (q .0), q .1)
-
 pub numbers : (e : Expr) → Proper e → anyNan (postfix e) ≡ false
 unfolding postfix anyNan
 numbers (constant b) h = any-first (number b) [] (number-form b h .number) refl
@@ -120,10 +100,6 @@ proper-atom (Atom.blank h a) n = proper-atom a n
 proper-atom (Atom.whole h q l) n = proper-number _ (whole-bits _) n
 proper-atom (Atom.bits h q l) n = proper-number _ (hex-bits _ (run-all q) l) n
 proper-atom (Atom.name {c} {s} {w} {r} h q l) n = ap₂ (λ (x y : Bool). x && y) h (ap₂ (λ (x y : Bool). x && y) (run-words q) (le-leb (length w) 31 l))
-
--- the constants of each operand
-both-numbers : (a b : Expr) (o : Join) → anyNan (postfix a ++ (postfix b ++ join o ∷ [])) ≡ false → (anyNan (postfix a) ≡ false) × (anyNan (postfix b) ≡ false)
-both-numbers a b o h = let p = any-both (postfix a) _ h in (p .0, any-both (postfix b) _ (p .1) .0)
 
 proper-reads : {l : Level} {s r : List ℕ} {e : Expr} {d : ℕ} → Reads l s e d r → anyNan (postfix e) ≡ false → Proper e
 unfolding postfix

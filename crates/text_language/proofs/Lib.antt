@@ -7,4 +7,5 @@ pub mod Scanning
 pub mod Waiting
 pub mod Signs
 pub mod Tokens
+pub mod Constants
 pub mod Reading

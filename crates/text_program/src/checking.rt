@@ -2,7 +2,6 @@
 ghost use mathlib.Core.Path.{_≡_};
 ghost use Prim.Native.Nat.{_≤_};
 ghost use lib.ListN.{length};
-ghost use lib.Ieee.{binary64, nanBits};
 ghost use Rattle.text_language.specs.Program.{tokenAt, tokens};
 ghost use Rattle.text_language.specs.Reading.{nanToken, anyNan, mostBytes};
 ghost use Rattle.text_program.specs.Compiling.{Compiles};
@@ -17,12 +16,7 @@ use text_language::MOST_BYTES;
 use text_language::MOST_NESTED;
 use text_language::NESTED_TOO_DEEP;
 use text_language::OUTSIDE_LANGUAGE;
-
-// With the sign's bit off, the patterns above the infinity's are those of NaN.
-const BITS_OF_INFINITY: u64 = 0x7ff0_0000_0000_0000;
-
-// 2^63: the weight of the sign's bit.
-const SIGN_BIT: u64 = 0x8000_0000_0000_0000;
+use text_language::is_nan;
 
 // The size of a text's program, or the number of a refusal.
 pub enum Checked {
@@ -50,13 +44,6 @@ pub fn compile(text: &[u8], program: &mut [u16]) -> Checked
         Parse::Outside => Checked::Refused(OUTSIDE_LANGUAGE),
         Parse::TooDeep => Checked::Refused(NESTED_TOO_DEEP),
     }
-}
-
-// Whether bits are a NaN's.
-fn is_nan(bits: u64) -> bool
-    ensures { λ r. ⌜ r ≡ nanBits binary64 bits ⌝ }
-{
-    bits % SIGN_BIT > BITS_OF_INFINITY
 }
 
 // Whether a word is a number's whose bits are a NaN.
