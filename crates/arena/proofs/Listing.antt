@@ -1,13 +1,15 @@
 -- The test of kinds, payloads and child counts, by the kind.
 use Prim.Native.Nat.{ℕ, zero, suc, _*_, _/_, _%_, _^_, _≤_, _<_}
-use mathlib.Core.Path.{_≡_, refl, sym}
-use mathlib.Core.Bool.{Bool, true, false, cond, _&&_, _||_, false≢true}
+use mathlib.Core.Path.{_≡_, refl, sym, subst}
+use mathlib.Core.Bool.{Bool, true, false, cond, not, _&&_, _||_, false≢true}
 use mathlib.Core.Logic.{_⊎_, inl, inr, ⊎-elim}
 use lib.Dec.{eqb, leb, ltb}
+use lib.Ieee.{binary64, nanBits}
 use native.Mathlib.Omega.{arith}
 use borrow.Author.Tests.{eq-eqb, ne-eqb, le-leb, lt-leb, lt-ltb, le-ltb, eqb-true, leb-true}
 use Rattle.arena.specs.Layout.{mostChildren}
 use Rattle.arena.specs.Kind.{operatorArity, controlArity, listed, isNumber}
+use Rattle.definitions.specs.Node.{nanConstant}
 use Rattle.definitions.proofs.Deciding.{both, same-test}
 
 -- the digits that the code reads: `LEAST_OPERANDS` and `MOST_OPERANDS`, four bits a kind
@@ -73,16 +75,23 @@ and-true : (b : Bool) → b ≡ b && true
 and-true true = refl
 and-true false = refl
 
+-- the test for a NaN
+pub constant-tested : (kind payload : ℕ) (r : Bool) → kind ≡ 1 → r ≡ nanBits binary64 payload → r ≡ nanConstant kind payload
+constant-tested kind payload r e h = rw e h
+
+pub no-constant-tested : (kind payload : ℕ) → (kind ≡ 1 → ⊥) → false ≡ nanConstant kind payload
+no-constant-tested kind payload n = rw (ne-eqb kind 1 n) refl
+
 -- a variable or a constant
 pub leaf-children : (kind payload arity : ℕ) → kind ≤ 1 → (arity ≡ 0 → ⊥) → false ≡ listed kind payload arity
 unfolding listed
 leaf-children zero payload arity l n = rw (ne-eqb arity 0 n) (and-false (isNumber payload))
-leaf-children (suc zero) payload arity l n = rw (ne-eqb arity 0 n) refl
+leaf-children (suc zero) payload arity l n = rw (ne-eqb arity 0 n) (and-false (not (nanBits binary64 payload)))
 leaf-children (suc (suc kind)) payload arity l n = absurd (omega arith)
 
-pub leaf-constant : (kind payload arity : ℕ) → kind ≡ 1 → arity ≡ 0 → true ≡ listed kind payload arity
+pub leaf-constant : (kind payload arity : ℕ) → kind ≡ 1 → arity ≡ 0 → not (nanBits binary64 payload) ≡ listed kind payload arity
 unfolding listed
-leaf-constant kind payload arity e n = rw (e, n) refl
+leaf-constant kind payload arity e n = rw (e, n) (and-true (not (nanBits binary64 payload)))
 
 pub leaf-variable : (kind payload arity : ℕ) → kind ≤ 1 → (kind ≡ 1 → ⊥) → arity ≡ 0 → ltb payload 4294967296 ≡ listed kind payload arity
 unfolding listed
@@ -95,9 +104,9 @@ module _ (kind payload arity : ℕ) where
   unfolding listed
   variable-low e l = rw (e, lt-ltb payload 4294967296 l) refl
 
-  pub constant : kind ≡ 1 → eqb arity 0 ≡ listed kind payload arity
+  pub constant : kind ≡ 1 → nanBits binary64 payload ≡ false → eqb arity 0 ≡ listed kind payload arity
   unfolding listed
-  constant e = rw e refl
+  constant e n = rw (e, n) refl
 
   pub function-low : kind ≡ 16 → payload < 4294967296 → leb arity mostChildren ≡ listed kind payload arity
   unfolding listed
@@ -148,14 +157,27 @@ pub listed-few : (kind payload arity : ℕ) → listed kind payload arity ≡ tr
 unfolding listed
 listed-few kind payload arity h = ⊎-elim
     (λ v. none (both (isNumber payload) (eqb arity 0) v .1))
-    (λ r1. ⊎-elim none
+    (λ r1. ⊎-elim (λ c. none (both (not (nanBits binary64 payload)) (eqb arity 0) c .1))
     (λ r2. ⊎-elim (λ o. few-operator kind arity (both (eqb payload 0) (operatorArity kind arity) o .1))
     (λ r3. ⊎-elim (λ f. leb-true arity mostChildren (both (isNumber payload) (leb arity mostChildren) f .1))
     (λ r4. ⊎-elim (few-control payload arity) (λ e. absurd (false≢true e)) (choice (eqb kind 32) (controlArity payload arity) false r4))
     (choice (eqb kind 16) (isNumber payload && leb arity mostChildren) (cond (eqb kind 32) (controlArity payload arity) false) r3))
     (choice (leb 2 kind && leb kind 8) (eqb payload 0 && operatorArity kind arity) _ r2))
-    (choice (eqb kind 1) (eqb arity 0) _ r1))
+    (choice (eqb kind 1) (not (nanBits binary64 payload) && eqb arity 0) _ r1))
     (choice (eqb kind 0) (isNumber payload && eqb arity 0) _ h)
   where
     none : eqb arity 0 ≡ true → arity ≤ mostChildren
     none e = let z = eqb-true arity 0 e in omega arith
+
+-- a listed node is no constant whose bits are a NaN
+pub listed-number : (kind payload arity : ℕ) → listed kind payload arity ≡ true → nanConstant kind payload ≡ false
+unfolding listed
+listed-number kind payload arity h = go (eqb kind 1) refl
+  where
+    number : (b : Bool) → not b && eqb arity 0 ≡ true → b ≡ false
+    number true e = absurd (false≢true e)
+    number false e = refl
+
+    go : (b : Bool) → eqb kind 1 ≡ b → b && nanBits binary64 payload ≡ false
+    go true e = number (nanBits binary64 payload) (subst (λ (k : ℕ). listed k payload arity ≡ true) (eqb-true kind 1 e) h)
+    go false e = refl

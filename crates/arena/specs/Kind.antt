@@ -1,7 +1,8 @@
 -- Kinds, payloads and child counts as 01 lists them.
 use Prim.Native.Nat.{ℕ, _^_}
-use mathlib.Core.Bool.{Bool, false, cond, _&&_}
+use mathlib.Core.Bool.{Bool, false, cond, not, _&&_}
 use lib.Dec.{eqb, leb, ltb}
+use lib.Ieee.{binary64, nanBits}
 use Rattle.definitions.specs.Limits.{mostChildren}
 use Rattle.definitions.specs.Node.{variableKind, constantKind, addKind, negKind, functionKind, controlKind, forLoopControl, operatorChildren, controlChildren}
 
@@ -17,11 +18,12 @@ operatorArity kind arity = operatorChildren kind arity
 unfoldable pub controlArity : ℕ → ℕ → Bool
 controlArity payload arity = leb payload forLoopControl && controlChildren payload arity
 
--- 01: "In every sound store kinds, payloads (symbols and function numbers below 2^32), child counts .. are as listed"
+-- 01: "In every sound store kinds, payloads (symbols and function numbers below 2^32), child counts .. are as listed"; 02 (b): "The audit (20) turns
+-- back a store that holds a NaN"
 unfoldable pub listed : ℕ → ℕ → ℕ → Bool
 listed kind payload arity =
     cond (eqb kind variableKind) (isNumber payload && eqb arity 0)
-    (cond (eqb kind constantKind) (eqb arity 0)
+    (cond (eqb kind constantKind) (not (nanBits binary64 payload) && eqb arity 0)
     (cond (leb addKind kind && leb kind negKind) (eqb payload 0 && operatorArity kind arity)
     (cond (eqb kind functionKind) (isNumber payload && leb arity mostChildren)
     (cond (eqb kind controlKind) (controlArity payload arity)

@@ -3,9 +3,10 @@
 // 0 Select, 1 IfElse, 2 ForLoop)."
 ghost use mathlib.Core.Path.{_≡_};
 ghost use Prim.Native.Nat.{_≤_, _<_};
-ghost use Rattle.definitions.specs.Node.{constantKind, addKind, negKind};
+ghost use Rattle.definitions.specs.Node.{constantKind, addKind, negKind, nanConstant};
 ghost use Rattle.arena.specs.Kind.{operatorArity, controlArity, listed};
 use crate::MOST_CHILDREN;
+use text_language::is_nan;
 
 pub const VARIABLE: u64 = 0;
 
@@ -71,6 +72,16 @@ fn control_arity(control: u64, arity: u64) -> bool
     }
 }
 
+// 02 (b): whether it is "a constant whose bits are a NaN".
+pub fn is_nan_constant(kind: u64, payload: u64) -> bool
+    ensures { λ r. ⌜ r ≡ nanConstant kind payload ⌝ }
+{
+    if kind == CONSTANT {
+        return is_nan(payload);
+    }
+    false
+}
+
 // Whether payload and child count of a variable or constant are as listed.
 fn is_listed_leaf(kind: u64, payload: u64, arity: u64) -> bool
     requires { ⌜ kind ≤ constantKind ⌝ }
@@ -80,7 +91,7 @@ fn is_listed_leaf(kind: u64, payload: u64, arity: u64) -> bool
         return false;
     }
     if kind == CONSTANT {
-        return true;
+        return !is_nan(payload);
     }
     payload < NUMBERS
 }
