@@ -21,7 +21,7 @@ use Rattle.definitions.proofs.NameLists.{Listed, name-says}
 pub call-step : (l : Lent) (ns : List Node) (c : Call) → Sound ns → Step ns (call l (state ns) c .left .nodes)
 unfolding call
 call-step l ns (store c) h = builds l ns (requested c) h .step
-call-step l ns (simplify i d b) h = simplifies laws l ns i d b h .step
+call-step l ns (simplify m i d b) h = simplifies laws l m ns i d b h .step
 call-step l ns (prune i t) h = prune-steps l ns i (given t) (given-taken t) h
 call-step l ns (pruneBySetting i n) h = prune-steps l ns i (setting n) (setting-taken n) h
 

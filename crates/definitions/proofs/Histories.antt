@@ -10,6 +10,7 @@ use lib.Dec.{T}
 use lib.Ieee.{binary64, ofBits, le}
 use Rattle.definitions.specs.Intern.{Lent}
 use Rattle.definitions.specs.Node.{Node}
+use Rattle.definitions.specs.Walk.{Mode, strict}
 use Rattle.definitions.specs.Patterns.{one64}
 use Rattle.definitions.specs.Threshold.{Threshold, bits, untouched, given}
 use Rattle.definitions.specs.Settings.{setting}
@@ -21,11 +22,13 @@ use Rattle.definitions.specs.Controller.{LentLists, Controller, emptyCon
 use Rattle.definitions.specs.Formula.{formula}
 use Rattle.definitions.specs.Value.{valueOf}
 use Rattle.definitions.specs.Exact.{Exact}
-use Rattle.definitions.specs.Promise.{ControllerModel, ControllerCalled, FreshController, History, done, next, nth, prunes, spelled, Balanced, requestedFormula, Promise, All, ReadTo, Demand3}
+use Rattle.definitions.specs.Promise.{ControllerModel, ControllerCalled, FreshController, History, done, next, nth, prunes, spelled, Balanced, requestedFormula, Promise, All, ReadTo, AddsUnmarked, Demand3}
 use Rattle.definitions.proofs.Intern.{Sound, Inj, Step, stay, trans}
 use Rattle.definitions.proofs.Floats.{laws}
 use Rattle.definitions.proofs.Calls.{Done, StoreSays, builds}
-use Rattle.definitions.proofs.SimplifyCalls.{SimplifySays, simplifies}
+use Rattle.definitions.proofs.SimplifyCalls.{WalkSays, SimplifySays, simplifies}
+use Rattle.definitions.proofs.StrictBits.{SameValue, strict-says, bits-same}
+use Rattle.definitions.proofs.StrictMarks.{strict-adds}
 use Rattle.definitions.proofs.PruneCalls.{PruneSays, prunes-at, Taken, given-taken, setting-taken, untouched-is}
 use Rattle.definitions.proofs.Answers.{from-stored, from-simplified, from-pruned, from-numbered}
 use Rattle.definitions.proofs.Going.{call-step, Whole, Goes, whole-after, goes-nowhere, goes-further, by-store, by-names}
@@ -42,7 +45,7 @@ use Rattle.definitions.proofs.NameLists.{none-some, Listed, none-listed
 pub call-goes : (l : LentLists) (s : Controller) (c : ControllerCall) → Whole s → Goes s (controllerCall l s c .left)
 unfolding controllerCall
 call-goes l s (building c) w = by-store l s (store c) w
-call-goes l s (simplifying i d b) w = by-store l s (simplify i d b) w
+call-goes l s (simplifying m i d b) w = by-store l s (simplify m i d b) w
 call-goes l s (pruning i t) w = by-store l s (prune i t) w
 call-goes l s (pruningBySetting i n) w = by-store l s (pruneBySetting i n) w
 call-goes l s (naming c) w = by-names l s c w
@@ -52,7 +55,7 @@ call-goes l s (reading text) w = reading-goes l s (verdict text) w
 call-spares : (l : LentLists) (s : Controller) (c : ControllerCall) → All (SamePart s (controllerCall l s c .left)) (spares c)
 unfolding controllerCall
 call-spares l s (building c) = (refl, tt)
-call-spares l s (simplifying i d b) = (refl, tt)
+call-spares l s (simplifying m i d b) = (refl, tt)
 call-spares l s (pruning i t) = (refl, tt)
 call-spares l s (pruningBySetting i n) = (refl, tt)
 call-spares l s (naming (internName name)) = (refl, tt)
@@ -64,7 +67,7 @@ call-spares l s (reading text) = tt
 pub call-untouched : (l : LentLists) (s : Controller) (c : ControllerCall) → All (SamePart s (controllerCall l s c .left)) (untaken c)
 unfolding controllerCall
 call-untouched l s (building c) = (refl, tt)
-call-untouched l s (simplifying i d b) = (refl, tt)
+call-untouched l s (simplifying m i d b) = (refl, tt)
 call-untouched l s (pruning i t) = (refl, tt)
 call-untouched l s (pruningBySetting i n) = (refl, tt)
 call-untouched l s (naming c) = (refl, tt)
@@ -142,22 +145,37 @@ module _ (l : LentLists) where
       subst (λ (x : Controller). (id < length (x .nodes)) × (formula (x .nodes) id ≡ requestedFormula (s .nodes) c)) es
       (subst (StoreSays (s .nodes) (requested c .node) (call (l .store) (state (s .nodes)) (store c) .left .nodes)) e (builds (l .store) (s .nodes) (requested c) (w .nodes) .says))
 
-  simplify-says : (s s' : Controller) (root depth budget id steps : ℕ) (spent : Bool) → Whole s
-      → controllerCall l s (simplifying root depth budget) .answer ≡ simplified id spent steps → controllerCall l s (simplifying root depth budget) .left ≡ s'
+  simplify-says : (m : Mode) (s s' : Controller) (root depth budget id steps : ℕ) (spent : Bool) → Whole s
+      → controllerCall l s (simplifying m root depth budget) .answer ≡ simplified id spent steps → controllerCall l s (simplifying m root depth budget) .left ≡ s'
       → SimplifySays (s .nodes) root (s' .nodes) (M.simplified id spent steps)
   unfolding controllerCall call
-  simplify-says s s' root depth budget id steps spent w ea es =
-      let c = simplify root depth budget in
+  simplify-says m s s' root depth budget id steps spent w ea es =
+      let c = simplify m root depth budget in
       let e = from-simplified (call (l .store) (state (s .nodes)) c .answer) id spent steps ea in
       subst (λ (x : Controller). SimplifySays (s .nodes) root (x .nodes) (M.simplified id spent steps)) es
-      (subst (SimplifySays (s .nodes) root (call (l .store) (state (s .nodes)) c .left .nodes)) e (simplifies laws (l .store) (s .nodes) root depth budget (w .nodes) .says))
+      (subst (SimplifySays (s .nodes) root (call (l .store) (state (s .nodes)) c .left .nodes)) e (simplifies laws (l .store) m (s .nodes) root depth budget (w .nodes) .says))
+
+  -- a strict one
+  bits-say : (s s' : Controller) (root depth budget id steps : ℕ) (spent : Bool) → Whole s
+      → controllerCall l s (simplifying strict root depth budget) .answer ≡ simplified id spent steps → controllerCall l s (simplifying strict root depth budget) .left ≡ s'
+      → WalkSays SameValue (s .nodes) root (s' .nodes) (M.simplified id spent steps)
+  unfolding controllerCall call
+  bits-say s s' root depth budget id steps spent w ea es =
+      let c = simplify strict root depth budget in
+      let e = from-simplified (call (l .store) (state (s .nodes)) c .answer) id spent steps ea in
+      subst (λ (x : Controller). WalkSays SameValue (s .nodes) root (x .nodes) (M.simplified id spent steps)) es
+      (subst (WalkSays SameValue (s .nodes) root (call (l .store) (state (s .nodes)) c .left .nodes)) e (strict-says (l .store) (s .nodes) root depth budget (w .nodes) .says))
+
+  marks-say : (s s' : Controller) (root depth budget : ℕ) → controllerCall l s (simplifying strict root depth budget) .left ≡ s' → AddsUnmarked (s .nodes) (s' .nodes)
+  unfolding controllerCall call
+  marks-say s s' root depth budget es = subst (λ (x : Controller). AddsUnmarked (s .nodes) (x .nodes)) es (strict-adds (l .store) (s .nodes) root depth budget)
 
   -- a prune is that of its id at its threshold, whatever this was made from
   prune-is : (s : Controller) (p : ControllerCall) (id : ℕ) (t : Threshold) → prunes p ≡ some (id, t)
       → Taken t × (controllerCall l s p ≡ afterPrune s (pruneCall (l .store) (s .nodes) id t))
   unfolding controllerCall call
   prune-is s (building c) id t e = none-some (id, t) _ e
-  prune-is s (simplifying i depth budget) id t e = none-some (id, t) _ e
+  prune-is s (simplifying m i depth budget) id t e = none-some (id, t) _ e
   prune-is s (pruning i u) id t e =
       let q : _≡_ {A = ℕ × Threshold} (i, given u) (id, t) = cc in
       subst (λ (x : ℕ × Threshold). Taken (x .1) × (controllerCall l s (pruning i u) ≡ afterPrune s (pruneCall (l .store) (s .nodes) (x .0) (x .1)))) q (given-taken u, refl)
@@ -223,20 +241,28 @@ plain-promise l cs = record {
   stays = λ i j id s s' h ei ej k. let st = goes-on l emptyController cs i j s s' fresh-whole h ei ej .step in (st .longer, st .kept id k);
   unique = λ i id id' s e h h' k. reaches l emptyController cs (suc i) s fresh-whole e .step .one fresh-unique id id' h h' k;
   numbers = λ i id s e h. reaches l emptyController cs (suc i) s fresh-whole e .step .sound id h .number;
-  balance = λ i j root depth budget id steps t answer k d spent p s0 s1 s3 lt ec ea ep eq ea' e0 e1 e3 tu ex.
-      let q = at-call l emptyController cs i (simplifying root depth budget) (simplified id spent steps) s0 s1 ec ea e0 e1 in
-      let simple = simplify-says l s0 s1 root depth budget id steps spent (whole i s0 e0) (q .0) (q .1) in
+  balance = λ m i j root depth budget id steps t answer k d spent p s0 s1 s3 lt ec ea ep eq ea' e0 e1 e3 tu ex.
+      let q = at-call l emptyController cs i (simplifying m root depth budget) (simplified id spent steps) s0 s1 ec ea e0 e1 in
+      let simple = simplify-says l m s0 s1 root depth budget id steps spent (whole i s0 e0) (q .0) (q .1) in
       balanced i j root depth budget id steps t answer k d spent p s0 s1 s3 lt ep eq ea' e1 e3 tu ex simple;
   untouched-answers = λ j id p s s' ec ep e0 es h. untouched-leaves j id p s s' ec ep e0 es h;
-  untouched-balance = λ i j root depth budget id steps spent p s0 s1 s3 lt ec ea ej ep e0 e1 e3 ex.
-      let q = at-call l emptyController cs i (simplifying root depth budget) (simplified id spent steps) s0 s1 ec ea e0 e1 in
-      let simple = simplify-says l s0 s1 root depth budget id steps spent (whole i s0 e0) (q .0) (q .1) in
+  untouched-balance = λ m i j root depth budget id steps spent p s0 s1 s3 lt ec ea ej ep e0 e1 e3 ex.
+      let q = at-call l emptyController cs i (simplifying m root depth budget) (simplified id spent steps) s0 s1 ec ea e0 e1 in
+      let simple = simplify-says l m s0 s1 root depth budget id steps spent (whole i s0 e0) (q .0) (q .1) in
       let (s2, e2) = some-before l emptyController cs j p ej in
       let st = goes-on l emptyController cs (suc i) j s1 s2 fresh-whole lt e1 e2 in
       let low : id < length (s2 .nodes) = omega (arith, simple .1, st .step .longer) in
       let u = untouched-leaves j id p s2 s3 ej ep e2 e3 low in
       let same : formula (s3 .nodes) id ≡ formula (s1 .nodes) id = ap (λ (x : Controller). formula (x .nodes) id) (u .1) ∙ st .step .kept id (simple .1) in
       (simple .0, simple .1, subst (λ (x : Controller). id < length (x .nodes)) (sym (u .1)) low, u .0, λ r. sym (simple .2 ex .equal r) ∙ ap (valueOf r) (sym same));
+  same-bits = λ i root depth budget id steps spent s0 s1 ec ea e0 e1.
+      let q = at-call l emptyController cs i (simplifying strict root depth budget) (simplified id spent steps) s0 s1 ec ea e0 e1 in
+      let says = bits-say l s0 s1 root depth budget id steps spent (whole i s0 e0) (q .0) (q .1) in
+      (says .0, says .1, bits-same (formula (s1 .nodes) id) (formula (s0 .nodes) root) (says .2));
+  no-marks = λ i root depth budget s0 s1 ec e0 e1.
+      let g = left-at l emptyController cs i (simplifying strict root depth budget) s0 ec e0 in
+      let q : controllerCall l s0 (simplifying strict root depth budget) .left ≡ s1 = cc in
+      marks-say l s0 s1 root depth budget q;
   names-numbered = λ i number name c s' ec e ea es.
       let (s, e0) = some-before l emptyController cs i (naming c) ec in
       let q = at-call l emptyController cs i (naming c) (numbered number) s s' ec ea e0 es in

@@ -9,9 +9,11 @@ use lib.ListN.{getD}
 use lib.Ieee.{binary64, ofBits, le, lt, eq, add as addFloat, mul as mulFloat, toBits}
 use Rattle.definitions.specs.Machine.{variable, constant, add, mul, call}
 use Rattle.definitions.specs.Names.{internName, lookupName, sameName}
+use Rattle.definitions.specs.Walk.{standard, strict}
 use Rattle.definitions.specs.Controller.{LentLists, Controller, emptyController, ControllerCall, building, simplifying, pruning, naming, reading, stored, refused, numbered, controllerCall, controllerAnswers, controllers, takes, SamePart, pruningBySetting, simplified, pruned}
 use Rattle.definitions.specs.Formula.{tree, nil, cons, formula}
 use Rattle.definitions.specs.Exact.{Exact, bound}
+use Rattle.definitions.specs.Evaluation.{Evaluation, bitsOf}
 use Rattle.definitions.specs.Promise.{ControllerModel, ControllerCalled, FreshController, History, done, next, nth, Balanced, Promise, ReadTo, StopsReading}
 use Rattle.definitions.specs.Value.{Reading, valueOf}
 use Rattle.definitions.specs.Moved.{Moved}
@@ -19,7 +21,7 @@ use Rattle.text_language.specs.Grammar.{Expr, linked, sums, variable as name}
 use Rattle.text_language.specs.Reader.{after}
 use Rattle.text_language.specs.Reading.{denotes, verdict, Judged}
 use Rattle.text_language.proofs.Reading.{judged}
-use Rattle.definitions.proofs.Histories.{demand3, all-of, call-untouched}
+use Rattle.definitions.proofs.Histories.{plain-promise, demand3, all-of, call-untouched}
 use Rattle.definitions.proofs.Moved.{dropped-count-bounds}
 
 abbrev lent : LentLists
@@ -43,7 +45,7 @@ flow = 102 ∷ 108 ∷ 111 ∷ 119 ∷ []
 abbrev calls : List ControllerCall
 calls =
     naming (internName flow) ∷ building (variable 0) ∷ building (constant 0x3FD0000000000000) ∷ building (constant 0x3FE0000000000000) ∷ building (add 0 1)
-    ∷ building (add 3 2) ∷ building (constant 0x3FF0000000000000) ∷ building (mul 4 5) ∷ simplifying 6 255 100 ∷ naming (internName (116 ∷ []))
+    ∷ building (add 3 2) ∷ building (constant 0x3FF0000000000000) ∷ building (mul 4 5) ∷ simplifying standard 6 255 100 ∷ naming (internName (116 ∷ []))
     ∷ naming (lookupName flow) ∷ pruning 8 0x3FF0000000000000 ∷ []
 
 kept-promise : Promise lent calls (controllerAnswers lent emptyController calls) (map (λ (s : Controller). s) (controllers lent emptyController calls))
@@ -63,7 +65,7 @@ pub instance : Balanced (formula (stateAfter 8 .nodes) 6)
     (tree 2 0 3 (cons (tree 0 0 0 nil) (cons (tree 1 0x3FE8000000000000 0 nil) nil))) (tree 0 0 0 nil) (ofBits binary64 0x3FF0000000000000) 1 1
 unfolding controllerAnswers controllers addFloat mulFloat le lt eq ofBits formula
 instance =
-    kept-promise .balance 8 11 6 255 100 8 9 0x3FF0000000000000 0 1 1 false (pruning 8 0x3FF0000000000000) (stateAfter 8) (stateAfter 9) (stateAfter 12) (lit< tt)
+    kept-promise .balance standard 8 11 6 255 100 8 9 0x3FF0000000000000 0 1 1 false (pruning 8 0x3FF0000000000000) (stateAfter 8) (stateAfter 9) (stateAfter 12) (lit< tt)
     refl refl refl refl refl refl refl refl tt old-is-exact .4
 
 -- one term was dropped at threshold 1: the value moved by less than 1
@@ -111,10 +113,24 @@ instance-stopped =
 -- before 8, which begins at 201.
 abbrev knob : List ControllerCall
 knob =
-    building (variable 0) ∷ building (constant 0x3FD0000000000000) ∷ building (add 0 1) ∷ simplifying 2 255 100 ∷ pruningBySetting 2 0 ∷ pruningBySetting 2 19
+    building (variable 0) ∷ building (constant 0x3FD0000000000000) ∷ building (add 0 1) ∷ simplifying standard 2 255 100 ∷ pruningBySetting 2 0 ∷ pruningBySetting 2 19
     ∷ pruningBySetting 2 20 ∷ pruningBySetting 2 200 ∷ pruningBySetting 3 201 ∷ pruningBySetting 2 201 ∷ pruningBySetting 2 0xFFFFFFFF ∷ []
 
 pub instance-knob : controllerAnswers lent emptyController knob
     ≡ stored 0 ∷ stored 1 ∷ stored 2 ∷ simplified 2 false 3 ∷ pruned 2 1 0 ∷ pruned 2 1 0 ∷ pruned 2 2 0 ∷ pruned 2 2 0 ∷ refused 4 ∷ refused 8 ∷ refused 8 ∷ []
 unfolding controllerAnswers addFloat le lt eq ofBits
 instance-knob = refl
+
+-- A strict walk (02 i) of (-0.0) + x·1, which is x: the promise's premises on it can be met, and the bits are x's under every evaluation.
+abbrev strictly : List ControllerCall
+strictly =
+    building (variable 0) ∷ building (constant 0x3FF0000000000000) ∷ building (constant 0x8000000000000000) ∷ building (mul 0 1) ∷ building (add 2 3)
+    ∷ simplifying strict 4 255 100 ∷ []
+
+abbrev strictlyAfter : ℕ → Controller
+strictlyAfter n = getD (emptyController ∷ controllers lent emptyController strictly) n emptyController
+
+pub instance-bits : (e : Evaluation) → bitsOf e (tree 0 0 0 nil) ≡ bitsOf e (formula (strictlyAfter 5 .nodes) 4)
+unfolding controllerAnswers controllers addFloat mulFloat le lt eq ofBits formula
+instance-bits =
+    plain-promise lent strictly .same-bits 5 4 255 100 0 6 false (strictlyAfter 5) (strictlyAfter 6) refl refl refl refl .2

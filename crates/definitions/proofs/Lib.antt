@@ -7,11 +7,17 @@ pub mod Numbers
 pub mod Bounds
 pub mod Refine
 pub mod Trees
+pub mod Results
+pub mod Rebuilding
 pub mod Patterns
+pub mod StrictPatterns
 pub mod Prune
 pub mod Floats
 pub mod Calls
 pub mod SimplifyCalls
+pub mod NeutralOperands
+pub mod StrictBits
+pub mod StrictMarks
 pub mod PruneCalls
 pub mod Answers
 pub mod NameLists

@@ -12,20 +12,20 @@ use Rattle.definitions.specs.Beside.{NameModel, NamesCalled, FreshNames,
 
 takes-store : (c : Call) → takes (asked c) ≡ storePart ∷ []
 takes-store (store c) = refl
-takes-store (simplify i depth budget) = refl
+takes-store (simplify m i depth budget) = refl
 takes-store (prune i t) = refl
 takes-store (pruneBySetting i n) = refl
 
 untaken-store : (c : Call) → untaken (asked c) ≡ namesPart ∷ []
 untaken-store (store c) = refl
-untaken-store (simplify i depth budget) = refl
+untaken-store (simplify m i depth budget) = refl
 untaken-store (prune i t) = refl
 untaken-store (pruneBySetting i n) = refl
 
 pub call-store : (l : LentLists) (s : Controller) (c : Call) → controllerCall l s (asked c) ≡ onStore l s c
 unfolding controllerCall
 call-store l s (store c) = refl
-call-store l s (simplify i depth budget) = refl
+call-store l s (simplify m i depth budget) = refl
 call-store l s (prune i t) = refl
 call-store l s (pruneBySetting i n) = refl
 

@@ -25,53 +25,18 @@ use Rattle.definitions.proofs.Intern.{Fit, Sound, Step, Result, stay, t
 use Rattle.definitions.proofs.Bounds.{Heavy, heavy-add, heavy-mul}
 use Rattle.definitions.proofs.Refine.{Replaces, replaces-refl, replaces-trans, replaces-cong, Refines}
 use Rattle.definitions.proofs.Walk.{StandsFor, Pairs, lower-at}
+pub use Rattle.definitions.proofs.Results.{result-map, result-then, Fires, or-fires, if-fires, cond-fires, and-true, eqb-is}
+use Rattle.definitions.proofs.Rebuilding.{rebuilt-stands, pairs-lower}
 use Rattle.definitions.proofs.Trees.{IsConstant, constant-tree-is, constantTree, constant-replaces, FloatLaws, binary, add-zero-left, add-zero-right, sub-zero, mul-one-left, mul-one-right, mul-zero-left, mul-zero-right, sub-self, neg-neg, fold-add, fold-sub, fold-mul, merge-add-left, merge-mul-left, binary-cong, add-swap, mul-swap}
 
--- ---- results
-pub result-map : (ns : List Node) (P Q : List Node → ℕ → Type 0) (m : Built) → ((ms : List Node) (i : ℕ) → Step ns ms → P ms i → Q ms i) → Result ns P m → Result ns Q m
-result-map ns P Q (built ms i) f x = (x .0, x .1, f ms i (x .0) (x .2))
-result-map ns P Q (stopped ms r) f x = x
-
-pub result-then : (ns : List Node) (P Q : List Node → ℕ → Type 0) (m : Built) (g : List Node → ℕ → Built)
-    → ((ms : List Node) (i : ℕ) → Step ns ms → i < length ms → P ms i → Result ms Q (g ms i)) → Result ns P m → Result ns Q (then m g)
-result-then ns P Q (built ms i) g f x = up (g ms i) (f ms i (x .0) (x .1) (x .2))
+-- what is made of a result that is folded, unless it is a NaN
+pub unless-nan : (ns : List Node) (Q : List Node → ℕ → Type 0) (f : Option Float → Option Built) (z : Float)
+    → Fires ns Q (f none) → (isNan z ≡ false → Fires ns Q (f (some z))) → Fires ns Q (f (unlessNaN (some z)))
+unless-nan ns Q f z h g = go (isNan z) refl
   where
-    up : (m : Built) → Result ms Q m → Result ns Q m
-    up (built os j) y = (trans (x .0) (y .0), y .1, y .2)
-    up (stopped os r) y = trans (x .0) y
-result-then ns P Q (stopped ms r) g f x = x
-
-abbrev pub Fires : List Node → (List Node → ℕ → Type 0) → Option Built → Type 0
-Fires ns Q none = Unit {0}
-Fires ns Q (some m) = Result ns Q m
-
-module _ (ns : List Node) (Q : List Node → ℕ → Type 0) where
-  pub or-fires : (x y : Option Built) → Fires ns Q x → Fires ns Q y → Fires ns Q (orElse x y)
-  or-fires none y a b = b
-  or-fires (some m) y a b = a
-
-  pub if-fires : (b : Bool) (m : Built) → (b ≡ true → Result ns Q m) → Fires ns Q (when b m)
-  if-fires true m f = f refl
-  if-fires false m f = tt
-
-  pub cond-fires : (b : Bool) (x y : Option Built) → (b ≡ true → Fires ns Q x) → Fires ns Q y → Fires ns Q (cond b x y)
-  cond-fires true x y f g = f refl
-  cond-fires false x y f g = g
-
-  -- what is made of a result that is folded, unless it is a NaN
-  pub unless-nan : (f : Option Float → Option Built) (z : Float) → Fires ns Q (f none) → (isNan z ≡ false → Fires ns Q (f (some z))) → Fires ns Q (f (unlessNaN (some z)))
-  unless-nan f z h g = go (isNan z) refl
-    where
-      go : (b : Bool) → isNan z ≡ b → Fires ns Q (f (cond b none (some z)))
-      go true e = h
-      go false e = g e
-
-pub and-true : (a b : Bool) → a && b ≡ true → (a ≡ true) × (b ≡ true)
-and-true true b e = (refl, e)
-and-true false b e = absurd (false≢true e)
-
-pub eqb-is : (a b : ℕ) → eqb a b ≡ true → a ≡ b
-eqb-is a b e = eqb→eq a b (subst T (sym e) tt)
+    go : (b : Bool) → isNan z ≡ b → Fires ns Q (f (cond b none (some z)))
+    go true e = h
+    go false e = g e
 
 -- ---- what the tests on constants say
 zero-inv : (o : Option Float) → isZero o ≡ true → (x : Float) × (o ≡ some x) × (eq x zero64 ≡ true)
@@ -94,7 +59,7 @@ module _ (ns : List Node) (s : Sound ns) where
   F : ℕ → Tree
   F = formula ns
 
-  constant-is : (a : ℕ) (x : Float) → a < length ns → constantValue (at ns a) ≡ some x → IsConstant (formula ns a) x
+  pub constant-is : (a : ℕ) (x : Float) → a < length ns → constantValue (at ns a) ≡ some x → IsConstant (formula ns a) x
   unfolding constantValue
   constant-is a x h e = go (eqb (at ns a .kind) 1) refl e
     where
@@ -214,7 +179,7 @@ pub constantly : (l : Lent) (ns : List Node) (z : Float) → Sound ns → Number
 unfolding internConstant
 constantly l ns z s h = interned l ns (node 1 (toBits binary64 z) 0 []) s (record { low = tt; filled = λ t. absurd t; number = nanBits-is binary64 (toBits binary64 z) ∙ ap isNan (ofBits-toBits binary64 z (h .0)) ∙ h .1 })
 
-const-stands : (l : Lent) (ns : List Node) (z : Float) (t : Tree) → Sound ns → Number z → Replaces (constantTree z) t → Result ns (λ ms i. Replaces (formula ms i) t) (internConstant l ns z)
+pub const-stands : (l : Lent) (ns : List Node) (z : Float) (t : Tree) → Sound ns → Number z → Replaces (constantTree z) t → Result ns (λ ms i. Replaces (formula ms i) t) (internConstant l ns z)
 const-stands l ns z t s h g = result-map ns (λ ms i. formula ms i ≡ constantTree z) (λ ms i. Replaces (formula ms i) t) (internConstant l ns z) (λ ms i st e. subst (λ u. Replaces u t) (sym e) g) (constantly l ns z s h)
 
 pub added : (l : Lent) (ns : List Node) (a b : ℕ) → Sound ns → a < length ns → b < length ns → Result ns (λ ms i. formula ms i ≡ binary 2 0 3 (formula ns a) (formula ns b)) (internAdd l ns a b)
@@ -226,7 +191,7 @@ unfolding internMul
 multiplied l ns a b s ha hb = interned l ns (node 4 0 3 (a ∷ b ∷ [])) s (record { low = (ha, (hb, tt)); filled = λ t. omega arith; number = refl })
 
 -- ---- the patterns for two children
-no-div : (p f : ℕ) (a b t : Tree) → Replaces t (binary 5 p f a b)
+pub no-div : (p f : ℕ) (a b t : Tree) → Replaces t (binary 5 p f a b)
 unfolding Exact
 no-div p f a b t x = absurd (x .1)
 
@@ -325,13 +290,13 @@ module _ (L : FloatLaws) (l : Lent) (ns : List Node) (s : Sound ns) where
     merges-add pq w' g none none ex ey = tt
 
   module _ (p f a b : ℕ) (ha : a < length ns) (hb : b < length ns) where
-    abbrev Q : ℕ → List Node → ℕ → Type 0
+    abbrev pub Q : ℕ → List Node → ℕ → Type 0
     Q k ms i = Replaces (formula ms i) (binary k p f (formula ns a) (formula ns b))
 
-    is-zero : (c : ℕ) → c < length ns → isZero (constantValue (at ns c)) ≡ true → (r : Reading) → valueOf r (formula ns c) ≡ zeroValue
+    pub is-zero : (c : ℕ) → c < length ns → isZero (constantValue (at ns c)) ≡ true → (r : Reading) → valueOf r (formula ns c) ≡ zeroValue
     is-zero c h e r = let (x, ek, ez) = zero-inv (constantValue (at ns c)) e in constant-is ns s c x h ek .value r ∙ L .zero-is x ez
 
-    is-one : (c : ℕ) → c < length ns → isOne (constantValue (at ns c)) ≡ true → (r : Reading) → valueOf r (formula ns c) ≡ oneValue
+    pub is-one : (c : ℕ) → c < length ns → isOne (constantValue (at ns c)) ≡ true → (r : Reading) → valueOf r (formula ns c) ≡ oneValue
     is-one c h e r = let (x, ek, ez) = one-inv (constantValue (at ns c)) e in constant-is ns s c x h ek .value r ∙ L .one-is x ez
 
     zero-stands : (k : ℕ) → Replaces (constantTree zero64) (binary k p f (formula ns a) (formula ns b)) → Result ns (Q k) (internConstant l ns zero64)
@@ -381,7 +346,7 @@ module _ (L : FloatLaws) (l : Lent) (ns : List Node) (s : Sound ns) where
         (if-fires ns (Q 6) (isZero (constantValue (at ns a)) && isPositive (constantValue (at ns b))) (internConstant l ns zero64) (λ e. zero-stands 6 (no-pow p f (formula ns a) (formula ns b) (constantTree zero64))))))
 
     -- a case for one kind serves the kind k that passed the test
-    kinded : (k j : ℕ) (m : Option Built) → Fires ns (Q j) m → eqb k j ≡ true → Fires ns (Q k) m
+    pub kinded : (k j : ℕ) (m : Option Built) → Fires ns (Q j) m → eqb k j ≡ true → Fires ns (Q k) m
     kinded k j m x e = subst (λ i. Fires ns (Q i) m) (sym (eqb-is k j e)) x
 
     id-fires : (k : ℕ) → Fires ns (Q k) (identities l ns k a b)
@@ -429,7 +394,7 @@ module _ (L : FloatLaws) (l : Lent) (ns : List Node) (s : Sound ns) where
     both-fire k (some x) none ex ey = tt
     both-fire k (some x) (some y) ex ey = folded-fires k x y (constant-is ns s a x ha ex) (constant-is ns s b y hb ey)
 
-    fold-fires : (k : ℕ) → Fires ns (Q k) (constantFold l ns k a b)
+    pub fold-fires : (k : ℕ) → Fires ns (Q k) (constantFold l ns k a b)
     unfolding constantFold
     fold-fires k = both-fire k (constantValue (at ns a)) (constantValue (at ns b)) refl refl
 
@@ -464,7 +429,7 @@ module _ (L : FloatLaws) (l : Lent) (ns : List Node) (s : Sound ns) where
         (cond-fires ns (Q k) (eqb k 2) (addCoefMerge l ns a b) none (kinded k 2 (addCoefMerge l ns a b) add-merges) tt)
 
   -- ---- all patterns
-  neg-fires : (p f a : ℕ) → a < length ns → Fires ns (λ ms i. Replaces (formula ms i) (tree 8 p f (cons (formula ns a) nil))) (negDouble ns a)
+  pub neg-fires : (p f a : ℕ) → a < length ns → Fires ns (λ ms i. Replaces (formula ms i) (tree 8 p f (cons (formula ns a) nil))) (negDouble ns a)
   neg-fires p f a ha = cond-fires ns _ (eqb (at ns a .kind) 8) _ _ (λ e. go e (at ns a .children) refl) tt
     where
       n : Node
@@ -493,42 +458,9 @@ module _ (L : FloatLaws) (l : Lent) (ns : List Node) (s : Sound ns) where
   all-fire k p f (a ∷ b ∷ c ∷ r) low = tt
 
   -- ---- rebuilding
-  pairs-lower : (vs ks : List ℕ) → Pairs Replaces ns vs ks → Lower (length ns) vs
-  pairs-lower [] [] h = tt
-  pairs-lower [] (k ∷ ks) h = absurd h
-  pairs-lower (v ∷ vs) [] h = absurd h
-  pairs-lower (v ∷ vs) (k ∷ ks) h = (h .0 .0, pairs-lower vs ks (h .1))
-
-  pairs-length : (vs ks : List ℕ) → Pairs Replaces ns vs ks → length vs ≡ length ks
-  pairs-length [] [] h = refl
-  pairs-length [] (k ∷ ks) h = absurd h
-  pairs-length (v ∷ vs) [] h = absurd h
-  pairs-length (v ∷ vs) (k ∷ ks) h = ap suc (pairs-length vs ks (h .1))
-
   pub rebuilds : (i : ℕ) (vs : List ℕ) → i < length ns → Pairs Replaces ns vs (at ns i .children) → Result ns (λ ms j. Replaces (formula ms j) (formula ns i)) (rebuildOrMatch l ns i vs)
   unfolding rebuildOrMatch
-  rebuilds i vs hi ps = go (tryApply l ns (n .kind) vs) (all-fire (n .kind) (n .payload) 0 vs low)
-    where
-      n : Node
-      n = at ns i
-
-      low : Lower (length ns) vs
-      low = pairs-lower vs (n .children) ps
-
-      is : formula ns i ≡ tree (n .kind) (n .payload) (n .flags) (forest (formula ns) (n .children))
-      is = opened ns i hi (s i hi .low)
-
-      same : (f : ℕ) → Replaces (tree (n .kind) (n .payload) f (forest (formula ns) vs)) (formula ns i)
-      same f = subst (λ t. Replaces (tree (n .kind) (n .payload) f (forest (formula ns) vs)) t) (sym is) (replaces-cong ns (n .kind) (n .payload) (n .flags) f vs (n .children) ps)
-
-      pick : (b : Bool) → Result ns (λ ms j. Replaces (formula ms j) (formula ns i)) (cond b (built ns i) (intern l ns (node (n .kind) (n .payload) (rebuiltFlags (n .kind) (length vs)) vs)))
-      pick true = (stay ns s, hi, replaces-refl (formula ns i))
-      pick false =
-          result-map ns (λ ms j. formula ms j ≡ over ns (node (n .kind) (n .payload) (rebuiltFlags (n .kind) (length vs)) vs)) (λ ms j. Replaces (formula ms j) (formula ns i)) (intern l ns (node (n .kind) (n .payload) (rebuiltFlags (n .kind) (length vs)) vs))
-          (λ ms j st e. subst (λ t. Replaces t (formula ns i)) (sym e) (same (rebuiltFlags (n .kind) (length vs))))
-          (interned l ns (node (n .kind) (n .payload) (rebuiltFlags (n .kind) (length vs)) vs) s
-          (record { low = low; filled = λ t. omega (arith, s i hi .filled t, pairs-length vs (n .children) ps); number = s i hi .number }))
-
-      go : (o : Option Built) → Fires ns (λ ms j. Replaces (formula ms j) (tree (n .kind) (n .payload) 0 (forest (formula ns) vs))) o → Result ns (λ ms j. Replaces (formula ms j) (formula ns i)) (rebuilt l ns i vs o)
-      go none x = pick (sameChildren (n .children) vs)
-      go (some m) x = result-map ns (λ ms j. Replaces (formula ms j) (tree (n .kind) (n .payload) 0 (forest (formula ns) vs))) (λ ms j. Replaces (formula ms j) (formula ns i)) m (λ ms j st g. replaces-trans g (same 0)) x
+  rebuilds i vs hi ps =
+      let n = at ns i in
+      rebuilt-stands Replaces replaces-refl (λ a b c. replaces-trans) replaces-cong l ns s i vs hi ps (tryApply l ns (n .kind) vs)
+      (all-fire (n .kind) (n .payload) 0 vs (pairs-lower Replaces ns vs (n .children) ps))

@@ -10,6 +10,7 @@ use lib.Dec.{leb, eqb}
 use Rattle.definitions.specs.Limits.{mostSheetBytes, mostRecords}
 use Rattle.definitions.specs.Refusals.{badSheet, badRecord, tooManyRecords}
 use Rattle.definitions.specs.Intern.{Lent}
+use Rattle.definitions.specs.Walk.{standard}
 use Rattle.definitions.specs.Machine.{variable, constant, operator, Call, store, simplify, Answer, stored, simplified, pruned, refused, State, empty, call, answers, states, run}
 use Rattle.definitions.specs.Sheet.{callOn, operandId, Ran, ran, cut, recordCall, refusalOf, records, sheet}
 use Rattle.definitions.specs.SheetCalls.{recordCalls, sheetCalls, Ends, whole, bySheet, byCall, AsCalls}
@@ -102,7 +103,7 @@ sheet-as-calls l s (v ∷ bs) = by-test (eqb v 1 && leb (length (v ∷ bs)) most
 
 -- the calls of 01's sheet
 pub example-calls : sheetCalls (record { nodes = 512; slots = 1024 }) empty sheetBytes
-    ≡ store (variable 7) ∷ store (constant 0) ∷ store (operator 0 3 (0 ∷ 1 ∷ [])) ∷ simplify 2 255 100 ∷ []
+    ≡ store (variable 7) ∷ store (constant 0) ∷ store (operator 0 3 (0 ∷ 1 ∷ [])) ∷ simplify standard 2 255 100 ∷ []
 unfolding sheetCalls
 example-calls = refl
 

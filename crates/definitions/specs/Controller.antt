@@ -6,6 +6,7 @@ use mathlib.Core.Path.{_≡_}
 use mathlib.Core.Bool.{Bool}
 use mathlib.Core.List.{List, [], _∷_}
 pub use Rattle.definitions.specs.Lists.{LentLists, Controller, emptyController}
+use Rattle.definitions.specs.Walk.{Mode}
 use Rattle.definitions.specs.Machine.{Store, Call, store, simplify, prune, pruneBySetting, Answer, State, state, call}
 use Rattle.definitions.specs.Machine as Machine
 use Rattle.definitions.specs.Names.{NameCall, internName, lookupName, nameOf, NameAnswer, nameCall}
@@ -18,7 +19,7 @@ use Rattle.text_language.specs.Reading.{Verdict, refuses, denotes, verdict}
 -- each call with any arguments; a call names no list, for it gets the controller's
 pub data ControllerCall : Type 0 where
   building : Store → ControllerCall
-  simplifying : ℕ → ℕ → ℕ → ControllerCall
+  simplifying : Mode → ℕ → ℕ → ℕ → ControllerCall
   pruning : ℕ → ℕ → ControllerCall
   pruningBySetting : ℕ → ℕ → ControllerCall
   naming : NameCall → ControllerCall
@@ -76,7 +77,7 @@ onText l s (denotes e) = fromMade (make l e s)
 unfoldable pub controllerCall : LentLists → Controller → ControllerCall → AfterCall
 unfolding call nameCall make verdict
 controllerCall l s (building c) = onStore l s (store c)
-controllerCall l s (simplifying i depth budget) = onStore l s (simplify i depth budget)
+controllerCall l s (simplifying m i depth budget) = onStore l s (simplify m i depth budget)
 controllerCall l s (pruning i t) = onStore l s (prune i t)
 controllerCall l s (pruningBySetting i n) = onStore l s (pruneBySetting i n)
 controllerCall l s (naming c) = onNames l s c
@@ -97,7 +98,7 @@ controllers l s (c ∷ cs) = let a = controllerCall l s c in a .left ∷ control
 -- a call of the store is one of the controller's
 abbrev pub asked : Call → ControllerCall
 asked (store c) = building c
-asked (simplify i depth budget) = simplifying i depth budget
+asked (simplify m i depth budget) = simplifying m i depth budget
 asked (prune i t) = pruning i t
 asked (pruneBySetting i n) = pruningBySetting i n
 
@@ -115,7 +116,7 @@ pub data Part : Type 0 where
 -- the parts that a call takes: it is refused with 20 where one of these is not sound, and heeds no other
 abbrev pub takes : ControllerCall → List Part
 takes (building c) = storePart ∷ []
-takes (simplifying i depth budget) = storePart ∷ []
+takes (simplifying m i depth budget) = storePart ∷ []
 takes (pruning i t) = storePart ∷ []
 takes (pruningBySetting i n) = storePart ∷ []
 takes (naming c) = namesPart ∷ []
@@ -124,7 +125,7 @@ takes (reading text) = storePart ∷ namesPart ∷ []
 -- the parts that a call is not lent
 abbrev pub untaken : ControllerCall → List Part
 untaken (building c) = namesPart ∷ []
-untaken (simplifying i depth budget) = namesPart ∷ []
+untaken (simplifying m i depth budget) = namesPart ∷ []
 untaken (pruning i t) = namesPart ∷ []
 untaken (pruningBySetting i n) = namesPart ∷ []
 untaken (naming c) = storePart ∷ []
@@ -133,7 +134,7 @@ untaken (reading text) = []
 -- the parts that a call leaves as they are, whatever it answers: a name call changes no node, a store call no name; a reading may change both
 abbrev pub spares : ControllerCall → List Part
 spares (building c) = namesPart ∷ []
-spares (simplifying i depth budget) = namesPart ∷ []
+spares (simplifying m i depth budget) = namesPart ∷ []
 spares (pruning i t) = namesPart ∷ []
 spares (pruningBySetting i n) = namesPart ∷ []
 spares (naming (internName name)) = storePart ∷ []

@@ -11,7 +11,12 @@ use Rattle.definitions.specs.Walk.{standard, marked}
 use Rattle.definitions.specs.Exact.{constantBound}
 use Rattle.definitions.specs.Sheet.{sheet}
 use Rattle.definitions.specs.Listing.{listing}
-use Rattle.definitions.specs.Machine.{Store, variable, constant, add, sub, mul, div, operator, Call, store, simplify, prune, Answer, stored, simplified, pruned, refused, State, state, empty, answers, run}
+use Rattle.definitions.specs.Machine as Machine
+use Rattle.definitions.specs.Machine.{Store, variable, constant, add, sub, mul, div, operator, Call, store, prune, Answer, stored, simplified, pruned, refused, State, state, empty, answers, run}
+
+-- a walk that is not strict
+abbrev simplify : ℕ → ℕ → ℕ → Call
+simplify i depth budget = Machine.simplify standard i depth budget
 
 -- the listing program's store
 abbrev pub lent : Lent

@@ -4,6 +4,7 @@ pub mod Refusals
 pub mod Node
 pub mod Intern
 pub mod Patterns
+pub mod Strict
 pub mod Walk
 pub mod Prune
 pub mod Threshold
@@ -13,6 +14,7 @@ pub mod Formula
 pub mod Dyadic
 pub mod Value
 pub mod Exact
+pub mod Evaluation
 pub mod ExactExamples
 pub mod Chain
 pub mod Names
@@ -28,3 +30,4 @@ pub mod SheetCalls
 pub mod Listing
 pub mod NoNaN
 pub mod Examples
+pub mod StrictExamples

@@ -9,7 +9,7 @@ use Rattle.definitions.specs.Limits.{mostDepth, mostTerms, firstTableSiz
 use Rattle.definitions.specs.Refusals.{badOperand, badCode, notANumber, badChildCount, tooManyTerms}
 use Rattle.definitions.specs.Node.{Node, node, at, variableKind, constantKind, addKind, subKind, mulKind, divKind, powKind, modKind, negKind, functionKind, controlKind, selectControl, ifElseControl, forLoopControl, lastOperator, bothFlags, nanConstant, childCountListed}
 use Rattle.definitions.specs.Intern.{Lent, Built, built, stopped, intern}
-use Rattle.definitions.specs.Walk.{Mode, standard, Walked, finished, spent, halted, walkRoot}
+use Rattle.definitions.specs.Walk.{Mode, Walked, finished, spent, halted, walkRoot}
 use Rattle.definitions.specs.Prune.{chain, keeps, filter, sumOfKept}
 use Rattle.definitions.specs.Threshold.{Threshold, bits, untouched, refusing, given}
 use Rattle.definitions.specs.Settings.{setting}
@@ -34,10 +34,10 @@ pub data Store : Type 0 where
   forLoop : ℕ → ℕ → ℕ → ℕ → Store
   control : ℕ → List ℕ → Store
 
--- simplify: id, depth limit, budget. prune: id, threshold bits. pruneBySetting: id, setting.
+-- simplify: the walk's mode (02 i), id, depth limit, budget. prune: id, threshold bits. pruneBySetting: id, setting.
 pub data Call : Type 0 where
   store : Store → Call
-  simplify : ℕ → ℕ → ℕ → Call
+  simplify : Mode → ℕ → ℕ → ℕ → Call
   prune : ℕ → ℕ → Call
   pruneBySetting : ℕ → ℕ → Call
 
@@ -171,7 +171,7 @@ onNodes s o = record { answer = o .answer; left = state (o .nodes) }
 unfoldable pub call : Lent → State → Call → After
 unfolding storeCall simplifyCall pruneCall setting
 call l s (store c) = onNodes s (storeCall l (s .nodes) (requested c))
-call l s (simplify i depth budget) = onNodes s (simplifyCall standard l (s .nodes) i depth budget)
+call l s (simplify m i depth budget) = onNodes s (simplifyCall m l (s .nodes) i depth budget)
 call l s (prune i t) = onNodes s (pruneCall l (s .nodes) i (given t))
 call l s (pruneBySetting i n) = onNodes s (pruneCall l (s .nodes) i (setting n))
 

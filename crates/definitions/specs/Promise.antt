@@ -1,8 +1,8 @@
--- Demand 3: what is promised of every list of store, simplify, prune and name calls and readings.
+-- Demand 3: what is promised of every list of store, simplify (strict ones too), prune and name calls and readings.
 use Prim.Native.Nat.{ℕ, zero, suc, _<_, _≤_}
 use mathlib.Core.Path.{_≡_}
 use mathlib.Core.Bool.{Bool, true, false, cond}
-use mathlib.Core.List.{List, [], _∷_, map}
+use mathlib.Core.List.{List, [], _∷_, _++_, map}
 use mathlib.Core.Option.{Option, none, some}
 use lib.ListN.{length}
 use lib.Dec.{T}
@@ -10,6 +10,7 @@ use lib.Ieee.{Float, binary64, ofBits, le}
 use Rattle.definitions.specs.Refusals.{notSound, noNamePlace, noNodePlace, noSlotPlace}
 use Rattle.definitions.specs.Intern.{Lent}
 use Rattle.definitions.specs.Patterns.{one64}
+use Rattle.definitions.specs.Walk.{Mode, strict}
 use Rattle.definitions.specs.Threshold.{Threshold, bits, untouched, given}
 use Rattle.definitions.specs.Settings.{setting}
 use Rattle.definitions.specs.Node.{Node, at, nanConstant, variableKind, constantKind, addKind, subKind, mulKind, divKind, powKind, negKind, bothFlags}
@@ -21,6 +22,7 @@ use Rattle.definitions.specs.Formula.{Tree, tree, nil, cons, forest, for
 use Rattle.definitions.specs.Dyadic.{plus}
 use Rattle.definitions.specs.Value.{Reading, sumOf, valueOf}
 use Rattle.definitions.specs.Exact.{Exact}
+use Rattle.definitions.specs.Evaluation.{Evaluation, bitsOf}
 use Rattle.text_language.specs.Grammar.{sums, products, Expr, constant, variable, negated, linked, raised, Text}
 use Rattle.text_language.specs.Reading.{Refuses, Denotes}
 use Rattle.definitions.specs.Making.{make}
@@ -97,11 +99,17 @@ nth (x ∷ xs) (suc i) = nth xs i
 -- the id and the threshold of a prune
 abbrev pub prunes : ControllerCall → Option (ℕ × Threshold)
 prunes (building c) = none
-prunes (simplifying i depth budget) = none
+prunes (simplifying m i depth budget) = none
 prunes (pruning i t) = some (i, given t)
 prunes (pruningBySetting i n) = some (i, setting n)
 prunes (naming c) = none
 prunes (reading text) = none
+
+-- nodes go on by unmarked ones alone
+pub record AddsUnmarked (ns ms : List Node) : Type 0 where
+  pub new : List Node
+  pub is : ms ≡ ns ++ new
+  pub unmarked : All (λ (n : Node). n .canonical ≡ false) new
 
 -- the name that is interned or looked up
 abbrev pub spelled : NameCall → Option (List ℕ)
@@ -173,11 +181,11 @@ pub record Promise (l : LentLists) (cs : List ControllerCall) (al : List Control
   -- 02 (b), "No NaN in the store": no constant of any node is one
   pub numbers : (i id : ℕ) (s : Controller) → nth ss i ≡ some s → id < length (s .nodes)
       → nanConstant (at (s .nodes) id .kind) (at (s .nodes) id .payload) ≡ false
-  -- an answered simplify at i, of a formula of the exact kind, and a later answered prune of its answer at j, at a threshold from 0 to 1: the
-  -- simplified formula is of the exact kind too; each of the three ids is that of a node, so that none of the three formulas is what stands for
-  -- an id without one (`noFormula` of Formula.antt)
-  pub balance : (i j root depth budget id steps t answer keptCount droppedCount : ℕ) (spent : Bool) (p : ControllerCall) (s0 s1 s3 : Controller) → i < j
-      → nth cs i ≡ some (simplifying root depth budget) → nth al i ≡ some (simplified id spent steps)
+  -- an answered simplify at i, strict or not, of a formula of the exact kind, and a later answered prune of its answer at j, at a threshold from 0
+  -- to 1: the simplified formula is of the exact kind too; each of the three ids is that of a node, so that none of the three formulas is what
+  -- stands for an id without one (`noFormula` of Formula.antt)
+  pub balance : (m : Mode) (i j root depth budget id steps t answer keptCount droppedCount : ℕ) (spent : Bool) (p : ControllerCall) (s0 s1 s3 : Controller) → i < j
+      → nth cs i ≡ some (simplifying m root depth budget) → nth al i ≡ some (simplified id spent steps)
       → nth cs j ≡ some p → prunes p ≡ some (id, bits t) → nth al j ≡ some (pruned answer keptCount droppedCount)
       → nth (emptyController ∷ ss) i ≡ some s0 → nth ss i ≡ some s1 → nth ss j ≡ some s3
       → T (le (ofBits binary64 t) one64) → Exact (formula (s0 .nodes) root)
@@ -190,13 +198,23 @@ pub record Promise (l : LentLists) (cs : List ControllerCall) (al : List Control
       → (nth al j ≡ some (pruned id 1 0)) × (s' ≡ s)
   -- and after an answered simplify at i, of a formula of the exact kind, a prune of its answer at j, without a threshold, is answered so and
   -- "demand 3's value balance still holds, with nothing dropped"
-  pub untouched-balance : (i j root depth budget id steps : ℕ) (spent : Bool) (p : ControllerCall) (s0 s1 s3 : Controller) → i < j
-      → nth cs i ≡ some (simplifying root depth budget) → nth al i ≡ some (simplified id spent steps)
+  pub untouched-balance : (m : Mode) (i j root depth budget id steps : ℕ) (spent : Bool) (p : ControllerCall) (s0 s1 s3 : Controller) → i < j
+      → nth cs i ≡ some (simplifying m root depth budget) → nth al i ≡ some (simplified id spent steps)
       → nth cs j ≡ some p → prunes p ≡ some (id, untouched)
       → nth (emptyController ∷ ss) i ≡ some s0 → nth ss i ≡ some s1 → nth ss j ≡ some s3
       → Exact (formula (s0 .nodes) root)
       → (root < length (s0 .nodes)) × (id < length (s1 .nodes)) × (id < length (s3 .nodes)) × (nth al j ≡ some (pruned id 1 0))
       × ((r : Reading) → valueOf r (formula (s0 .nodes) root) ≡ valueOf r (formula (s3 .nodes) id))
+  -- 02 (i), an answered strict walk at i, spent or not, of any formula: "For every formula and all binary64 variable values, evaluating before and
+  -- after gives the same bits, all NaNs counted as one"
+  pub same-bits : (i root depth budget id steps : ℕ) (spent : Bool) (s0 s1 : Controller)
+      → nth cs i ≡ some (simplifying strict root depth budget) → nth al i ≡ some (simplified id spent steps)
+      → nth (emptyController ∷ ss) i ≡ some s0 → nth ss i ≡ some s1
+      → (root < length (s0 .nodes)) × (id < length (s1 .nodes)) × ((e : Evaluation) → bitsOf e (formula (s1 .nodes) id) ≡ bitsOf e (formula (s0 .nodes) root))
+  -- and "A strict walk sets .. no marks", whatever it answers: it adds unmarked nodes and leaves each other one as it was
+  pub no-marks : (i root depth budget : ℕ) (s0 s1 : Controller)
+      → nth cs i ≡ some (simplifying strict root depth budget) → nth (emptyController ∷ ss) i ≡ some s0 → nth ss i ≡ some s1
+      → AddsUnmarked (s0 .nodes) (s1 .nodes)
   -- an answered number is that of the name that the call was given
   pub names-numbered : (i number : ℕ) (name : List ℕ) (c : NameCall) (s' : Controller)
       → nth cs i ≡ some (naming c) → spelled c ≡ some name → nth al i ≡ some (numbered number) → nth ss i ≡ some s'

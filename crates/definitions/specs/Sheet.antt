@@ -8,6 +8,7 @@ use lib.Dec.{leb, ltb, eqb}
 use Rattle.definitions.specs.Limits.{mostSheetBytes, mostRecords}
 use Rattle.definitions.specs.Refusals.{badSheet, badRecord, tooManyRecords}
 use Rattle.definitions.specs.Intern.{Lent}
+use Rattle.definitions.specs.Walk.{Mode, standard, strict}
 use Rattle.definitions.specs.Machine.{Store, variable, constant, add, sub, mul, div, pow, modulo, neg, operator, function, select, ifElse, forLoop, control, Call, store, simplify, prune, pruneBySetting, Answer, stored, simplified, pruned, refused, State, After, call}
 
 -- ---- a record's body as a call on record numbers
@@ -63,9 +64,9 @@ unfolding operands
 controlBody [] = none
 controlBody (o ∷ r) = withOperands (λ os. store (control o os)) (operands r)
 
--- 06 operand, depth(1), budget(4)
-abbrev pub simplifyBody : List ℕ → Option Call
-simplifyBody bs = sized 7 bs (simplify (bigEndian (take 2 bs)) (getD bs 2 0) (bigEndian (drop 3 bs)))
+-- 06 operand, depth(1), budget(4); a strict walk's "sheet body is 08, laid out as 06" (02 i)
+abbrev pub simplifyBody : Mode → List ℕ → Option Call
+simplifyBody m bs = sized 7 bs (simplify m (bigEndian (take 2 bs)) (getD bs 2 0) (bigEndian (drop 3 bs)))
 
 -- 07 operand, threshold bits(8)
 abbrev pub pruneBody : List ℕ → Option Call
@@ -81,8 +82,9 @@ body (k ∷ r) =
     (cond (eqb k 3) (operatorBody r)
     (cond (eqb k 4) (functionBody r)
     (cond (eqb k 5) (controlBody r)
-    (cond (eqb k 6) (simplifyBody r)
-    (cond (eqb k 7) (pruneBody r) none))))))
+    (cond (eqb k 6) (simplifyBody standard r)
+    (cond (eqb k 7) (pruneBody r)
+    (cond (eqb k 8) (simplifyBody strict r) none)))))))
 
 -- ---- the call on ids
 
@@ -105,7 +107,7 @@ storeOn f (control o c) = control o (map f c)
 
 abbrev pub callOn : (ℕ → ℕ) → Call → Call
 callOn f (store c) = store (storeOn f c)
-callOn f (simplify i depth budget) = simplify (f i) depth budget
+callOn f (simplify m i depth budget) = simplify m (f i) depth budget
 callOn f (prune i t) = prune (f i) t
 callOn f (pruneBySetting i n) = pruneBySetting (f i) n
 

@@ -8,6 +8,7 @@ use lib.Dec.{leb, ltb, eqb}
 use Rattle.definitions.specs.Node.{Node, node, at, sameChildren, addKind, mulKind, bothFlags}
 use Rattle.definitions.specs.Intern.{Lent, Built, built, stopped, intern}
 use Rattle.definitions.specs.Patterns.{tryApply}
+use Rattle.definitions.specs.Strict.{strictApply}
 
 -- ---- what a finished frame gives
 
@@ -26,21 +27,30 @@ unfoldable pub rebuildOrMatch : Lent → List Node → ℕ → List ℕ → Buil
 unfolding tryApply intern
 rebuildOrMatch l ns i c = rebuilt l ns i c (tryApply l ns (at ns i .kind) c)
 
--- ---- how a walk goes: which mark it heeds and sets, and how it rebuilds
+-- with the strict patterns (02 i)
+unfoldable pub rebuildStrictly : Lent → List Node → ℕ → List ℕ → Built
+unfolding strictApply intern
+rebuildStrictly l ns i c = rebuilt l ns i c (strictApply l ns (at ns i .kind) c)
+
+-- ---- how a walk goes: which mark it heeds and sets, and how it rebuilds; "A strict walk sets and heeds no marks" (02 i)
 pub data Mode : Type 0 where
   standard : Mode
+  strict : Mode
 
 abbrev pub heeds : Mode → Node → Bool
 heeds standard n = n .canonical
+heeds strict n = false
 
 abbrev pub canonicalAfter : Mode → Bool → Bool
 canonicalAfter standard b = true
+canonicalAfter strict b = b
 
 abbrev pub marked : Mode → Node → Node
 marked m n = record { kind = n .kind; payload = n .payload; flags = n .flags; canonical = canonicalAfter m (n .canonical); children = n .children }
 
 abbrev pub rebuildAs : Mode → Lent → List Node → ℕ → List ℕ → Built
 rebuildAs standard l ns i c = rebuildOrMatch l ns i c
+rebuildAs strict l ns i c = rebuildStrictly l ns i c
 
 -- ---- a turn
 
@@ -80,7 +90,7 @@ finish m fs vs (stopped ns r) = stop ns r
 
 -- "A finished frame is rebuilt and its result marked": over the last values, one a child
 unfoldable pub ascend : Mode → Lent → List Node → Frame → List Frame → List ℕ → Turn
-unfolding rebuildOrMatch
+unfolding rebuildOrMatch rebuildStrictly
 ascend m l ns f fs vs =
     let n = length (at ns (f .id) .children) in
     finish m fs (drop n vs) (rebuildAs m l ns (f .id) (reverseOnto (take n vs) []))
