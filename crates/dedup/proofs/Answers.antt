@@ -21,14 +21,14 @@ use Rattle.definitions.specs.Refusals.{noNodePlace, noSlotPlace}
 use Rattle.definitions.specs.Intern.{capacity}
 use Rattle.dedup.specs.Table.{Table, hashAt}
 use Rattle.dedup.specs.Insert.{FirstFree, Fits, Rehashed}
-use Rattle.dedup.specs.Intern.{answered, newAnswer, internAnswer, wordsAfter, SlotsKept, Interns, Absent}
+use Rattle.dedup.specs.Intern.{answered, newAnswer, internAnswer, wordsAfter, Interns, Absent}
 use Rattle.dedup.proofs.Doubling.{at-least, doubled-twice}
-use Rattle.dedup.proofs.Placing.{still, table-add, past-add}
+use Rattle.dedup.proofs.Inserting.{table-add, past-add}
 
 -- an old node
 pub old-answer : (w slots : List ℕ) (a : DagArena) (key : DagNode) (id : ℕ) → find w (a .count) key ≡ some id → Nodes w (a .count) → Table (hashAt w) (a .count) slots (a .size) → Interns w slots a key (answered (Old id) (a .count) (a .size)) w slots
-unfolding internAnswer wordsAfter SlotsKept
-old-answer w slots a key id e s t = record { answer = rw e refl; words-after = refl; slots-kept = refl; slots-past = refl; nodes = s; table = t }
+unfolding internAnswer wordsAfter
+old-answer w slots a key id e s t = record { answer = rw e refl; words-after = refl; slots-past = refl; nodes = s; table = t }
 
 module _ (w slots : List ℕ) (a : DagArena) (key : DagNode) (place : ℕ) (x : Absent w slots a key place) where
   abbrev count : ℕ
@@ -42,8 +42,8 @@ module _ (w slots : List ℕ) (a : DagArena) (key : DagNode) (place : ℕ) (x : 
   new r e = rw (x .absent) e
 
   refuse : (k : ℕ) → answered (Refused k) count size ≡ newAnswer (length w) (length slots) count size → Interns w slots a key (answered (Refused k) count size) w slots
-  unfolding wordsAfter SlotsKept
-  refuse k e = record { answer = new _ e; words-after = refl; slots-kept = refl; slots-past = refl; nodes = x .nodes; table = x .table }
+  unfolding wordsAfter
+  refuse k e = record { answer = new _ e; words-after = refl; slots-past = refl; nodes = x .nodes; table = x .table }
 
   pub refuse-count : mostNodes ≤ count → Interns w slots a key (answered (Refused noNodePlace) count size) w slots
   unfolding newAnswer
@@ -79,11 +79,10 @@ module _ (w slots : List ℕ) (a : DagArena) (key : DagNode) (place : ℕ) (x : 
         free′ = rw new-hash (x .free)
 
         pub added : Interns w slots a key (answered (New count) (count + 1) size) w′ (set slots place (count + 1))
-        unfolding newAnswer wordsAfter SlotsKept
+        unfolding newAnswer wordsAfter
         added = record {
           answer = new _ (rw (no-21, le-leb (count + 1) (capacity size) (omega arith)) refl);
           words-after = refl;
-          slots-kept = λ _. still (hashAt w) count slots size (x .table) (hashAt w′) old-hash place free′ (omega arith);
           slots-past = past-add (hashAt w) count slots size (x .table) (hashAt w′) old-hash place free′ (omega arith);
           nodes = nodes′;
           table = table-add (hashAt w) count slots size (x .table) (hashAt w′) old-hash place free′ (omega arith);
@@ -102,11 +101,10 @@ module _ (w slots : List ℕ) (a : DagArena) (key : DagNode) (place : ℕ) (x : 
         )
 
         pub added-doubled : (slots′ : List ℕ) → Rehashed (hashAt w′) (count + 1) slots (size * 2) slots′ → Interns w slots a key (answered (New count) (count + 1) (size * 2)) w′ slots′
-        unfolding newAnswer wordsAfter SlotsKept
+        unfolding newAnswer wordsAfter
         added-doubled slots′ r = record {
           answer = new _ (rw (no-21, lt-leb (count + 1) (capacity size) (omega arith), le-ltb (length slots) (size * 2) (omega arith)) refl);
           words-after = refl;
-          slots-kept = λ same. absurd (let p = at-least size (x .table .doubled) in omega arith);
           slots-past = r .past;
           nodes = nodes′;
           table = r .table;

@@ -1,7 +1,6 @@
 -- What the audit tests makes up the table and keeps nodes apart, and follows from them.
 use Prim.Native.Nat.{ℕ, suc, _+_, _-_, _%_, _≤_, _<_}
-use mathlib.Core.Path.{_≡_, refl, sym, ap, _∙_, subst}
-use mathlib.Core.Bool.{true}
+use mathlib.Core.Path.{_≡_, sym, ap, _∙_, subst}
 use mathlib.Core.List.{List}
 use lib.ListN.{length, getD}
 use native.Mathlib.Omega.{arith}
@@ -12,22 +11,20 @@ use Rattle.arena.specs.Nodes.{AllWellFormed, Nodes}
 use Rattle.definitions.proofs.Deciding.{is-false}
 use Rattle.arena.proofs.OneNode.{one-hash}
 use Rattle.definitions.specs.Intern.{capacity}
-use Rattle.dedup.specs.Table.{TableSize, slotFrom, Placed, Table, hashAt}
-use Rattle.dedup.specs.Probe.{holds}
+use Rattle.dedup.specs.Table.{TableSize, slotFrom, Placed, InOrder, Table, hashAt}
 use Rattle.dedup.specs.Audit.{usedSlots, MeetsOwn, AllMeetOwn}
 use Rattle.dedup.proofs.Doubling.{positive}
-use Rattle.dedup.proofs.Rounds.{round-apart}
 use Rattle.dedup.proofs.Pigeon.{pigeon}
-use Rattle.dedup.proofs.Searching.{held, reached-in}
+use Rattle.dedup.proofs.Inserting.{order-filled, table-order}
 use Rattle.dedup.proofs.UsedSlots.{used-lt, used-apart, used-at}
-use Rattle.dedup.proofs.OwnSlots.{own-apart}
+use Rattle.dedup.proofs.OwnSlots.{own-placed, own-apart}
 
 module _ (w : List ℕ) (count : ℕ) (slots : List ℕ) (size : ℕ) where
   -- ---- the audit's tests make up the table
   module _ (own : AllMeetOwn w count slots size) (number : usedSlots slots size ≡ count) where
     -- the place of an id's slot
     abbrev placeBy : (i : ℕ) → Dec (i < count) → ℕ
-    placeBy i (yes l) = own i l .place
+    placeBy i (yes l) = (hashAt w i + own i l .far) % size
     placeBy i (no n) = 0
 
     abbrev placeOf : ℕ → ℕ
@@ -37,14 +34,14 @@ module _ (w : List ℕ) (count : ℕ) (slots : List ℕ) (size : ℕ) where
     place-in i l = go (decLt i count)
       where
         go : (d : Dec (i < count)) → placeBy i d < size
-        go (yes m) = reached-in w count slots size (nodeAt w i) (own i m .place) (own i m .reached)
+        go (yes m) = let n = own i m .near in mod-lt _ (omega arith)
         go (no n) = absurd (n l)
 
     place-value : (i : ℕ) → i < count → getD slots (placeOf i) 0 ≡ suc i
     place-value i l = go (decLt i count)
       where
         go : (d : Dec (i < count)) → getD slots (placeBy i d) 0 ≡ suc i
-        go (yes m) = own i m .value
+        go (yes m) = own i m .here
         go (no n) = absurd (n l)
 
     place-used : (i : ℕ) → i < count → getD slots (placeOf i) 0 ≡ 0 → ⊥
@@ -110,58 +107,60 @@ module _ (w : List ℕ) (count : ℕ) (slots : List ℕ) (size : ℕ) where
         go (yes z) = omega arith
         go (no n) = let a = covered p lp n .0 in omega arith
 
-    placed : (i : ℕ) → i < count → Placed slots size (hashAt w i) (suc i)
-    placed i l = let m = own i l in record { far = m .reached .far; near = m .reached .near; here = ap (λ (x : ℕ). getD slots x 0) (sym (m .reached .is)) ∙ m .value; used = m .reached .passed .used }
-
     pub sound-of : AllWellFormed w count → TableSize size → size ≤ length slots → count ≤ capacity size → Nodes w count × Table (hashAt w) count slots size
     sound-of f t s l = (
       record {
         formed = f;
-        apart = λ i j li lj o. own-apart w count slots size i j li lj (f .each i li .hashed ∙ one-hash (nodeAt w i) (nodeAt w j) o ∙ sym (f .each j lj .hashed)) o (own i li) (own j lj);
+        apart = λ i j li lj o. own-apart w slots size i j (f .each i li .hashed ∙ one-hash (nodeAt w i) (nodeAt w j) o ∙ sym (f .each j lj .hashed)) o (own i li) (own j lj);
       },
-      record { doubled = t; sized = s; load = l; placed = placed; single = single; only = only },
+      record {
+        doubled = t;
+        sized = s;
+        load = l;
+        filled = order-filled (hashAt w) count slots size (positive size t) (omega arith) s (record { placed = λ i li. own-placed w slots size i (own i li); single = single; only = only });
+      },
     )
 
   -- ---- and follow from it
   module _ (s : Nodes w count) (t : Table (hashAt w) count slots size) where
-    turn : (h : ℕ) → h % size < size
-    turn h = mod-lt h (positive size (t .doubled))
+    o : InOrder (hashAt w) count slots size
+    o = table-order (hashAt w) count slots size t
 
-    module _ (i : ℕ) (l : i < count) where
-      m : Placed slots size (hashAt w i) (suc i)
-      m = t .placed i l
+    pub meets-own : (i : ℕ) → i < count → MeetsOwn w slots size i
+    meets-own i l = record {
+      far = m .far;
+      near = m .near;
+      here = m .here;
+      before = λ d ld.
+          let e = m .earlier d ld in
+          let used = e .0 in
+          let below = e .1 in
+          record { used = used; lower = omega arith; other = is-false _ (λ h. let same = s .apart (slotFrom slots size (hashAt w i) d - 1) i (omega arith) l h in omega arith) };
+    }
+      where
+        m : Placed slots size (hashAt w i) (suc i)
+        m = o .placed i l
 
-      elsewhere : (d : ℕ) → d < m .far → holds w count (nodeAt w i) (slotFrom slots size (hashAt w i) d) ≡ true → ⊥
-      elsewhere d ld h =
-          let r = held w count (nodeAt w i) (slotFrom slots size (hashAt w i) d) h in
-          let same : slotFrom slots size (hashAt w i) d - 1 ≡ i = s .apart _ i (r .1) l (r .2) in
-          let value : slotFrom slots size (hashAt w i) d ≡ suc i = (let p = r .0 in omega arith) in
-          round-apart (hashAt w i) d (m .far) size ld (m .near) (t .single _ _ (turn (hashAt w i + d)) (turn (hashAt w i + m .far)) (m .used d ld) (value ∙ sym (m .here)))
-
-      pub meets-own : MeetsOwn w count slots size i
-      meets-own = record {
-        place = (hashAt w i + m .far) % size;
-        reached = record { far = m .far; near = m .near; is = refl; passed = record { used = m .used; other = λ d ld. is-false _ (elsewhere d ld) } };
-        value = m .here;
-      }
+    abbrev place-of : (i : ℕ) → i < count → ℕ
+    place-of i l = (hashAt w i + meets-own i l .far) % size
 
     -- each id has a slot in use
     at-least : count ≤ usedSlots slots size
     at-least = pigeon (usedSlots slots size) count (λ i. usedSlots slots (at i (decLt i count))) (λ i l. small i l (decLt i count)) (λ i j li lj e. apart i j li lj (decLt i count) (decLt j count) e)
       where
         at : (i : ℕ) → Dec (i < count) → ℕ
-        at i (yes l) = meets-own i l .place
+        at i (yes l) = place-of i l
         at i (no n) = 0
 
         full : (i : ℕ) → i < count → (d : Dec (i < count)) → getD slots (at i d) 0 ≡ suc i
-        full i l (yes k) = meets-own i k .value
+        full i l (yes k) = meets-own i k .here
         full i l (no n) = absurd (n l)
 
         in-use : (i : ℕ) → i < count → (d : Dec (i < count)) → getD slots (at i d) 0 ≡ 0 → ⊥
         in-use i l d z = let v = full i l d in omega arith
 
         small : (i : ℕ) → i < count → (d : Dec (i < count)) → usedSlots slots (at i d) < usedSlots slots size
-        small i l (yes k) = used-lt slots (meets-own i k .place) size (reached-in w count slots size (nodeAt w i) (meets-own i k .place) (meets-own i k .reached)) (in-use i l (yes k))
+        small i l (yes k) = used-lt slots (place-of i k) size (let n = meets-own i k .near in mod-lt _ (omega arith)) (in-use i l (yes k))
         small i l (no n) = absurd (n l)
 
         apart : (i j : ℕ) → i < count → j < count → (d : Dec (i < count)) (e : Dec (j < count)) → usedSlots slots (at i d) ≡ usedSlots slots (at j e) → i ≡ j
@@ -192,13 +191,13 @@ module _ (w : List ℕ) (count : ℕ) (slots : List ℕ) (size : ℕ) where
         before k l (no n) = absurd (n l)
 
         small : (k : ℕ) → k < usedSlots slots size → (d : Dec (k < usedSlots slots size)) → getD slots (at k d) 0 - 1 < count
-        small k l d = let o = t .only (at k d) (below k l d) in let n = in-use k l d in omega arith
+        small k l d = let o = o .only (at k d) (below k l d) in let n = in-use k l d in omega arith
 
         apart : (k j : ℕ) → k < usedSlots slots size → j < usedSlots slots size → (d : Dec (k < usedSlots slots size)) (e : Dec (j < usedSlots slots size)) → getD slots (at k d) 0 - 1 ≡ getD slots (at j e) 0 - 1 → k ≡ j
         apart k j lk lj d e q =
             let n = in-use k lk d in
             let n′ = in-use j lj e in
-            let same = t .single (at k d) (at j e) (below k lk d) (below j lj e) n (omega arith) in
+            let same = o .single (at k d) (at j e) (below k lk d) (below j lj e) n (omega arith) in
             sym (before k lk d) ∙ ap (usedSlots slots) same ∙ before j lj e
 
     pub number-of : usedSlots slots size ≡ count

@@ -18,6 +18,7 @@ use Rattle.dedup.specs.Probe.{holds, Passed, Frees, Finds}
 use Rattle.dedup.specs.Insert.{Room}
 use Rattle.dedup.proofs.Searching.{holds-known, held}
 use Rattle.dedup.proofs.FreePlaces.{not-round}
+use Rattle.dedup.proofs.Inserting.{table-order}
 
 -- a table with an empty slot is not passed whole
 pub not-passed : (w : List ℕ) (known : ℕ) (slots : List ℕ) (size : ℕ) (key : DagNode) → Room slots size → Passed w known slots size key size → ⊥
@@ -37,7 +38,7 @@ module _ (w : List ℕ) (count : ℕ) (slots : List ℕ) (size : ℕ) (key : Dag
     not-key i l o = before (decLt (m .far) far)
       where
         m : Placed slots size (hashAt w i) (suc i)
-        m = t .placed i l
+        m = table-order (hashAt w) count slots size t .placed i l
 
         same : hashAt w i ≡ key .hash
         same = s .formed .each i l .hashed ∙ one-hash (nodeAt w i) key o ∙ sym hashed
@@ -55,7 +56,10 @@ module _ (w : List ℕ) (count : ℕ) (slots : List ℕ) (size : ℕ) (key : Dag
         before (no p) = after (decLt far (m .far))
           where
             after : Dec (far < m .far) → ⊥
-            after (yes q) = m .used far q (ap (λ (h : ℕ). slotFrom slots size h far) same ∙ empty)
+            after (yes q) =
+                let v = m .earlier far q .0 in
+                let z : slotFrom slots size (hashAt w i) far ≡ 0 = ap (λ (h : ℕ). slotFrom slots size h far) same ∙ empty in
+                omega arith
             after (no q) =
                 let e : m .far ≡ far = omega arith in
                 let z : suc i ≡ 0 = sym here ∙ ap (slotFrom slots size (key .hash)) e ∙ empty in

@@ -8,6 +8,8 @@ pub mod FreePlaces
 pub mod TrailingZeros
 pub mod EmptySlots
 pub mod Placing
+pub mod Ordering
+pub mod Inserting
 pub mod Renewing
 pub mod Keys
 pub mod Answers

@@ -1,92 +1,90 @@
--- Where the search for a node ends, and whether that is its own slot.
-use Prim.Native.Nat.{ℕ, zero, suc, _+_, _-_, _%_, _<_}
-use mathlib.Core.Path.{_≡_, refl, sym, ap, _∙_}
-use mathlib.Core.Bool.{Bool, true, false, _&&_, false≢true}
+-- Whether the search for a node meets the slot of its own id.
+use Prim.Native.Nat.{ℕ, suc, _+_, _-_, _%_, _≤_, _<_}
+use mathlib.Core.Path.{_≡_, refl, sym, ap, _∙_, subst}
+use mathlib.Core.Bool.{true, false, false≢true}
 use mathlib.Core.List.{List}
-use mathlib.Core.Logic.{_⊎_, inl, inr}
 use lib.ListN.{getD}
-use lib.Dec.{ltb, eqb}
 use native.Mathlib.Omega.{arith}
 use native.Mathlib.Decide.{decLt}
-use Rattle.arena.specs.declared.node.DagNode.{DagNode}
+use borrow.Author.Count.{below-more}
 use Rattle.definitions.specs.Says.{Says}
+use Rattle.definitions.proofs.Deciding.{says-yes, says-no}
+use Rattle.arena.specs.declared.node.DagNode.{DagNode}
 use Rattle.arena.specs.Node.{nodeAt, one}
-use Rattle.definitions.proofs.Deciding.{says-no, says-map, says-eq}
-use Rattle.arena.proofs.OneNode.{one-refl, one-same}
-use Rattle.dedup.specs.Table.{slotFrom}
-use Rattle.dedup.specs.Probe.{holds, Passed, Reaches, Frees, Finds}
-use Rattle.dedup.specs.Audit.{MeetsOwn}
-use Rattle.dedup.proofs.Searching.{holds-known, held}
+use Rattle.arena.specs.Nodes.{AllWellFormed}
+use Rattle.arena.proofs.OneNode.{one-sym}
+use Rattle.dedup.specs.Table.{slotFrom, Placed, hashAt}
+use Rattle.dedup.specs.Probe.{holds}
+use Rattle.dedup.specs.Audit.{LowerOther, LowerBefore, MeetsOwn}
+use Rattle.dedup.proofs.Searching.{holds-known}
 
-module _ (w : List ℕ) (known : ℕ) (slots : List ℕ) (size : ℕ) (key : DagNode) where
-  -- a slot at which a search ends
-  abbrev Ends : ℕ → Type 0
-  Ends at = (getD slots at 0 ≡ 0) ⊎ (holds w known key (getD slots at 0) ≡ true)
+-- nodes below an id
+pub formed-below : (w : List ℕ) (id count : ℕ) → id < count → AllWellFormed w count → AllWellFormed w id
+formed-below w id count l f = record { many = let m = f .many in omega arith; fits = let m = f .fits in omega arith; each = λ i b. f .each i (omega arith) }
 
-  no-end : (far d at : ℕ) → Passed w known slots size key far → d < far → at ≡ (key .hash + d) % size → Ends at → ⊥
-  no-end far d at ps l is (inl z) = ps .used d l (ap (λ (x : ℕ). getD slots x 0) (sym is) ∙ z)
-  no-end far d at ps l is (inr h) = false≢true (sym (ps .other d l) ∙ ap (λ (x : ℕ). holds w known key (getD slots x 0)) (sym is) ∙ h)
-
-  -- a search ends at one place
-  ends-one : (p q : ℕ) → Reaches w known slots size key p → Reaches w known slots size key q → Ends p → Ends q → p ≡ q
-  ends-one p q a b ep eq = go (decLt (a .far) (b .far)) (decLt (b .far) (a .far))
-    where
-      go : Dec (a .far < b .far) → Dec (b .far < a .far) → p ≡ q
-      go (yes l) d = absurd (no-end (b .far) (a .far) p (b .passed) l (a .is) ep)
-      go (no l) (yes m) = absurd (no-end (a .far) (b .far) q (a .passed) m (b .is) eq)
-      go (no l) (no m) = let e : a .far ≡ b .far = omega arith in a .is ∙ ap (λ (x : ℕ). (key .hash + x) % size) e ∙ sym (b .is)
-
-holds-same : (w : List ℕ) (known : ℕ) (a b : DagNode) → one a b ≡ true → (slot : ℕ) → holds w known b slot ≡ holds w known a slot
-unfolding holds
-holds-same w known a b o zero = refl
-holds-same w known a b o (suc id) = ap (λ (x : Bool). ltb id known && x) (sym (one-same (nodeAt w id) a b o))
-
--- a search for a node that is one with another comes to the same places
-reached-same : (w : List ℕ) (known : ℕ) (slots : List ℕ) (size : ℕ) (a b : DagNode) (at : ℕ) → a .hash ≡ b .hash → one a b ≡ true → Reaches w known slots size a at → Reaches w known slots size b at
-reached-same w known slots size a b at h o r = record {
-  far = r .far;
-  near = r .near;
-  is = r .is ∙ ap (λ (x : ℕ). (x + r .far) % size) h;
-  passed = record {
-    used = λ d l z. r .passed .used d l (ap (λ (x : ℕ). slotFrom slots size x d) h ∙ z);
-    other = λ d l. holds-same w known a b o (slotFrom slots size (b .hash) d) ∙ ap (λ (x : ℕ). holds w known a (slotFrom slots size x d)) (sym h) ∙ r .passed .other d l;
-  };
-}
-
-module _ (w : List ℕ) (count : ℕ) (slots : List ℕ) (size : ℕ) where
-  -- the slot of a node's own id holds it
-  pub own-holds : (id : ℕ) → id < count → holds w count (nodeAt w id) (suc id) ≡ true
-  own-holds id l = let e : id ≡ suc id - 1 = omega arith in sym (holds-known w count (nodeAt w id) (suc id) id (omega arith) e l) ∙ one-refl (nodeAt w id)
-
-  own-end : (id : ℕ) → id < count → (m : MeetsOwn w count slots size id) → Ends w count slots size (nodeAt w id) (m .place)
-  own-end id l m = inr (ap (holds w count (nodeAt w id)) (m .value) ∙ own-holds id l)
+module _ (w slots : List ℕ) (size : ℕ) where
+  -- the slot of an id, before it only lower ones
+  pub own-placed : (id : ℕ) → MeetsOwn w slots size id → Placed slots size (hashAt w id) (suc id)
+  own-placed id m = record { far = m .far; near = m .near; here = m .here; earlier = λ d l. let b = m .before d l in let u = b .used in let k = b .lower in (u, omega arith) }
 
   -- two nodes that are one and each meet their own slot are the same node
-  pub own-apart : (i j : ℕ) → i < count → j < count → nodeAt w i .hash ≡ nodeAt w j .hash → one (nodeAt w i) (nodeAt w j) ≡ true → MeetsOwn w count slots size i → MeetsOwn w count slots size j → i ≡ j
-  own-apart i j li lj h o a b =
-      let r = reached-same w count slots size (nodeAt w i) (nodeAt w j) (a .place) h o (a .reached) in
-      let held-i : holds w count (nodeAt w j) (suc i) ≡ true = (let e : i ≡ suc i - 1 = omega arith in sym (holds-known w count (nodeAt w j) (suc i) i (omega arith) e li)) ∙ o in
-      let e = ends-one w count slots size (nodeAt w j) (a .place) (b .place) r (b .reached) (inr (ap (holds w count (nodeAt w j)) (a .value) ∙ held-i)) (own-end j lj b) in
-      let z : suc i ≡ suc j = sym (a .value) ∙ ap (λ (x : ℕ). getD slots x 0) e ∙ b .value in
-      omega arith
+  pub own-apart : (i j : ℕ) → hashAt w i ≡ hashAt w j → one (nodeAt w i) (nodeAt w j) ≡ true → MeetsOwn w slots size i → MeetsOwn w slots size j → i ≡ j
+  own-apart i j h o a b = go (decLt (a .far) (b .far)) (decLt (b .far) (a .far))
+    where
+      -- the slot of one of them is no slot that the other passes
+      not-passed : (k n far : ℕ) → slotFrom slots size (hashAt w n) far ≡ suc k → one (nodeAt w k) (nodeAt w n) ≡ true → LowerOther w n (slotFrom slots size (hashAt w n) far) → ⊥
+      not-passed k n far e same l =
+          let id : slotFrom slots size (hashAt w n) far - 1 ≡ k = omega arith in
+          false≢true (sym (l .other) ∙ ap (λ (x : ℕ). one (nodeAt w x) (nodeAt w n)) id ∙ same)
 
-  module _ (id : ℕ) (l : id < count) (n : DagNode) (is : n ≡ nodeAt w id) where
-    pub meets-here : (at v : ℕ) → v ≡ getD slots at 0 - 1 → Finds w count slots size n at → Says (eqb v id) (MeetsOwn w count slots size id)
-    meets-here at v ev f₀ = says-map _
-        (λ e. record { place = at; reached = f .reached; value = let h = held w count (nodeAt w id) (getD slots at 0) (f .held) .0 in omega arith })
-        (λ m. let e = ends-one w count slots size (nodeAt w id) at (m .place) (f .reached) (m .reached) (inr (f .held)) (own-end id l m) in
-        let q : getD slots at 0 ≡ suc id = ap (λ (x : ℕ). getD slots x 0) e ∙ m .value in omega arith)
-        (says-eq v id)
-      where
-        f : Finds w count slots size (nodeAt w id) at
-        f = rw (← is) f₀
+      go : Dec (a .far < b .far) → Dec (b .far < a .far) → i ≡ j
+      go (yes l) d = absurd (not-passed i j (a .far) (ap (λ (x : ℕ). slotFrom slots size x (a .far)) (sym h) ∙ a .here) o (b .before (a .far) l))
+      go (no l) (yes m) = absurd (not-passed j i (b .far) (ap (λ (x : ℕ). slotFrom slots size x (b .far)) h ∙ b .here) (one-sym (nodeAt w i) (nodeAt w j) o) (a .before (b .far) m))
+      go (no l) (no m) =
+          let e : a .far ≡ b .far = omega arith in
+          let z : suc i ≡ suc j = sym (a .here) ∙ ap (λ (x : ℕ). slotFrom slots size x (a .far)) h ∙ ap (slotFrom slots size (hashAt w j)) e ∙ b .here in
+          omega arith
 
-    pub meets-free : (at : ℕ) → Frees w count slots size n at → Says false (MeetsOwn w count slots size id)
-    meets-free at f₀ = says-no (λ m.
-        let f : Frees w count slots size (nodeAt w id) at = rw (← is) f₀ in
-        let e = ends-one w count slots size (nodeAt w id) at (m .place) (f .reached) (m .reached) (inl (f .empty)) (own-end id l m) in
-        let z : 0 ≡ suc id = sym (f .empty) ∙ ap (λ (x : ℕ). getD slots x 0) e ∙ m .value in
-        omega arith)
+  module _ (id : ℕ) (n : DagNode) (is : n ≡ nodeAt w id) where
+    hash-is : n .hash ≡ hashAt w id
+    hash-is = ap (λ (x : DagNode). x .hash) is
 
-    pub meets-nowhere : Passed w count slots size n size → Says false (MeetsOwn w count slots size id)
-    meets-nowhere ps = says-no (λ m. no-end w count slots size (nodeAt w id) size (m .reached .far) (m .place) (rw (← is) ps) (m .reached .near) (m .reached .is) (own-end id l m))
+    module _ (far : ℕ) (before : LowerBefore w slots size id far) where
+      -- the own slot is none of those passed
+      not-before : (m : MeetsOwn w slots size id) → m .far < far → ⊥
+      not-before m l = let b = before (m .far) l .lower in let h = m .here in omega arith
+
+      pub meets-nowhere : far ≡ size → Says false (MeetsOwn w slots size id)
+      meets-nowhere e = says-no (λ m. not-before m (let l = m .near in omega arith))
+
+      module _ (at : ℕ) (place : at ≡ (n .hash + far) % size) where
+        there : getD slots at 0 ≡ slotFrom slots size (hashAt w id) far
+        there = ap (λ (x : ℕ). getD slots x 0) (place ∙ ap (λ (h : ℕ). (h + far) % size) hash-is)
+
+        pub meets-here : far < size → getD slots at 0 ≡ suc id → Says true (MeetsOwn w slots size id)
+        meets-here l e = says-yes (record { far = far; near = l; here = sym there ∙ e; before = before })
+
+        -- a slot that is neither the own one nor of another lower node
+        meets-other : (getD slots at 0 ≡ suc id → ⊥) → (LowerOther w id (getD slots at 0) → ⊥) → Says false (MeetsOwn w slots size id)
+        meets-other not-own not-lower = says-no (λ m. go m (decLt (m .far) far) (decLt far (m .far)))
+          where
+            go : (m : MeetsOwn w slots size id) → Dec (m .far < far) → Dec (far < m .far) → ⊥
+            go m (yes l) d = not-before m l
+            go m (no l) (yes k) = not-lower (subst (LowerOther w id) (sym there) (m .before far k))
+            go m (no l) (no k) = let e : m .far ≡ far = omega arith in not-own (there ∙ ap (slotFrom slots size (hashAt w id)) (sym e) ∙ m .here)
+
+        pub meets-empty : getD slots at 0 ≡ 0 → Says false (MeetsOwn w slots size id)
+        meets-empty z = meets-other (λ e. omega arith) (λ o. let u = o .used in omega arith)
+
+        pub meets-greater : suc id < getD slots at 0 → Says false (MeetsOwn w slots size id)
+        meets-greater l = meets-other (λ e. omega arith) (λ o. let u = o .lower in omega arith)
+
+        module _ (used : 0 < getD slots at 0) (lower : getD slots at 0 ≤ id) where
+          compared : one (nodeAt w (getD slots at 0 - 1)) (nodeAt w id) ≡ holds w id n (getD slots at 0)
+          compared = ap (λ (x : DagNode). one (nodeAt w (getD slots at 0 - 1)) x) (sym is) ∙ holds-known w id n (getD slots at 0) (getD slots at 0 - 1) used refl (omega arith)
+
+          pub meets-one : holds w id n (getD slots at 0) ≡ true → Says false (MeetsOwn w slots size id)
+          meets-one h = meets-other (λ e. omega arith) (λ o. false≢true (sym (o .other) ∙ compared ∙ h))
+
+          pub one-more : holds w id n (getD slots at 0) ≡ false → LowerBefore w slots size id (far + 1)
+          one-more h = below-more _ _ before (subst (LowerOther w id) there (record { used = used; lower = lower; other = compared ∙ h }))

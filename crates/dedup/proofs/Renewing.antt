@@ -1,17 +1,14 @@
 -- A table made anew.
-use Prim.Native.Nat.{ℕ, _+_, _≤_, _<_}
-use mathlib.Core.Path.{_≡_, refl, _∙_}
+use Prim.Native.Nat.{ℕ, _+_, _≤_}
+use mathlib.Core.Path.{_≡_, refl, sym, _∙_}
 use mathlib.Core.List.{List, _++_}
-use lib.ListN.{getD, length, drop, replicate, length-replicate, getD-replicate, length-append, length-drop, List·getD-append}
-use lib.Seq.{drop-at}
+use lib.ListN.{length, drop, replicate, length-replicate, length-append, length-drop}
+use lib.Seq.{take-at, drop-at}
 use native.Mathlib.Omega.{arith}
 use Rattle.definitions.specs.Intern.{capacity}
 use Rattle.dedup.specs.Table.{TableSize, Table}
 use Rattle.dedup.specs.Insert.{Taken}
-use Rattle.dedup.proofs.Placing.{table-add, past-add}
-
-zeros : (n : ℕ) (l : List ℕ) (p : ℕ) → p < n → getD (replicate n 0 ++ drop n l) p 0 ≡ 0
-zeros n l p h = List·getD-append (replicate n 0) (drop n l) 0 p (rw length-replicate h) ∙ getD-replicate n p 0 0 h
+use Rattle.dedup.proofs.Inserting.{inserted-none, table-add, past-add}
 
 -- a table without nodes
 pub empty : (hash : ℕ → ℕ) (n : ℕ) (l : List ℕ) → TableSize n → n ≤ length l → Table hash 0 (replicate n 0 ++ drop n l) n
@@ -19,9 +16,7 @@ empty hash n l t h = record {
   doubled = t;
   sized = simp (length-append, length-replicate, length-drop) (omega arith);
   load = omega arith;
-  placed = λ i m. absurd (omega arith);
-  single = λ q r lq lr x e. absurd (x (zeros n l q lq));
-  only = λ q lq. rw (zeros n l q lq) (omega arith);
+  filled = take-at (replicate n 0) (drop n l) n (length-replicate n 0) ∙ sym (inserted-none hash n);
 }
 
 pub empty-past : (n : ℕ) (l : List ℕ) → drop n (replicate n 0 ++ drop n l) ≡ drop n l

@@ -17,7 +17,7 @@ use Rattle.dedup.specs.declared.Answer.the-variants.{Old, New, Refused}
 use Rattle.dedup.specs.declared.Interned.{Interned}
 use Rattle.definitions.specs.Refusals.{noNodePlace, noSlotPlace}
 use Rattle.definitions.specs.Intern.{capacity}
-use Rattle.dedup.specs.Table.{UsedStay, Table, hashAt}
+use Rattle.dedup.specs.Table.{Table, hashAt}
 use Rattle.dedup.specs.Probe.{greatestChild}
 use Rattle.dedup.specs.Insert.{FirstFree}
 
@@ -43,17 +43,10 @@ wordsAfter (Old id) words key = words
 wordsAfter (New id) words key = put words id key
 wordsAfter (Refused number) words key = words
 
--- only a new node changes slots: where the table keeps its size, it takes an empty one
-unfoldable pub SlotsKept : Answer → ℕ → ℕ → List ℕ → List ℕ → Type 0
-SlotsKept (Old id) size size′ slots slots′ = slots′ ≡ slots
-SlotsKept (New id) size size′ slots slots′ = size′ ≡ size → UsedStay slots slots′
-SlotsKept (Refused number) size size′ slots slots′ = slots′ ≡ slots
-
 -- the answer, the words after it, and the slots. 01: "Words and slots past the used ones stay."
 pub record Interns (words slots : List ℕ) (arena : DagArena) (key : DagNode) (r : Interned) (words′ slots′ : List ℕ) : Type 0 where
   pub answer : r ≡ internAnswer (find words (arena .count) key) (length words) (length slots) (arena .count) (arena .size)
   pub words-after : words′ ≡ wordsAfter (r .answer) words key
-  pub slots-kept : SlotsKept (r .answer) (arena .size) (r .arena .size) slots slots′
   pub slots-past : drop (r .arena .size) slots′ ≡ drop (r .arena .size) slots
   pub nodes : Nodes words′ (r .arena .count)
   pub table : Table (hashAt words′) (r .arena .count) slots′ (r .arena .size)

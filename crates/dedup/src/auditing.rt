@@ -6,11 +6,10 @@ ghost use Rattle.definitions.specs.Says.{Says};
 ghost use Rattle.arena.specs.Nodes.{AllWellFormed, Nodes};
 ghost use Rattle.dedup.specs.Table.{Table, hashAt};
 ghost use Rattle.dedup.specs.Audit.{usedSlots, Fit, MeetsOwn, AllMeetOwn};
-use crate::probing::Place;
-use crate::probing::probe;
-use crate::probing::slot_id;
+use crate::probing::slot_holds;
 use crate::sizes::is_table_size;
 use crate::sizes::load_limit;
+use crate::sizes::modulo_size;
 use arena::DagArena;
 use arena::audit_nodes;
 use arena::load;
@@ -31,17 +30,34 @@ fn used_slots(slots: &[u32], size: usize) -> usize
     used
 }
 
-// Whether the search for a node meets the slot of its own id first.
+// Whether the search for a node meets the slot of its own id, and before it only slots of lower ids, whose nodes are others.
 fn meets_own(nodes: &[u64], slots: &[u32], arena: DagArena, id: u64) -> bool
     requires { ⌜ (id < arena .count) × AllWellFormed (now nodes) (arena .count) × Fit (now slots) (arena .size) ⌝ }
-    ensures { λ r. ⌜ Says r (MeetsOwn (now (nodes .entry)) (arena .count) (now (slots .entry)) (arena .size) id) ⌝ }
+    ensures { λ r. ⌜ Says r (MeetsOwn (now (nodes .entry)) (now (slots .entry)) (arena .size) id) ⌝ }
 {
-    let found = probe(nodes, slots, arena.size, load(nodes, id), arena.count);
-    match found {
-        Place::Here(at) => slot_id(slots[at]) == id,
-        Place::Free(_) => false,
-        Place::Nowhere => false,
+    let size = arena.size;
+    let key = load(nodes, id);
+    let own = (id + 1) as u32;
+    let mut at = modulo_size(key.hash as usize, size);
+    let mut passed: usize = 0;
+    while passed < size {
+        let slot = slots[at];
+        if slot == own {
+            return true;
+        }
+        if slot == 0 {
+            return false;
+        }
+        if own < slot {
+            return false;
+        }
+        if slot_holds(nodes, slot, key, id) {
+            return false;
+        }
+        at = modulo_size(at + 1, size);
+        passed += 1;
     }
+    false
 }
 
 // Whether that holds of all nodes.

@@ -1,4 +1,4 @@
-// The search round the table, which finding, inserting and the audit share.
+// The search round the table, which finding and inserting share.
 ghost use mathlib.Core.Path.{_≡_};
 ghost use mathlib.Core.Bool.{false};
 ghost use Prim.Native.Nat.{_-_, _≤_, _<_};
@@ -51,7 +51,7 @@ pub(crate) fn greatest_child(children: [u64; MOST_CHILDREN]) -> u64
 }
 
 // Whether a slot in use holds an id below `known` whose node is one with the key. The hash is compared first.
-fn slot_holds(nodes: &[u64], slot: u32, key: DagNode, known: u64) -> bool
+pub(crate) fn slot_holds(nodes: &[u64], slot: u32, key: DagNode, known: u64) -> bool
     requires { ⌜ (0 < slot) × AllWellFormed (now nodes) known × (key .hash ≡ nodeHash key) ⌝ }
     ensures { λ r. ⌜ r ≡ holds (now (nodes .entry)) known key slot ⌝ }
 {

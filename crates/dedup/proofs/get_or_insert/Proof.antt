@@ -2,7 +2,8 @@
 use native.Mathlib.Omega.{arith}
 use borrow.Author.Needs.{needs}
 use Rattle.dedup.proofs.Searching.{was-here, was-free, was-nowhere, reached-in, held}
-use Rattle.dedup.proofs.Placing.{first-free, room}
+use Rattle.dedup.proofs.Placing.{first-free}
+use Rattle.dedup.proofs.Inserting.{room}
 use Rattle.dedup.proofs.Keys.{not-passed, found, absent}
 use Rattle.dedup.proofs.Answers.{old-answer}
 use Rattle.dedup.proofs.get_or_insert.Statement.{statement}

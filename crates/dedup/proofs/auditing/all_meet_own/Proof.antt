@@ -10,7 +10,7 @@ use Rattle.dedup.proofs.auditing.all_meet_own.Statement.{statement}
 use Rattle.dedup.proofs.auditing.all_meet_own.Tie as tie
 
 abbrev Inv-loop : tie.InvT-loop
-Inv-loop nodes slots arena count id₀ id = (id ≤ count) × ((k : ℕ) → k < id → MeetsOwn nodes (arena .count) slots (arena .size) k)
+Inv-loop nodes slots arena count id₀ id = (id ≤ count) × ((k : ℕ) → k < id → MeetsOwn nodes slots (arena .size) k)
 
 abbrev μ-loop : tie.MeasureT-loop
 μ-loop nodes slots arena count id₀ id = count - id

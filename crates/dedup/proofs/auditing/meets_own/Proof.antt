@@ -1,57 +1,131 @@
--- `dedup::auditing::meets_own` meets its contract: by where the search ends.
+-- `dedup::auditing::meets_own` meets its contract. The invariant: the slots passed hold lower ids, of other nodes.
+use Prim.Native.Nat.{ℕ, _+_, _%_, _-_, _≤_, _<_}
+use mathlib.Core.Path.{_≡_, sym, _∙_, ap}
 use native.Mathlib.Omega.{arith}
+use native.Mathlib.Nat.{mod-lt, add-zero}
+use native.Mathlib.Numerals.{add-one}
 use borrow.Author.Needs.{needs}
-use Rattle.dedup.proofs.Searching.{was-here, was-free, was-nowhere, reached-in, held}
-use Rattle.dedup.proofs.Keys.{found}
-use Rattle.dedup.proofs.OwnSlots.{meets-here, meets-free, meets-nowhere}
+use borrow.Author.Tests.{not-true, not-false}
+use Rattle.dedup.specs.Audit.{LowerBefore}
+use Rattle.dedup.proofs.Doubling.{positive}
+use Rattle.dedup.proofs.Rounds.{round-next}
+use Rattle.dedup.proofs.OwnSlots.{formed-below, meets-here, meets-empty, meets-greater, meets-one, one-more, meets-nowhere}
 use Rattle.dedup.proofs.auditing.meets_own.Statement.{statement}
 use Rattle.dedup.proofs.auditing.meets_own.Tie as tie
 
-load-requires : tie.Need-load-requires
-load-requires c κs = let f = c .before .before .pre .1 .fits in let l = c .before .before .pre .0 in omega arith
+abbrev Inv-loop : tie.InvT-loop
+Inv-loop nodes slots id size key own at₀ passed₀ at passed = (at ≡ (key .hash + passed) % size) × (at < size) × (passed ≤ size) × LowerBefore nodes slots size id passed
 
-probe-requires : tie.Need-probe-requires
-probe-requires c κs = record { doubled = c .before .before .before .pre .2 .doubled; sized = c .before .before .before .pre .2 .sized; formed = c .before .before .before .pre .1; hashed = rw (c .load .ensures) (c .before .before .before .pre .1 .each _ (c .before .before .before .pre .0) .hashed) }
+abbrev μ-loop : tie.MeasureT-loop
+μ-loop nodes slots id size key own at₀ passed₀ at passed = size - passed
 
-enum-known-found : tie.Need-enum-known-found
-enum-known-found c = search needs
+load-requires : tie.Need-load-requires Inv-loop μ-loop
+load-requires c κs = let start = c .before .before in let f = start .pre .1 .fits in let l = start .pre .0 in omega arith
 
-mul-slot-id : tie.Need-mul-slot-id
-mul-slot-id c = let h = reached-in _ _ _ _ _ _ ((was-here _ _ _ _ _ _ _ (c .before .found .given .1) (c .before .before .before .probe .ensures)) .reached) in let l = c .before .before .before .before .before .before .before .pre .2 .sized in search needs
+add-own : tie.Need-add-own Inv-loop μ-loop
+add-own c = let start = c .before .before .before in let f = start .pre .1 .many in let l = start .pre .0 in search needs
 
-shared-slice-read-slot-id : tie.Need-shared-slice-read-slot-id
-shared-slice-read-slot-id c = let h = reached-in _ _ _ _ _ _ ((was-here _ _ _ _ _ _ _ (c .before .before .found .given .1) (c .before .before .before .before .probe .ensures)) .reached) in let l = c .before .before .before .before .before .before .before .before .pre .2 .sized in omega arith
+cast-own : tie.Need-cast-own Inv-loop μ-loop
+cast-own c = let start = c .before .before .before in let f = start .pre .1 .many in let l = start .pre .0 in search needs
 
-slot-id-requires : tie.Need-slot-id-requires
-slot-id-requires c κs = held _ _ _ _ ((was-here _ _ _ _ _ _ _ (c .before .before .found .given .1) (c .before .before .before .before .probe .ensures)) .held) .0
+modulo-size-requires : tie.Need-modulo-size-requires Inv-loop μ-loop
+modulo-size-requires c κs = c .before .before .before .pre .2 .doubled
 
-enum-told : tie.Need-enum-told
-enum-told c = search needs
+loop-holds : tie.Need-loop-holds Inv-loop μ-loop
+loop-holds c =
+    let start = c .before .before .before .before in
+    let key = c .before .load .result in (
+      c .modulo-size .ensures ∙ ap (λ (x : ℕ). x % start .args .arena .size) (let same : key .hash ≡ key .hash + 0 = omega arith in same),
+      rw (c .modulo-size .ensures) (mod-lt _ (positive _ (start .pre .2 .doubled))),
+      omega arith,
+      λ d l. absurd (omega arith),
+    )
 
-enum-told-2 : tie.Need-enum-told-2
-enum-told-2 c = search needs
+mul-slot : tie.Need-mul-slot Inv-loop μ-loop
+mul-slot c = let l = c .before .before .before .before .before .before .pre .2 .sized in search needs
 
-returns : tie.Need-returns
-returns c = meets-here _ _ _ _ _ (c .before .before .before .before .before .before .before .before .before .pre .0) _ (c .before .before .before .before .before .before .load .ensures) _ _ (c .slot-id .ensures) (was-here _ _ _ _ _ _ _ (c .before .before .before .found .given .1) (c .before .before .before .before .before .probe .ensures))
+shared-slice-read-slot : tie.Need-shared-slice-read-slot Inv-loop μ-loop
+shared-slice-read-slot c = let l = c .before .before .before .before .before .before .before .pre .2 .sized in omega arith
 
-returns-2 : tie.Need-returns-2
-returns-2 c = meets-free _ _ _ _ _ (c .before .before .before .before .before .before .pre .0) _ (c .before .before .before .load .ensures) _ (was-free _ _ _ _ _ _ _ (c .enum-told .given .1) (c .before .before .probe .ensures))
+returns : tie.Need-returns Inv-loop μ-loop
+returns c =
+    let i = c .before .before .before .loop .inv in
+    meets-here _ _ _ _ _ (c .before .before .before .before .before .load .ensures) _ (i .3) _ (i .0) (c .before .before .loop-test .taken) (let e = c .if1 .taken in omega arith)
 
-returns-3 : tie.Need-returns-3
-returns-3 c = meets-nowhere _ _ _ _ _ (c .before .before .before .before .before .before .pre .0) _ (c .before .before .before .load .ensures) (was-nowhere _ _ _ _ _ _ (c .enum-told2 .given .1) (c .before .before .probe .ensures))
+returns-2 : tie.Need-returns-2 Inv-loop μ-loop
+returns-2 c =
+    let i = c .before .before .before .before .loop .inv in
+    meets-empty _ _ _ _ _ (c .before .before .before .before .before .before .load .ensures) _ (i .3) _ (i .0) (c .if2 .taken)
+
+returns-3 : tie.Need-returns-3 Inv-loop μ-loop
+returns-3 c =
+    let i = c .before .before .before .before .before .loop .inv in
+    meets-greater _ _ _ _ _ (c .before .before .before .before .before .before .before .load .ensures) _ (i .3) _ (i .0) (let l = c .if3 .taken in omega arith)
+
+slot-holds-requires : tie.Need-slot-holds-requires Inv-loop μ-loop
+slot-holds-requires c κs =
+    let start = c .before .before .before .before .before .before .before .before .before .before in
+    let formed = start .pre .1 in
+    let used = c .before .if2 .left in
+    (omega arith, formed-below _ _ _ (start .pre .0) formed, rw (c .before .before .before .before .before .before .before .load .ensures) (formed .each _ (start .pre .0) .hashed))
+
+returns-4 : tie.Need-returns-4 Inv-loop μ-loop
+returns-4 c =
+    let i = c .before .before .before .before .before .before .before .loop .inv in
+    let used = c .before .before .before .if2 .left in
+    let lower = c .before .before .if3 .left in
+    let own = c .before .before .before .before .if1 .left in
+    meets-one _ _ _ _ _ (c .before .before .before .before .before .before .before .before .before .load .ensures) _ (i .3) _ (i .0) (omega arith) (omega arith) (sym (c .before .slot-holds .ensures) ∙ c .if4 .taken)
+
+add-modulo-size : tie.Need-add-modulo-size Inv-loop μ-loop
+add-modulo-size c = let l = c .before .before .before .before .before .before .before .before .before .before .before .before .pre .2 .sized in search needs
+
+modulo-size-requires-2 : tie.Need-modulo-size-requires-2 Inv-loop μ-loop
+modulo-size-requires-2 c κs = c .before .before .before .before .before .before .before .before .before .before .before .before .pre .2 .doubled
+
+add-passed : tie.Need-add-passed Inv-loop μ-loop
+add-passed c = search needs
+
+loop-less : tie.Need-loop-less Inv-loop μ-loop
+loop-less c = search needs
+
+loop-again : tie.Need-loop-again Inv-loop μ-loop
+loop-again c =
+    let start = c .before .before .before .before .before .before .before .before .before .before .before .before .before in
+    let i = c .before .before .before .before .before .before .before .before .loop .inv in
+    let used = c .before .before .before .before .if2 .left in
+    let lower = c .before .before .before .if3 .left in
+    let own = c .before .before .before .before .before .if1 .left in (
+      c .modulo-size2 .ensures ∙ ap (λ (x : ℕ). (x + 1) % start .args .arena .size) (i .0) ∙ round-next _ _ _,
+      rw (c .modulo-size2 .ensures) (mod-lt _ (positive _ (start .pre .2 .doubled))),
+      omega arith,
+      one-more (start .args .nodes .now) (start .args .slots .now) (start .args .arena .size) (start .args .id) _ (c .before .before .before .before .before .before .before .before .before .before .load .ensures) _ (i .3) _ (i .0) (omega arith) (omega arith) (sym (c .before .before .slot-holds .ensures) ∙ c .before .if4 .left),
+    )
+
+returns-5 : tie.Need-returns-5 Inv-loop μ-loop
+returns-5 c = meets-nowhere _ _ _ _ _ (c .before .before .before .load .ensures) _ (c .before .loop .inv .3) (let l = c .before .loop .inv .2 in omega arith)
 
 pub meets-own-spec : {M : Type 1} → statement M
 meets-own-spec =
     tie.close
     (tie.spec
+    Inv-loop
+    μ-loop
     load-requires
-    probe-requires
-    enum-known-found
-    mul-slot-id
-    shared-slice-read-slot-id
-    slot-id-requires
-    enum-told
-    enum-told-2
+    add-own
+    cast-own
+    modulo-size-requires
+    loop-holds
+    mul-slot
+    shared-slice-read-slot
     returns
     returns-2
-    returns-3)
+    returns-3
+    slot-holds-requires
+    returns-4
+    add-modulo-size
+    modulo-size-requires-2
+    add-passed
+    loop-less
+    loop-again
+    returns-5)

@@ -6,7 +6,7 @@ use lib.ListN.{drop, length}
 use native.Mathlib.Omega.{arith}
 use borrow.Author.Needs.{needs}
 use Rattle.dedup.specs.Table.{Table, hashAt}
-use Rattle.dedup.proofs.Placing.{room}
+use Rattle.dedup.proofs.Inserting.{room}
 use Rattle.dedup.proofs.Renewing.{empty, empty-past, table-more, past-more}
 use Rattle.dedup.proofs.filling.rehash.Statement.{statement}
 use Rattle.dedup.proofs.filling.rehash.Tie as tie
