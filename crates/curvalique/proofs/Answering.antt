@@ -1,13 +1,13 @@
 -- From a call's record to what it says in numbers.
 use Prim.Native.Nat.{ℕ, zero, suc}
 use mathlib.Core.Path.{_≡_, refl, sym, ap, _∙_, subst}
-use mathlib.Core.Bool.{true, false, false≢true}
+use mathlib.Core.Bool.{false}
 use mathlib.Core.List.{List}
 use native.Mathlib.Omega.{arith}
 use Rattle.arena.specs.declared.DagArena.{DagArena}
 use Rattle.definitions.specs.Machine as M
 use Rattle.store.specs.Memory.{Memory, memory, Leaves}
-use Rattle.curvalique.specs.Calls.{arenaOf, lentMemory, unlessRefused, OutputsStay, SpentOrNot, numberOf, isRefused, Left, SpentLeft}
+use Rattle.outputs.specs.Calls.{arenaOf, lentMemory, unlessRefused, OutputsStay, SpentOrNot, isRefused, Left, SpentLeft}
 use Rattle.curvalique.proofs.Refusals.{never-0}
 
 -- what is left is the answer, and what is returned its number
@@ -43,19 +43,3 @@ pub simplify-in-numbers : (c : M.Call) (m : Memory) (words slots : List ℕ) (ar
 simplify-in-numbers c m words slots arena count size answer r left before after spent h e l s =
     let n = in-numbers c m words slots arena count size answer r left before after h e l in
     (n .0, (n .1, λ z. s (not-refused c m (memory words slots arena) answer r left before after h l z)))
-
--- ---- leaving an answer
-
-pub left-answered : (answer left : M.Answer) (before after : List ℕ) → answer ≡ left → isRefused left ≡ false → numberOf left ≡ 0 → Left answer 0 left before after
-left-answered answer left before after e n z = record {
-  number = sym (ap numberOf e ∙ z);
-  answered = λ _. sym e;
-  refused = λ t. absurd (false≢true (sym n ∙ sym (ap isRefused e) ∙ t));
-}
-
-pub left-refused : (answer left : M.Answer) (number : ℕ) (out : List ℕ) → answer ≡ M.refused number → Left answer number left out out
-left-refused answer left number out e = record {
-  number = sym (ap numberOf e);
-  answered = λ t. absurd (false≢true (sym t ∙ ap isRefused e));
-  refused = λ _. refl;
-}

@@ -2,10 +2,10 @@
 use Prim.Native.Nat.{ℕ, zero, suc, min}
 use mathlib.Core.Path.{_≡_, refl, sym, ap, _∙_, subst}
 use mathlib.Core.Bool.{Bool, true, false, cond, false≢true}
-use mathlib.Core.List.{List, []}
+use mathlib.Core.List.{List, [], _∷_}
 use mathlib.Core.Option.{Option, none, some}
 use native.Mathlib.Omega.{arith}
-use lib.ListN.{length, getD}
+use lib.ListN.{length, getD, drop}
 use lib.Dec.{ltb}
 use Rattle.definitions.specs.Names.{NameCall, internName, lookupName, nameOf, NameAnswer, numbered, unknown, named, refused, NameResult, answers, nameCall, numberFrom, lengthAllowed, internAt, lookupAt, mostNames}
 use Rattle.definitions.specs.Refusals.{badNameLength, noNamePlace}
@@ -14,8 +14,8 @@ use Rattle.names.specs.declared.Answer.the-variants.{Numbered, Unknown, Named, 
 use Rattle.names.specs.declared.NameBytes.{NameBytes}
 use Rattle.names.specs.Calls.{answerOf, Called, NameCalled, plainly, bytesBeside, Fits}
 use Rattle.names.specs.Sound.{Sound, lentEntries, namesOf}
-use Rattle.curvalique.specs.Calls.{OutputsStay}
-use Rattle.curvalique.specs.NameCalls.{nameUnlessRefused, numberIfKnown, nameIfKnown, Known, Padded}
+use Rattle.outputs.specs.Calls.{OutputsStay}
+use Rattle.outputs.specs.NameCalls.{nameUnlessRefused, numberIfKnown, nameIfKnown, Known, Padded, nameOutputs}
 
 -- what each call may answer; no refusal has the number 0
 abbrev pub internAnswer : NameAnswer → Bool
@@ -136,21 +136,39 @@ module _ (bytes : List ℕ) (count : ℕ) where
     given : (answer : Answer) → found .answer ≡ answer → Called bytes count (nameOf n) (answerOf answer (found .bytes)) bytes count
     given answer e = subst (λ (a : Answer). Called bytes count (nameOf n) (answerOf a (found .bytes)) bytes count) e (h .called)
 
-    pub never-numbered : (number : ℕ) → found .answer ≡ Numbered number → ⊥
+    never-numbered : (number : ℕ) → found .answer ≡ Numbered number → ⊥
     never-numbered number e = name-fits n (numbered number) bytes count (given (Numbered number) e) refl
 
-    pub name-unknown : (size : ℕ) (out kept before after : List ℕ) → found .answer ≡ Unknown
+    name-unknown : (size : ℕ) (out kept before after : List ℕ) → found .answer ≡ Unknown
         → Called bytes count (nameOf n) (nameUnlessRefused 0 (nameIfKnown 0 size out)) bytes count × (Known 0 0 kept kept × (Padded 0 0 size out × OutputsStay 0 before after))
     name-unknown size out kept before after e = (given Unknown e, (not-known kept, (λ _ p. absurd (omega arith), λ p. absurd (omega arith))))
 
     padded : (size : ℕ) → found .answer ≡ Named size → Padded 0 1 size (found .bytes)
     padded size e = λ _ _. (subst Fits e (h .fits), h .beside ∙ ap (λ (a : Answer). bytesBeside (answerOf a (found .bytes))) e)
 
-    pub name-known : (size : ℕ) (before after before′ after′ : List ℕ) → found .answer ≡ Named size
+    name-known : (size : ℕ) (before after before′ after′ : List ℕ) → found .answer ≡ Named size
         → Called bytes count (nameOf n) (nameUnlessRefused 0 (nameIfKnown 1 size (found .bytes))) bytes count × (Known 0 1 before after × (Padded 0 1 size (found .bytes) × OutputsStay 0 before′ after′))
     name-known size before after before′ after′ e = (given (Named size) e, (is-known before after, (padded size e, λ p. absurd (omega arith))))
 
-    pub name-not-given : (number known size : ℕ) (out before after kept : List ℕ) → found .answer ≡ Refused number
+    name-not-given : (number known size : ℕ) (out before after kept : List ℕ) → found .answer ≡ Refused number
         → Called bytes count (nameOf n) (nameUnlessRefused number (nameIfKnown known size out)) bytes count × (Known number known before after × (Padded number known size out × OutputsStay number kept kept))
     name-not-given zero known size out before after kept e = absurd (name-fits n (refused 0) bytes count (given (Refused 0) e) refl)
     name-not-given (suc number) known size out before after kept e = (given (Refused (suc number)) e, (λ z. absurd (omega arith), (λ z _. absurd (omega arith), λ _. refl)))
+
+    -- what a list of outputs says of the name
+    abbrev InNumbers : ℕ → ℕ → List ℕ → List ℕ → Type 0
+    InNumbers known size out outputs =
+        Called bytes count (nameOf n) (nameUnlessRefused (getD outputs 0 0) (nameIfKnown (getD outputs 1 0) (getD outputs 2 0) (drop 3 outputs))) bytes count
+        × (Known (getD outputs 0 0) (getD outputs 1 0) (size ∷ out) (drop 2 outputs)
+        × (Padded (getD outputs 0 0) (getD outputs 1 0) (getD outputs 2 0) (drop 3 outputs) × OutputsStay (getD outputs 0 0) (known ∷ size ∷ out) (drop 1 outputs)))
+
+    by-answer : (a : Answer) (known size : ℕ) (out : List ℕ) → found .answer ≡ a → InNumbers known size out (nameOutputs a (found .bytes) known size out)
+    by-answer (Numbered number) known size out e = absurd (never-numbered number e)
+    by-answer Unknown known size out e = name-unknown size out (size ∷ out) (known ∷ size ∷ out) (0 ∷ size ∷ out) e
+    by-answer (Named found-size) known size out e = name-known found-size (size ∷ out) (found-size ∷ found .bytes) (known ∷ size ∷ out) (1 ∷ found-size ∷ found .bytes) e
+    by-answer (Refused number) known size out e = name-not-given number known size out (size ∷ out) (size ∷ out) (known ∷ size ∷ out) e
+
+    -- a name in numbers
+    pub name-in-numbers : (r known′ size′ : ℕ) (out′ : List ℕ) (known size : ℕ) (out : List ℕ)
+        → r ∷ known′ ∷ size′ ∷ out′ ≡ nameOutputs (found .answer) (found .bytes) known size out → InNumbers known size out (r ∷ known′ ∷ size′ ∷ out′)
+    name-in-numbers r known′ size′ out′ known size out e = subst (InNumbers known size out) (sym e) (by-answer (found .answer) known size out refl)

@@ -10,7 +10,7 @@ use Rattle.builder.specs.declared.opening.FreshStore.the-variants.{Store, Refus
 use Rattle.builder.specs.Opens.{Opens, freshAnswer}
 use Rattle.definitions.specs.Machine.{freshRefused}
 use Rattle.store.specs.View.{lent}
-use Rattle.curvalique.specs.Calls.{arenaOf, OutputsStay}
+use Rattle.outputs.specs.Calls.{arenaOf, OutputsStay}
 use Rattle.curvalique.specs.Opening.{freshUnlessRefused}
 
 module _ (words slots slots′ : List ℕ) (opened : FreshStore) (h : Opens words slots opened slots′) where

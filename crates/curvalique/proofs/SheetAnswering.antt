@@ -9,8 +9,9 @@ use Rattle.listing_lines.specs.declared.Outcome.{Outcome}
 use Rattle.listing_lines.specs.declared.Outcome.the-variants.{Ok, Empty, Spent, Refused}
 use Rattle.sheet.specs.declared.Ran.{Ran}
 use Rattle.sheet.specs.Sheets.{Runs, RunsFresh}
-use Rattle.curvalique.specs.Calls.{arenaOf, lentMemory}
-use Rattle.curvalique.specs.SheetCalls.{sheetOutcome, sheetOutputs, sheetRan}
+use Rattle.outputs.specs.Calls.{arenaOf, lentMemory}
+use Rattle.outputs.specs.SheetCalls.{sheetOutcome, sheetOutputs}
+use Rattle.curvalique.specs.SheetRuns.{sheetRan}
 use Rattle.curvalique.proofs.SheetRefusals.{runs-never-0, fresh-never-0}
 
 -- the outcome that the numbers of a list say
@@ -24,10 +25,6 @@ same-outcome Empty form id at never = refl
 same-outcome (Spent root) form id at never = refl
 same-outcome (Refused zero refusedAt) form id at never = absurd (never refusedAt refl)
 same-outcome (Refused (suc number) refusedAt) form id at never = refl
-
--- what equal outcomes leave
-pub leaves-same : (o o′ : Outcome) (form id at : ℕ) → o ≡ o′ → sheetOutputs o′ form id at ≡ sheetOutputs o form id at
-leaves-same o o′ form id at e = sym (ap (λ (x : Outcome). sheetOutputs x form id at) e)
 
 module _ (o : Outcome) (count size : ℕ) (arena : DagArena) (r form′ id′ at′ form id at : ℕ)
     (a : arenaOf count size ≡ arena) (e : r ∷ form′ ∷ id′ ∷ at′ ∷ [] ≡ sheetOutputs o form id at) where

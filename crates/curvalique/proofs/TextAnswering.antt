@@ -17,7 +17,7 @@ use Rattle.text_language.specs.Reading.{Refuses, empty, long, outside, deep, na
 use Rattle.text.specs.Memory.{ControllerMemory, controllerMemory, controllerOf, lentOf}
 use Rattle.text.specs.Making.{outcome}
 use Rattle.text.specs.Reading.{Reads, unsound, refused, read}
-use Rattle.curvalique.specs.Calls.{arenaOf, OutputsStay, Left}
+use Rattle.outputs.specs.Calls.{arenaOf, OutputsStay, Left}
 use Rattle.curvalique.specs.TextCalls.{idUnlessRefused}
 
 -- an id, or a refusal with a number from 1 on

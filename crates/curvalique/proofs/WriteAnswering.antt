@@ -6,7 +6,7 @@ use native.Mathlib.Omega.{arith}
 use Rattle.writer.specs.Writing.{Lists, Writes, unsound, unknown, textless, tooLong, written}
 use Rattle.writer.specs.declared.Answer.{Answer}
 use Rattle.writer.specs.declared.Answer.the-variants.{Length, Refused}
-use Rattle.curvalique.specs.Calls.{OutputsStay}
+use Rattle.outputs.specs.Calls.{OutputsStay}
 use Rattle.curvalique.specs.Writing.{lengthUnlessRefused}
 
 module _ {m : Lists} {id : ℕ} {buffer : List ℕ} where

@@ -1,9 +1,5 @@
-pub mod Calls
 pub mod Opening
 pub mod Reading
-pub mod NameCalls
-pub mod Forms
-pub mod SheetCalls
-pub mod ListingCalls
+pub mod SheetRuns
 pub mod TextCalls
 pub mod Writing

@@ -2,7 +2,7 @@
 use Prim.Native.Nat.{ℕ, zero, suc}
 use Rattle.builder.specs.declared.opening.FreshStore.{FreshStore}
 use Rattle.builder.specs.declared.opening.FreshStore.the-variants.{Store, Refused}
-use Rattle.curvalique.specs.Calls.{arenaOf}
+use Rattle.outputs.specs.Calls.{arenaOf}
 
 abbrev pub freshUnlessRefused : ℕ → ℕ → ℕ → FreshStore
 freshUnlessRefused zero count size = Store (arenaOf count size)

@@ -3,20 +3,9 @@ ghost use mathlib.Core.Path.{_≡_};
 ghost use mathlib.Core.List.{[], _∷_};
 ghost use Rattle.listing_bytes.specs.Listed.{Listed};
 ghost use Rattle.listing_reader.specs.Listing.{Reading};
-ghost use Rattle.curvalique.specs.ListingCalls.{firstLineOutputs, readAnswer, readOutputs};
-use crate::forms::EMPTY;
-use crate::forms::OK;
-use crate::forms::REFUSED;
-use crate::forms::SPENT;
-use crate::leaving::ANSWERED;
+ghost use Rattle.outputs.specs.ListingCalls.{readAnswer, readOutputs};
 use listing_bytes::LISTING_BYTES;
-use listing_lines::Outcome;
-use listing_reader::Answer;
-
-// What reading a listing returns where it is not answered.
-pub const WRONG_LINE: u64 = 1;
-
-pub const TOO_FEW_WORDS: u64 = 2;
+use outputs::listings::leave_read;
 
 // The listing program's listing of a sheet; the other bytes of the array stay.
 #[no_mangle]
@@ -28,39 +17,6 @@ pub extern "C" fn curvalique_list_sheet(
     ensures { λ _. ⌜ Listed (now (sheet .entry)) (now (listing .entry)) (now (length .exit)) (now (listing .exit)) ⌝ }
 {
     *length = listing_bytes::list(sheet, listing);
-}
-
-// The first line of a listing: its form, and the numbers that stand in it.
-fn leave_first_line(
-    outcome: Outcome,
-    form: &mut u64,
-    id: &mut u64,
-    number: &mut u64,
-    record: &mut u64,
-)
-    ensures { λ _. ⌜ now (form .exit) ∷ now (id .exit) ∷ now (number .exit) ∷ now («record» .exit) ∷ [] ≡ firstLineOutputs outcome (now (id .entry)) (now (number .entry)) (now («record» .entry)) ⌝ }
-{
-    match outcome {
-        Outcome::Ok(answered) => {
-            *form = OK;
-            *id = answered;
-        }
-        Outcome::Empty => {
-            *form = EMPTY;
-        }
-        Outcome::Spent(root) => {
-            *form = SPENT;
-            *id = root;
-        }
-        Outcome::Refused {
-            number: refusal,
-            at,
-        } => {
-            *form = REFUSED;
-            *number = refusal;
-            *record = at;
-        }
-    }
 }
 
 // A listing, read into the lent words.
@@ -79,19 +35,5 @@ pub extern "C" fn curvalique_read_listing(
     ensures { λ r. ⌜ r ∷ now (count .exit) ∷ now (form .exit) ∷ now (id .exit) ∷ now (number .exit) ∷ now («record» .exit) ∷ now (line .exit) ∷ [] ≡ readOutputs (readAnswer r (now (count .exit)) (now (form .exit)) (now (id .exit)) (now (number .exit)) (now («record» .exit)) (now (line .exit))) (now (count .entry)) (now (form .entry)) (now (id .entry)) (now (number .entry)) (now («record» .entry)) (now (line .entry)) ⌝ }
 {
     let answer = listing_reader::read(bytes, nodes);
-    match answer {
-        Answer::Read {
-            outcome,
-            count: held,
-        } => {
-            *count = held;
-            leave_first_line(outcome, form, id, number, record);
-            ANSWERED
-        }
-        Answer::Refused(wrong) => {
-            *line = wrong;
-            WRONG_LINE
-        }
-        Answer::Full => TOO_FEW_WORDS,
-    }
+    leave_read(answer, count, form, id, number, record, line)
 }

@@ -2,13 +2,12 @@
 ghost use mathlib.Core.List.{[], _∷_};
 ghost use Rattle.definitions.specs.Names.{internName, lookupName, nameOf, numbered};
 ghost use Rattle.names.specs.Calls.{Called};
-ghost use Rattle.curvalique.specs.Calls.{OutputsStay};
-ghost use Rattle.curvalique.specs.NameCalls.{nameUnlessRefused, numberIfKnown, nameIfKnown, Known, Padded};
-use crate::leaving::ANSWERED;
+ghost use Rattle.outputs.specs.Calls.{OutputsStay};
+ghost use Rattle.outputs.specs.NameCalls.{nameUnlessRefused, numberIfKnown, nameIfKnown, Known, Padded};
+use outputs::leaving::ANSWERED;
+use outputs::naming::LONGEST_NAME;
+use outputs::naming::leave_name;
 use names::Answer;
-
-// 01: "Names of 1 to 32 bytes".
-const LONGEST_NAME: usize = 32;
 
 // The number of a name, which becomes known if it is not.
 #[no_mangle]
@@ -80,20 +79,5 @@ pub extern "C" fn curvalique_name(
     ensures { λ r. ⌜ OutputsStay r (now (known .entry) ∷ now (length .entry) ∷ now (bytes .entry)) (now (known .exit) ∷ now (length .exit) ∷ now (bytes .exit)) ⌝ }
 {
     let found = names::name(entries, count, number);
-    let answer = found.answer;
-    match answer {
-        Answer::Numbered(_) => ANSWERED,
-        Answer::Unknown => {
-            *known = 0;
-            ANSWERED
-        }
-        Answer::Named(size) => {
-            *known = 1;
-            *length = size;
-            let held = found.bytes;
-            *bytes = held;
-            ANSWERED
-        }
-        Answer::Refused(refusal) => refusal,
-    }
+    leave_name(found, known, length, bytes)
 }

@@ -1,10 +1,10 @@
 // A fresh store.
 ghost use mathlib.Core.List.{[], _∷_};
 ghost use Rattle.builder.specs.Opens.{Opens};
-ghost use Rattle.curvalique.specs.Calls.{OutputsStay};
+ghost use Rattle.outputs.specs.Calls.{OutputsStay};
 ghost use Rattle.curvalique.specs.Opening.{freshUnlessRefused};
-use crate::leaving::ANSWERED;
-use crate::leaving::leave_arena;
+use outputs::leaving::ANSWERED;
+use outputs::leaving::leave_arena;
 use builder::FreshStore;
 
 // A store without nodes, with the first slots empty.

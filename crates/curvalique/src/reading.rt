@@ -1,9 +1,9 @@
 // A node read back.
 ghost use mathlib.Core.Path.{_≡_};
 ghost use Rattle.arena.specs.Node.{wordsOf};
-ghost use Rattle.curvalique.specs.Calls.{arenaOf};
+ghost use Rattle.outputs.specs.Calls.{arenaOf};
 ghost use Rattle.curvalique.specs.Reading.{ReadsWords};
-use crate::leaving::ANSWERED;
+use outputs::leaving::ANSWERED;
 use arena::DagArena;
 use arena::DagNode;
 use arena::NODE_WORDS;

@@ -2,9 +2,9 @@
 ghost use mathlib.Core.List.{[], _∷_};
 ghost use Rattle.definitions.specs.Machine as M;
 ghost use Rattle.store.specs.Memory.{Leaves};
-ghost use Rattle.curvalique.specs.Calls.{lentMemory, unlessRefused, isSpent, OutputsStay, SpentOrNot};
-use crate::leaving::leave_pruned;
-use crate::leaving::leave_simplified;
+ghost use Rattle.outputs.specs.Calls.{lentMemory, unlessRefused, isSpent, OutputsStay, SpentOrNot};
+use outputs::leaving::leave_pruned;
+use outputs::leaving::leave_simplified;
 use arena::DagArena;
 
 // A walk of a root, with a depth limit and a budget of steps.

@@ -2,41 +2,12 @@
 ghost use mathlib.Core.Path.{_≡_};
 ghost use mathlib.Core.List.{[], _∷_};
 ghost use Rattle.sheet.specs.Sheets.{Runs, RunsFresh};
-ghost use Rattle.curvalique.specs.Calls.{arenaOf, lentMemory};
-ghost use Rattle.curvalique.specs.SheetCalls.{sheetOutcome, sheetOutputs, sheetRan};
-use crate::forms::EMPTY;
-use crate::forms::OK;
-use crate::forms::SPENT;
-use crate::leaving::ANSWERED;
-use crate::leaving::leave_arena;
+ghost use Rattle.outputs.specs.Calls.{arenaOf, lentMemory};
+ghost use Rattle.outputs.specs.SheetCalls.{sheetOutcome, sheetOutputs};
+ghost use Rattle.curvalique.specs.SheetRuns.{sheetRan};
 use arena::DagArena;
-use listing_lines::Outcome;
-
-// The outcome of a sheet: its form and id where every record was answered, else the record refused.
-fn leave_outcome(outcome: Outcome, form: &mut u64, id: &mut u64, record: &mut u64) -> u64
-    ensures { λ r. ⌜ r ∷ now (form .exit) ∷ now (id .exit) ∷ now («record» .exit) ∷ [] ≡ sheetOutputs outcome (now (form .entry)) (now (id .entry)) (now («record» .entry)) ⌝ }
-{
-    match outcome {
-        Outcome::Ok(answered) => {
-            *form = OK;
-            *id = answered;
-            ANSWERED
-        }
-        Outcome::Empty => {
-            *form = EMPTY;
-            ANSWERED
-        }
-        Outcome::Spent(root) => {
-            *form = SPENT;
-            *id = root;
-            ANSWERED
-        }
-        Outcome::Refused { number, at } => {
-            *record = at;
-            number
-        }
-    }
-}
+use outputs::leaving::leave_arena;
+use outputs::sheets::leave_outcome;
 
 // A sheet on any store.
 #[no_mangle]

@@ -2,9 +2,9 @@
 ghost use mathlib.Core.List.{[], _∷_};
 ghost use Rattle.text.specs.Memory.{controllerMemory};
 ghost use Rattle.text.specs.Reading.{Reads};
-ghost use Rattle.curvalique.specs.Calls.{arenaOf, OutputsStay};
+ghost use Rattle.outputs.specs.Calls.{arenaOf, OutputsStay};
 ghost use Rattle.curvalique.specs.TextCalls.{idUnlessRefused};
-use crate::leaving::leave_built;
+use outputs::leaving::leave_built;
 use arena::DagArena;
 use store::Built;
 

@@ -1,9 +1,9 @@
 // A node's text in a lent buffer.
 ghost use mathlib.Core.List.{[], _∷_};
 ghost use Rattle.writer.specs.Writing.{lists, Writes};
-ghost use Rattle.curvalique.specs.Calls.{arenaOf, OutputsStay};
+ghost use Rattle.outputs.specs.Calls.{arenaOf, OutputsStay};
 ghost use Rattle.curvalique.specs.Writing.{lengthUnlessRefused};
-use crate::leaving::ANSWERED;
+use outputs::leaving::ANSWERED;
 use arena::DagArena;
 use writer::Answer;
 

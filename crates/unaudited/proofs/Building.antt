@@ -6,7 +6,7 @@ use Rattle.arena.specs.declared.DagArena.{DagArena}
 use Rattle.definitions.specs.Machine as M
 use Rattle.store.specs.Memory.{Memory, memory}
 use Rattle.builder.specs.Stores.{BuildsSound}
-use Rattle.curvalique.specs.Calls.{arenaOf, lentMemory}
+use Rattle.outputs.specs.Calls.{arenaOf, lentMemory}
 
 pub built-left : (q : M.Request) (m : Memory) (a : M.Answer) (words slots : List ℕ) (arena : DagArena) (count size : ℕ)
     → BuildsSound q m a (memory words slots arena) → arenaOf count size ≡ arena → BuildsSound q m a (lentMemory words slots count size)

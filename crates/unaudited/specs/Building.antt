@@ -6,7 +6,7 @@ use Rattle.definitions.specs.Node as N
 use Rattle.definitions.specs.Machine as M
 use Rattle.store.specs.Memory.{Memory}
 use Rattle.builder.specs.Stores.{BuildsSound}
-use Rattle.curvalique.specs.Calls.{Left}
+use Rattle.outputs.specs.Calls.{Left}
 
 -- the request for this node: its answer, left as the number that is returned and the id behind its pointer
 pub record BuildsNode (kind payload flags : ℕ) (operands : List ℕ) (m : Memory) (id r id′ : ℕ) (m′ : Memory) : Type 0 where

@@ -10,12 +10,12 @@ ghost use Rattle.definitions.specs.Machine as M;
 ghost use Rattle.store.specs.Sound.{Sound};
 ghost use Rattle.store.specs.Memory.{Leaves};
 ghost use Rattle.builder.specs.Stores.{Asked};
-ghost use Rattle.curvalique.specs.Calls.{arenaOf, lentMemory, unlessRefused, isSpent, OutputsStay};
+ghost use Rattle.outputs.specs.Calls.{arenaOf, lentMemory, unlessRefused, isSpent, OutputsStay};
 ghost use Rattle.unaudited.specs.Building.{BuildsNode};
 use arena::DagArena;
-use curvalique::leaving::leave_built;
-use curvalique::leaving::leave_pruned;
-use curvalique::leaving::leave_simplified;
+use outputs::leaving::leave_built;
+use outputs::leaving::leave_pruned;
+use outputs::leaving::leave_simplified;
 
 // The audit alone: whether the store is sound.
 #[no_mangle]

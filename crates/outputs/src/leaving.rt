@@ -5,7 +5,7 @@ ghost use Rattle.definitions.specs.Machine as M;
 ghost use Rattle.store.specs.Memory.{answerOf};
 ghost use Rattle.walk.specs.Answers as Walk;
 ghost use Rattle.pruner.specs.Answers as Pruner;
-ghost use Rattle.curvalique.specs.Calls.{arenaOf, isSpent, Left, SpentLeft};
+ghost use Rattle.outputs.specs.Calls.{arenaOf, isSpent, Left, SpentLeft};
 use arena::DagArena;
 use store::Built;
 

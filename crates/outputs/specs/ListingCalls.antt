@@ -7,7 +7,7 @@ use Rattle.listing_lines.specs.declared.Outcome.{Outcome}
 use Rattle.listing_lines.specs.declared.Outcome.the-variants.{Ok, Empty, Spent, Refused}
 use Rattle.listing_reader.specs.declared.Answer.{Answer}
 use Rattle.listing_reader.specs.declared.Answer.the-variants.{Read, Refused as RefusedLine, Full}
-use Rattle.curvalique.specs.Forms.{okForm, emptyForm, spentForm, refusedForm}
+use Rattle.outputs.specs.Forms.{okForm, emptyForm, spentForm, refusedForm}
 
 -- ---- the first line
 

@@ -6,9 +6,7 @@ use mathlib.Core.List.{List, [], _∷_}
 use lib.Dec.{eqb}
 use Rattle.listing_lines.specs.declared.Outcome.{Outcome}
 use Rattle.listing_lines.specs.declared.Outcome.the-variants.{Ok, Empty, Spent, Refused}
-use Rattle.sheet.specs.declared.Ran.{Ran}
-use Rattle.curvalique.specs.Calls.{arenaOf}
-use Rattle.curvalique.specs.Forms.{okForm, emptyForm, spentForm}
+use Rattle.outputs.specs.Forms.{okForm, emptyForm, spentForm}
 
 -- the outcome that the number returned, the form, the id and the record say
 abbrev pub sheetOutcome : ℕ → ℕ → ℕ → ℕ → Outcome
@@ -21,7 +19,3 @@ sheetOutputs (Ok answered) form id at = 0 ∷ okForm ∷ answered ∷ at ∷ []
 sheetOutputs Empty form id at = 0 ∷ emptyForm ∷ id ∷ at ∷ []
 sheetOutputs (Spent root) form id at = 0 ∷ spentForm ∷ root ∷ at ∷ []
 sheetOutputs (Refused number refusedAt) form id at = number ∷ form ∷ id ∷ refusedAt ∷ []
-
--- an outcome, and the counts behind pointers
-abbrev pub sheetRan : Outcome → ℕ → ℕ → Ran
-sheetRan o count size = record { outcome = o; arena = arenaOf count size }

@@ -1,12 +1,12 @@
 use mathlib.Core.Path.{refl, ap, sym, _∙_}
 use mathlib.Core.Bool.{false≢true}
 use native.Mathlib.Omega.{arith}
-use Rattle.curvalique.specs.Calls.{isRefused}
-use Rattle.curvalique.proofs.Answering.{left-answered, left-refused}
+use Rattle.outputs.specs.Calls.{isRefused}
+use Rattle.outputs.proofs.Equal.{left-answered, left-refused}
 use Rattle.walk.specs.Answers.{meaning}
 use borrow.Author.Needs.{needs}
-use Rattle.curvalique.proofs.leaving.leave_simplified.Statement.{statement}
-use Rattle.curvalique.proofs.leaving.leave_simplified.Tie as tie
+use Rattle.outputs.proofs.leaving.leave_simplified.Statement.{statement}
+use Rattle.outputs.proofs.leaving.leave_simplified.Tie as tie
 
 leave-arena-requires : tie.Need-leave-arena-requires
 leave-arena-requires c κs = search needs

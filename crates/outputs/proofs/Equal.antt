@@ -1,0 +1,50 @@
+-- What equal answers leave.
+use Prim.Native.Nat.{ℕ}
+use mathlib.Core.Path.{_≡_, refl, sym, ap, _∙_}
+use mathlib.Core.Bool.{true, false, false≢true}
+use mathlib.Core.List.{List, [], _∷_, _++_}
+use Rattle.definitions.specs.Machine as M
+use Rattle.listing_lines.specs.declared.Outcome.{Outcome}
+use Rattle.listing_reader.specs.declared.Answer.{Answer}
+use Rattle.listing_reader.specs.declared.Answer.the-variants.{Read}
+use Rattle.names.specs.declared.Answer as Name
+use Rattle.outputs.specs.Calls.{numberOf, isRefused, Left}
+use Rattle.outputs.specs.SheetCalls.{sheetOutputs}
+use Rattle.outputs.specs.ListingCalls.{firstLineOutputs, readOutputs}
+use Rattle.outputs.specs.NameCalls.{nameOutputs}
+
+-- ---- a call of the store
+
+pub left-answered : (answer left : M.Answer) (before after : List ℕ) → answer ≡ left → isRefused left ≡ false → numberOf left ≡ 0 → Left answer 0 left before after
+left-answered answer left before after e n z = record {
+  number = sym (ap numberOf e ∙ z);
+  answered = λ _. sym e;
+  refused = λ t. absurd (false≢true (sym n ∙ sym (ap isRefused e) ∙ t));
+}
+
+pub left-refused : (answer left : M.Answer) (number : ℕ) (out : List ℕ) → answer ≡ M.refused number → Left answer number left out out
+left-refused answer left number out e = record {
+  number = sym (ap numberOf e);
+  answered = λ t. absurd (false≢true (sym t ∙ ap isRefused e));
+  refused = λ _. refl;
+}
+
+-- ---- a sheet, a listing read back, a name
+
+pub outcome-same : (o o′ : Outcome) (form id at : ℕ) → o ≡ o′ → sheetOutputs o′ form id at ≡ sheetOutputs o form id at
+outcome-same o o′ form id at e = sym (ap (λ (x : Outcome). sheetOutputs x form id at) e)
+
+pub first-line-same : (o o′ : Outcome) (id number at : ℕ) → o ≡ o′ → firstLineOutputs o′ id number at ≡ firstLineOutputs o id number at
+first-line-same o o′ id number at e = sym (ap (λ (x : Outcome). firstLineOutputs x id number at) e)
+
+pub answer-same : (a a′ : Answer) (count form id number at line : ℕ) → a ≡ a′ → readOutputs a′ count form id number at line ≡ readOutputs a count form id number at line
+answer-same a a′ count form id number at line e = sym (ap (λ (x : Answer). readOutputs x count form id number at line) e)
+
+pub read-same : (a : Answer) (o : Outcome) (held form′ id′ number′ at′ count form id number at line : ℕ)
+    → a ≡ Read o held → form′ ∷ id′ ∷ number′ ∷ at′ ∷ [] ≡ firstLineOutputs o id number at
+    → 0 ∷ held ∷ form′ ∷ id′ ∷ number′ ∷ at′ ∷ line ∷ [] ≡ readOutputs a count form id number at line
+read-same a o held form′ id′ number′ at′ count form id number at line e f =
+    ap (λ (xs : List ℕ). 0 ∷ held ∷ (xs ++ line ∷ [])) f ∙ answer-same a (Read o held) count form id number at line e
+
+pub name-same : (a a′ : Name.Answer) (held : List ℕ) (known size : ℕ) (bytes : List ℕ) → a ≡ a′ → nameOutputs a′ held known size bytes ≡ nameOutputs a held known size bytes
+name-same a a′ held known size bytes e = sym (ap (λ (x : Name.Answer). nameOutputs x held known size bytes) e)
