@@ -39,29 +39,27 @@ not-listed (naming (N.lookupName w)) h = h
 not-listed (naming (N.nameOf n)) h = h
 not-listed (reading text) h = h
 
--- 20 before others: if a number is none of these, it is neither 20 nor one of them
-abbrev Neither : ℕ → List ℕ → Type 0
-Neither number ks = (number ≡ notSound → ⊥) × (T (among number ks) → ⊥)
-
-neither : (number : ℕ) (ks : List ℕ) → (T (among number (notSound ∷ ks)) → ⊥) → Neither number ks
-neither number ks h = (λ e. h (subst (λ (n : ℕ). T (among n (notSound ∷ ks))) (sym e) tt), by (eqb number notSound) h)
+-- one of a list is one of a longer list
+pub among-more : (number k : ℕ) (ks : List ℕ) → T (among number ks) → T (among number (k ∷ ks))
+among-more number k ks t = by (eqb number k)
   where
-    by : (b : Bool) → (T (b || among number ks) → ⊥) → T (among number ks) → ⊥
-    by true h t = h tt
-    by false h t = h t
+    by : (b : Bool) → T (b || among number ks)
+    by true = tt
+    by false = t
 
 -- a test that cannot fail passes
-not-not : (b : Bool) → ((T b → ⊥) → ⊥) → T b
+pub not-not : (b : Bool) → ((T b → ⊥) → ⊥) → T b
 not-not true h = tt
 not-not false h = h (λ t. t)
 
 module _ (M : ControllerModel) (c : ControllerCall) (m m′ : M .Memory) where
   refusal-listed : (number : ℕ) → ControllerCalled M c m (refused number) m′ → T (among number (notSound ∷ listedRefusals c))
   refusal-listed number h = not-not (among number (notSound ∷ listedRefusals c)) (λ out.
-      let n = neither number (listedRefusals c) out in
-      let unsound : All (M .Sound m) (takes c) → ⊥ = λ s. n .1 (subst (ResultOr (listedRefusals c)) (sym (h .answer s)) (answers-listed (M .lent m) (M .view m) c)) in
+      let plain = answers-listed (M .lent m) (M .view m) c in
+      let unsound : All (M .Sound m) (takes c) → ⊥ = λ s. out (among-more number notSound (listedRefusals c) (subst (ResultOr (listedRefusals c)) (sym (h .answer s)) plain)) in
       let e : refused number ≡ refused notSound = h .unsound unsound .0 in
-      n .0 (let q : number ≡ notSound = cc in q))
+      let q : number ≡ notSound = cc in
+      out (subst (λ (n : ℕ). T (among n (notSound ∷ listedRefusals c))) (sym q) tt))
 
   result-or : (a : ControllerAnswer) → ControllerCalled M c m a m′ → ResultOr (notSound ∷ listedRefusals c) a
   result-or (stored id) h = tt
