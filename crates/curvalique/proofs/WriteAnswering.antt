@@ -3,13 +3,14 @@ use Prim.Native.Nat.{ℕ, zero, suc, _<_}
 use mathlib.Core.Path.{_≡_, refl, subst}
 use mathlib.Core.List.{List}
 use native.Mathlib.Omega.{arith}
-use Rattle.writer.specs.Writing.{Lists, Writes, unsound, unknown, textless, tooLong, written}
+use Rattle.writer.specs.Writing.{Writes, unsound, unknown, textless, tooLong, written}
 use Rattle.writer.specs.declared.Answer.{Answer}
 use Rattle.writer.specs.declared.Answer.the-variants.{Length, Refused}
 use Rattle.outputs.specs.Calls.{OutputsStay}
 use Rattle.curvalique.specs.Writing.{lengthUnlessRefused}
+use Rattle.text.specs.Memory.{ControllerMemory}
 
-module _ {m : Lists} {id : ℕ} {buffer : List ℕ} where
+module _ {m : ControllerMemory} {id : ℕ} {buffer : List ℕ} where
   -- no refusal has the number 0
   refusal-number : {a : Answer} {buffer′ : List ℕ} {number : ℕ} → Writes m id buffer a buffer′ → a ≡ Refused number → number ≡ 0 → ⊥
   refusal-number {number = number} (unsound n) e z = let q : 20 ≡ number = cc in omega arith

@@ -1,8 +1,9 @@
 // A node's text in a lent buffer.
 ghost use mathlib.Core.List.{[], _∷_};
-ghost use Rattle.writer.specs.Writing.{lists, Writes};
+ghost use Rattle.writer.specs.Writing.{Writes};
 ghost use Rattle.outputs.specs.Calls.{arenaOf, OutputsStay};
 ghost use Rattle.curvalique.specs.Writing.{lengthUnlessRefused};
+ghost use Rattle.text.specs.Memory.{controllerMemory};
 use outputs::leaving::ANSWERED;
 use arena::DagArena;
 use writer::Answer;
@@ -20,7 +21,7 @@ pub extern "C" fn curvalique_write_text(
     text: &mut [u8],
     length: &mut u64,
 ) -> u64
-    ensures { λ r. ⌜ Writes (lists (now (nodes .entry)) (now (slots .entry)) (arenaOf count size) (now (entries .entry)) «name_count») id (now (text .entry)) (lengthUnlessRefused r (now (length .exit))) (now (text .exit)) ⌝ }
+    ensures { λ r. ⌜ Writes (controllerMemory (now (nodes .entry)) (now (slots .entry)) (arenaOf count size) (now (entries .entry)) «name_count») id (now (text .entry)) (lengthUnlessRefused r (now (length .exit))) (now (text .exit)) ⌝ }
     ensures { λ r. ⌜ OutputsStay r (now (length .entry) ∷ []) (now (length .exit) ∷ []) ⌝ }
 {
     let answer = writer::write(

@@ -2,4 +2,3 @@ pub mod Numeral
 pub mod Written
 pub mod Proper
 pub mod Listed
-pub mod Examples

@@ -1,5 +1,6 @@
 -- How a constant is printed (02 d): "Whole constants 0 to 999,999,999 (not -0.0) are printed in fewest digits, others as # and hex in capitals."
 use Prim.Native.Nat.{ℕ, zero, suc, _+_, _/_, _%_}
+use mathlib.Core.Path.{_≡_, refl}
 use mathlib.Core.Bool.{Bool, true, false, _&&_, cond}
 use mathlib.Core.List.{List, [], _∷_}
 use lib.Dec.{leb, eqb}
@@ -47,3 +48,20 @@ isWhole b = leb (wholePart b) mostWhole && eqb (wholeBits (wholePart b)) b
 unfoldable pub numeral : ℕ → List ℕ
 unfolding isWhole decimals hexes
 numeral b = elim (isWhole b) [ true ↦ decimals mostDigits (wholePart b) [] | false ↦ numberSign ∷ hexes hexDigits b [] ]
+
+-- ---- numerals, computed
+
+-- 7
+seven : numeral 0x401c000000000000 ≡ 55 ∷ []
+unfolding numeral
+seven = refl
+
+-- -0.0 as #8000000000000000
+minus-zero : numeral 0x8000000000000000 ≡ 35 ∷ 56 ∷ 48 ∷ 48 ∷ 48 ∷ 48 ∷ 48 ∷ 48 ∷ 48 ∷ 48 ∷ 48 ∷ 48 ∷ 48 ∷ 48 ∷ 48 ∷ 48 ∷ 48 ∷ []
+unfolding numeral
+minus-zero = refl
+
+-- 10^9 as #41CDCD6500000000
+billion : numeral 0x41cdcd6500000000 ≡ 35 ∷ 52 ∷ 49 ∷ 67 ∷ 68 ∷ 67 ∷ 68 ∷ 54 ∷ 53 ∷ 48 ∷ 48 ∷ 48 ∷ 48 ∷ 48 ∷ 48 ∷ 48 ∷ 48 ∷ []
+unfolding numeral
+billion = refl

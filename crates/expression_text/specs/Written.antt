@@ -1,9 +1,10 @@
 -- The text of an expression (02 d): "without blanks; no text that reads to that node has fewer bracket pairs".
 use Prim.Native.Nat.{ℕ, suc, _+_, max}
+use mathlib.Core.Path.{_≡_, refl}
 use mathlib.Core.Bool.{Bool, true, false, cond}
 use mathlib.Core.List.{List, [], _∷_, _++_}
 use lib.Dec.{leb, eqb}
-use Rattle.text_language.specs.Grammar.{Expr, constant, variable, negated, linked, raised, Level, chain, power, factor, under, sign}
+use Rattle.text_language.specs.Grammar.{sums, products, Expr, constant, variable, negated, linked, raised, Level, chain, power, factor, under, sign}
 use Rattle.text_language.specs.Reader.{rank}
 use Rattle.expression_text.specs.Numeral.{numeral}
 
@@ -64,3 +65,54 @@ bracketPairs s = count 40 s
 -- "Blanks (byte 20 hex)" (02 c)
 abbrev pub blanks : List ℕ → ℕ
 blanks s = count 32 s
+
+-- ---- texts, computed
+
+abbrev a : Expr
+a = variable (97 ∷ [])
+
+abbrev b : Expr
+b = variable (98 ∷ [])
+
+abbrev c : Expr
+c = variable (99 ∷ [])
+
+abbrev sub : Expr → Expr → Expr
+sub x y = linked sums true x y
+
+-- a-b-c, but a-(b-c)
+left-group : textOf (sub (sub a b) c) ≡ 97 ∷ 45 ∷ 98 ∷ 45 ∷ 99 ∷ []
+unfolding textOf bare
+left-group = refl
+
+right-group : textOf (sub a (sub b c)) ≡ 97 ∷ 45 ∷ 40 ∷ 98 ∷ 45 ∷ 99 ∷ 41 ∷ []
+unfolding textOf bare
+right-group = refl
+
+-- a/(b*c)
+divided : textOf (linked products true a (linked products false b c)) ≡ 97 ∷ 47 ∷ 40 ∷ 98 ∷ 42 ∷ 99 ∷ 41 ∷ []
+unfolding textOf bare
+divided = refl
+
+-- a^b^c, but (a^b)^c
+power-right : textOf (raised a (raised b c)) ≡ 97 ∷ 94 ∷ 98 ∷ 94 ∷ 99 ∷ []
+unfolding textOf bare
+power-right = refl
+
+power-left : textOf (raised (raised a b) c) ≡ 40 ∷ 97 ∷ 94 ∷ 98 ∷ 41 ∷ 94 ∷ 99 ∷ []
+unfolding textOf bare
+power-left = refl
+
+-- -a^b is (-a)^b, and -(a^b) has brackets
+minus-base : textOf (raised (negated a) b) ≡ 45 ∷ 97 ∷ 94 ∷ 98 ∷ []
+unfolding textOf bare
+minus-base = refl
+
+minus-power : textOf (negated (raised a b)) ≡ 45 ∷ 40 ∷ 97 ∷ 94 ∷ 98 ∷ 41 ∷ []
+unfolding textOf bare
+minus-power = refl
+
+-- a--b
+minus-minus : textOf (sub a (negated b)) ≡ 97 ∷ 45 ∷ 45 ∷ 98 ∷ []
+unfolding textOf bare
+minus-minus = refl

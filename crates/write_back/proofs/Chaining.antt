@@ -22,7 +22,7 @@ use Rattle.pruner.specs.declared.Answer as Prune
 use Rattle.pruner.specs.declared.Answer.the-variants as prune
 use Rattle.pruner.specs.Answers as PruneAnswers
 use Rattle.writer.specs.declared.Answer as Write
-use Rattle.writer.specs.Writing.{Lists, Writes}
+use Rattle.writer.specs.Writing.{Writes}
 use Rattle.write_back.specs.declared.Pruning.{Pruning}
 use Rattle.write_back.specs.declared.Pruning.the-variants.{BySetting}
 use Rattle.write_back.specs.declared.Outcome.{Outcome}
@@ -38,7 +38,7 @@ pruned-by {pruning} {m} id i setting {a} {m′} e q h = by e (subst (λ (x : ℕ
 
 -- ---- the prune and the write
 
-module _ (pruning : Pruning) (steps : ℕ) (spent : Bool) (m : Lists) (id : ℕ) (buffer : List ℕ) {a : Prune.Answer} {s : Memory} (p : Pruned pruning (m .store) id a s) where
+module _ (pruning : Pruning) (steps : ℕ) (spent : Bool) (m : ControllerMemory) (id : ℕ) (buffer : List ℕ) {a : Prune.Answer} {s : Memory} (p : Pruned pruning (m .store) id a s) where
   pub prune-refused : (number : ℕ) → a ≡ prune.Refused number → Finishes pruning steps spent m id buffer (Refused number) buffer
   prune-refused number e = unpruned (subst (λ (x : Prune.Answer). Pruned pruning (m .store) id x s) e p)
 
@@ -51,7 +51,7 @@ module _ (pruning : Pruning) (steps : ℕ) (spent : Bool) (m : Lists) (id : ℕ)
 
 -- ---- the walk
 
-module _ (pruning : Pruning) (m : Lists) (id i : ℕ) (buffer : List ℕ) (q : i ≡ idOf id) (a : Walk.Answer) {s : Memory} (h : Leaves (M.simplify i depthLimit ampleBudget) (m .store) (WalkAnswers.meaning a) s) where
+module _ (pruning : Pruning) (m : ControllerMemory) (id i : ℕ) (buffer : List ℕ) (q : i ≡ idOf id) (a : Walk.Answer) {s : Memory} (h : Leaves (M.simplify i depthLimit ampleBudget) (m .store) (WalkAnswers.meaning a) s) where
   walks : (b : M.Answer) → WalkAnswers.meaning a ≡ b → Calls (simplifying (idOf id) depthLimit ampleBudget) m (fromStore b) (beside model nameModel s (m .names))
   walks b e =
       subst (λ (x : M.Answer). Calls (simplifying (idOf id) depthLimit ampleBudget) m (fromStore x) (beside model nameModel s (m .names))) e

@@ -31,10 +31,11 @@ use Rattle.definitions.proofs.Lifting.{lift-store}
 use Rattle.store.specs.Memory.{Memory, model, Leaves}
 use Rattle.store.proofs.Viewing.{plain-length}
 use Rattle.names.specs.Memory.{nameModel}
+use Rattle.text.specs.Memory.{ControllerMemory, lentController, controllerOf, lentOf}
 use Rattle.pruner.specs.declared.Answer.the-variants as prune
 use Rattle.writer.specs.declared.Answer as Write
 use Rattle.writer.specs.declared.Answer.the-variants as write
-use Rattle.writer.specs.Writing.{Lists, plain, lent, WrittenText, Writes, unsound, unknown, textless, tooLong, written}
+use Rattle.writer.specs.Writing.{WrittenText, Writes, unsound, unknown, textless, tooLong, written}
 use Rattle.write_back.specs.declared.Pruning.the-variants.{BySetting}
 use Rattle.write_back.specs.declared.Outcome.{Outcome}
 use Rattle.write_back.specs.declared.Outcome.the-variants.{Written, Refused}
@@ -43,7 +44,7 @@ use Rattle.write_back.specs.Answers.{depthLimit, ampleBudget, Calls, off
 use Rattle.write_back.specs.Moved.{HasThreshold, MovedText, ValueMoves}
 
 abbrev Model : ControllerModel
-Model = controllerModel model nameModel
+Model = lentController
 
 -- ---- ids
 
@@ -67,14 +68,14 @@ empty-whole = record { nodes = λ i h. absurd (omega arith); names = none-listed
 
 -- ---- the text that stands in the buffer
 
-text-in : {m : Lists} {id : ℕ} {buffer buffer′ : List ℕ} {r : Write.Answer} (size : ℕ) → Writes m id buffer r buffer′ → r ≡ write.Length size → WrittenText (plain m) id (take size buffer′)
+text-in : {m : ControllerMemory} {id : ℕ} {buffer buffer′ : List ℕ} {r : Write.Answer} (size : ℕ) → Writes m id buffer r buffer′ → r ≡ write.Length size → WrittenText (controllerOf m) id (take size buffer′)
 text-in size (unsound n) e = let z : _≡_ {A = ℕ} 0 1 = cc in absurd (omega arith)
 text-in size (unknown h l) e = let z : _≡_ {A = ℕ} 0 1 = cc in absurd (omega arith)
 text-in size (textless h l n) e = let z : _≡_ {A = ℕ} 0 1 = cc in absurd (omega arith)
 text-in size (tooLong h l w n) e = let z : _≡_ {A = ℕ} 0 1 = cc in absurd (omega arith)
 text-in {m} {id} {buffer} size (written {t} h l w n b) e =
     let q : length t ≡ size = cc in
-    subst (WrittenText (plain m) id) (sym (take-at t (drop (length t) buffer) size q)) w
+    subst (WrittenText (controllerOf m) id) (sym (take-at t (drop (length t) buffer) size q)) w
 
 -- a prune by the setting that was given
 at-setting : {n n′ : ℕ} {m m′ : Memory} {a : M.Answer} (i : ℕ) → n ≡ n′ → Leaves (M.pruneBySetting i n) m a m′ → Leaves (M.pruneBySetting i n′) m a m′
@@ -82,62 +83,62 @@ at-setting {m = m} {m′ = m′} {a = a} i e h = subst (λ (x : ℕ). Leaves (M.
 
 -- ---- the three calls and the write
 
-module _ (typed : List ℕ) (setting t : ℕ) (m : Lists) (buffer : List ℕ) (fresh : FreshController Model m) (threshold : HasThreshold setting t) (one : T (le (ofBits binary64 t) one64)) where
-  module _ {m1 m2 : Lists} {s : Memory} (id i steps j kept dropped : ℕ) (spent : Bool) (text : List ℕ)
+module _ (typed : List ℕ) (setting t : ℕ) (m : ControllerMemory) (buffer : List ℕ) (fresh : FreshController Model m) (threshold : HasThreshold setting t) (one : T (le (ofBits binary64 t) one64)) where
+  module _ {m1 m2 : ControllerMemory} {s : Memory} (id i steps j kept dropped : ℕ) (spent : Bool) (text : List ℕ)
       (c1 : Calls (reading typed) m (stored id) m1) (c2 : Calls (simplifying (idOf id) depthLimit ampleBudget) m1 (simplified i spent steps) m2)
-      (c3 : Leaves (M.pruneBySetting (idOf i) setting) (m2 .store) (M.pruned j kept dropped) s) (w : WrittenText (plain (beside model nameModel s (m2 .names))) (idOf j) text) where
-    abbrev m3 : Lists
+      (c3 : Leaves (M.pruneBySetting (idOf i) setting) (m2 .store) (M.pruned j kept dropped) s) (w : WrittenText (controllerOf (beside model nameModel s (m2 .names))) (idOf j) text) where
+    abbrev m3 : ControllerMemory
     m3 = beside model nameModel s (m2 .names)
 
     history : History Model m (reading typed ∷ simplifying (idOf id) depthLimit ampleBudget ∷ pruningBySetting (idOf i) setting ∷ [])
         (stored id ∷ simplified i spent steps ∷ pruned j kept dropped ∷ []) (m1 ∷ m2 ∷ m3 ∷ [])
     history = next c1 (next c2 (next (lift-store model nameModel (M.pruneBySetting (idOf i) setting) (m2 .store) s (M.pruned j kept dropped) (m2 .names) (c3 .called)) done))
 
-    kept-promise : Promise (lent m) (reading typed ∷ simplifying (idOf id) depthLimit ampleBudget ∷ pruningBySetting (idOf i) setting ∷ [])
-        (stored id ∷ simplified i spent steps ∷ pruned j kept dropped ∷ []) (plain m1 ∷ plain m2 ∷ plain m3 ∷ [])
+    kept-promise : Promise (lentOf m) (reading typed ∷ simplifying (idOf id) depthLimit ampleBudget ∷ pruningBySetting (idOf i) setting ∷ [])
+        (stored id ∷ simplified i spent steps ∷ pruned j kept dropped ∷ []) (controllerOf m1 ∷ controllerOf m2 ∷ controllerOf m3 ∷ [])
     kept-promise = demand3 Model m _ _ _ fresh history .0
 
     sound : All (λ n. (p : Part) → Model .Sound n p) (m1 ∷ m2 ∷ m3 ∷ [])
     sound = demand3 Model m _ _ _ fresh history .1
 
-    taken : (n : Lists) → ((p : Part) → Model .Sound n p) → All (Model .Sound n) (storePart ∷ [])
+    taken : (n : ControllerMemory) → ((p : Part) → Model .Sound n p) → All (Model .Sound n) (storePart ∷ [])
     taken n h = (h storePart, tt)
 
-    was-read : ReadTo typed (plain m1) id
-    was-read = kept-promise .reads 0 id typed (plain m1) refl refl refl
+    was-read : ReadTo typed (controllerOf m1) id
+    was-read = kept-promise .reads 0 id typed (controllerOf m1) refl refl refl
 
     id-is : idOf id ≡ id
     id-is = id-same (m1 .store) id (sound .0 storePart) (was-read .known)
 
-    whole1 : Whole (plain m1)
+    whole1 : Whole (controllerOf m1)
     whole1 =
         subst Whole (sym (c1 .left (fresh .sound storePart, (fresh .sound namesPart, tt))))
-        (whole-after (call-goes (lent m) (plain m) (reading typed) (subst Whole (sym (fresh .view)) empty-whole)))
+        (whole-after (call-goes (lentOf m) (controllerOf m) (reading typed) (subst Whole (sym (fresh .view)) empty-whole)))
 
     i-is : idOf i ≡ i
     i-is =
         let a = c2 .answer (taken m1 (sound .0)) in
         let b = c2 .left (taken m1 (sound .0)) in
         id-same (m2 .store) i (sound .1 .0 storePart)
-        (subst (λ (x : Controller). i < length (x .nodes)) (sym b) (walk-below (lent m1) (plain m1) (idOf id) depthLimit ampleBudget i steps spent whole1 (sym a)))
+        (subst (λ (x : Controller). i < length (x .nodes)) (sym b) (walk-below (lentOf m1) (controllerOf m1) (idOf id) depthLimit ampleBudget i steps spent whole1 (sym a)))
 
-    moved : Exact (formula (plain m1 .nodes) id) → (r : Reading)
-        → Moved (valueOf r (formula (plain m1 .nodes) id)) (valueOf r (formula (plain m3 .nodes) (idOf j))) (ofBits binary64 t) dropped
+    moved : Exact (formula (controllerOf m1 .nodes) id) → (r : Reading)
+        → Moved (valueOf r (formula (controllerOf m1 .nodes) id)) (valueOf r (formula (controllerOf m3 .nodes) (idOf j))) (ofBits binary64 t) dropped
     moved exact r =
-        let b = kept-promise .balance 1 2 (idOf id) depthLimit ampleBudget i steps t j kept dropped spent (pruningBySetting (idOf i) setting) (plain m1) (plain m2) (plain m3)
+        let b = kept-promise .balance 1 2 (idOf id) depthLimit ampleBudget i steps t j kept dropped spent (pruningBySetting (idOf i) setting) (controllerOf m1) (controllerOf m2) (controllerOf m3)
         (omega arith) refl refl refl (threshold (idOf i) ∙ ap (λ (x : ℕ). some (x, bits t)) i-is) refl refl refl refl one
-        (subst (λ (x : ℕ). Exact (formula (plain m1 .nodes) x)) (sym id-is) exact) in
+        (subst (λ (x : ℕ). Exact (formula (controllerOf m1 .nodes) x)) (sym id-is) exact) in
         let j-is : idOf j ≡ j = id-same s j (sound .1 .1 .0 storePart) (b .2) in
-        subst (λ (x : ℕ). Moved (valueOf r (formula (plain m1 .nodes) x)) (valueOf r (formula (plain m3 .nodes) (idOf j))) (ofBits binary64 t) dropped) id-is
-        (subst (λ (x : ℕ). Moved (valueOf r (formula (plain m1 .nodes) (idOf id))) (valueOf r (formula (plain m3 .nodes) x)) (ofBits binary64 t) dropped) (sym j-is)
-        (dropped-count-bounds (formula (plain m1 .nodes) (idOf id)) (formula (plain m2 .nodes) i) (formula (plain m3 .nodes) j) (ofBits binary64 t) kept dropped one (b .4) r))
+        subst (λ (x : ℕ). Moved (valueOf r (formula (controllerOf m1 .nodes) x)) (valueOf r (formula (controllerOf m3 .nodes) (idOf j))) (ofBits binary64 t) dropped) id-is
+        (subst (λ (x : ℕ). Moved (valueOf r (formula (controllerOf m1 .nodes) (idOf id))) (valueOf r (formula (controllerOf m3 .nodes) x)) (ofBits binary64 t) dropped) (sym j-is)
+        (dropped-count-bounds (formula (controllerOf m1 .nodes) (idOf id)) (formula (controllerOf m2 .nodes) i) (formula (controllerOf m3 .nodes) j) (ofBits binary64 t) kept dropped one (b .4) r))
 
     all-moved : MovedText typed text t dropped
     all-moved = record {
-      before = plain m1;
+      before = controllerOf m1;
       id = id;
       read = was-read;
-      after = plain m3;
+      after = controllerOf m3;
       same-names = ap (nameModel .view) (c2 .untouched .0);
       answer = idOf j;
       written = w;
@@ -146,7 +147,7 @@ module _ (typed : List ℕ) (setting t : ℕ) (m : Lists) (buffer : List ℕ) (f
 
   -- ---- from the cases of `Answers`
 
-  finishes : {m1 m2 : Lists} {buffer′ : List ℕ} {o : Outcome} (id i steps steps′ size kept dropped : ℕ) (spent spent′ : Bool)
+  finishes : {m1 m2 : ControllerMemory} {buffer′ : List ℕ} {o : Outcome} (id i steps steps′ size kept dropped : ℕ) (spent spent′ : Bool)
       → Calls (reading typed) m (stored id) m1 → Calls (simplifying (idOf id) depthLimit ampleBudget) m1 (simplified i spent′ steps′) m2
       → Finishes (BySetting setting) steps′ spent′ m2 i buffer o buffer′ → o ≡ Written size steps spent kept dropped → MovedText typed (take size buffer′) t dropped
   finishes id i steps steps′ size kept dropped spent spent′ c1 c2 (unpruned p) e = let z : _≡_ {A = ℕ} 0 1 = cc in absurd (omega arith)
@@ -161,7 +162,7 @@ module _ (typed : List ℕ) (setting t : ℕ) (m : Lists) (buffer : List ℕ) (f
       (at-setting (idOf i) set h)
       (text-in size w (ap write.Length same)))
 
-  simplified-so : {m1 : Lists} {buffer′ : List ℕ} {o : Outcome} (id steps size kept dropped : ℕ) (spent : Bool) → Calls (reading typed) m (stored id) m1
+  simplified-so : {m1 : ControllerMemory} {buffer′ : List ℕ} {o : Outcome} (id steps size kept dropped : ℕ) (spent : Bool) → Calls (reading typed) m (stored id) m1
       → Simplifies (BySetting setting) m1 id buffer o buffer′ → o ≡ Written size steps spent kept dropped → MovedText typed (take size buffer′) t dropped
   simplified-so id steps size kept dropped spent c1 (unsimplified c) e = let z : _≡_ {A = ℕ} 0 1 = cc in absurd (omega arith)
   simplified-so id steps size kept dropped spent c1 (walked {i = i} {steps = steps′} {spent = spent′} c2 f) e = finishes id i steps steps′ size kept dropped spent spent′ c1 c2 f e

@@ -18,7 +18,8 @@ use Rattle.definitions.specs.Moved.{Moved}
 use Rattle.definitions.specs.Beside.{controllerModel}
 use Rattle.store.specs.Memory.{model}
 use Rattle.names.specs.Memory.{nameModel}
-use Rattle.writer.specs.Writing.{Lists, WrittenText}
+use Rattle.text.specs.Memory.{ControllerMemory, lentController}
+use Rattle.writer.specs.Writing.{WrittenText}
 use Rattle.write_back.specs.declared.Pruning.the-variants.{BySetting}
 use Rattle.write_back.specs.declared.Outcome.the-variants.{Written}
 use Rattle.write_back.specs.Answers.{Answers}
@@ -41,6 +42,6 @@ pub record MovedText (typed text : List ℕ) (t dropped : ℕ) : Type 0 where
       → Moved (valueOf r (formula (before .nodes) id)) (valueOf r (formula (after .nodes) answer)) (ofBits binary64 t) dropped
 
 abbrev pub ValueMoves : Type 0
-ValueMoves = (typed : List ℕ) (setting t : ℕ) (m : Lists) (buffer buffer′ : List ℕ) (size steps kept dropped : ℕ) (spent : Bool)
-    → FreshController (controllerModel model nameModel) m → HasThreshold setting t → T (le (ofBits binary64 t) one64)
+ValueMoves = (typed : List ℕ) (setting t : ℕ) (m : ControllerMemory) (buffer buffer′ : List ℕ) (size steps kept dropped : ℕ) (spent : Bool)
+    → FreshController lentController m → HasThreshold setting t → T (le (ofBits binary64 t) one64)
     → Answers typed (BySetting setting) m buffer (Written size steps spent kept dropped) buffer′ → MovedText typed (take size buffer′) t dropped

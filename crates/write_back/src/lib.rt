@@ -1,7 +1,7 @@
 // What the program `formula` does with a text: it is read into a fresh store, simplified, pruned by a setting if one is given, and written back.
 ghost use mathlib.Core.Path.{_≡_};
 ghost use Rattle.store.specs.Memory.{memory};
-ghost use Rattle.writer.specs.Writing.{lists};
+ghost use Rattle.text.specs.Memory.{controllerMemory};
 ghost use Rattle.write_back.specs.Ids.{idOf};
 ghost use Rattle.write_back.specs.Answers.{Pruned, Finishes, Simplifies, Answers};
 use arena::DagArena;
@@ -75,7 +75,7 @@ fn finish(
     spent: bool,
     text: &mut [u8],
 ) -> Outcome
-    ensures { λ r. ⌜ Finishes pruning steps spent (lists (now (nodes .entry)) (now (slots .entry)) arena (now (entries .entry)) names) id (now (text .entry)) r (now (text .exit)) ⌝ }
+    ensures { λ r. ⌜ Finishes pruning steps spent (controllerMemory (now (nodes .entry)) (now (slots .entry)) arena (now (entries .entry)) names) id (now (text .entry)) r (now (text .exit)) ⌝ }
 {
     let pruned = prune(nodes, slots, arena, id, pruning);
     let after = pruned.arena;
@@ -109,7 +109,7 @@ fn simplify(
     pruning: Pruning,
     text: &mut [u8],
 ) -> Outcome
-    ensures { λ r. ⌜ Simplifies pruning (lists (now (nodes .entry)) (now (slots .entry)) arena (now (entries .entry)) names) id (now (text .entry)) r (now (text .exit)) ⌝ }
+    ensures { λ r. ⌜ Simplifies pruning (controllerMemory (now (nodes .entry)) (now (slots .entry)) arena (now (entries .entry)) names) id (now (text .entry)) r (now (text .exit)) ⌝ }
 {
     let walked = walk::simplify(nodes, slots, arena, id_of(id), DEPTH, BUDGET);
     let after = walked.arena;
@@ -154,7 +154,7 @@ pub fn answer(
     names: usize,
     text: &mut [u8],
 ) -> Outcome
-    ensures { λ r. ⌜ Answers (now (typed .entry)) pruning (lists (now (nodes .entry)) (now (slots .entry)) arena (now (entries .entry)) names) (now (text .entry)) r (now (text .exit)) ⌝ }
+    ensures { λ r. ⌜ Answers (now (typed .entry)) pruning (controllerMemory (now (nodes .entry)) (now (slots .entry)) arena (now (entries .entry)) names) (now (text .entry)) r (now (text .exit)) ⌝ }
 {
     let made = text::read(typed, nodes, slots, arena, entries, names);
     let after = made.arena;

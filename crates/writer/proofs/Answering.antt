@@ -18,6 +18,7 @@ use Rattle.arena.specs.declared.DagArena.{DagArena}
 use Rattle.store.specs.Sound.{Sound}
 use Rattle.store.proofs.Viewing.{plain-length}
 use Rattle.names.specs.Sound as Names
+use Rattle.text.specs.Memory.{ControllerMemory, controllerMemory, controllerOf, lentOf, BothSound}
 use Rattle.expression_text.specs.Written.{textOf, depthOf}
 use Rattle.expression_text.specs.Proper.{Proper}
 use Rattle.expression_text.specs.Listed.{TextFacts}
@@ -25,7 +26,7 @@ use Rattle.expression_text.proofs.Texts.{writes}
 use Rattle.expression_text.proofs.Forms.{has-text}
 use Rattle.writer.specs.Placing.{Known, expressionAt}
 use Rattle.writer.specs.Sweeping.{Texted, WritesExpression}
-use Rattle.writer.specs.Writing.{Lists, lists, SoundLists, plain, lent, NodeText, WrittenText, TooLong, ReadsBack, Writes, unsound, unknown, textless, tooLong, written, Covers}
+use Rattle.writer.specs.Writing.{NodeText, WrittenText, TooLong, ReadsBack, Writes, unsound, unknown, textless, tooLong, written, Covers}
 use Rattle.writer.specs.declared.Answer.{Answer}
 use Rattle.writer.specs.declared.Answer.the-variants.{Length, Refused}
 use Rattle.writer.proofs.Spelling.{spelled, only-one}
@@ -39,8 +40,8 @@ pub known-of : {w slots : List ℕ} {a : DagArena} {es : List ℕ} {named : ℕ}
 known-of s e t f = record { nodes = s .yes e .nodes; names = t .yes f }
 
 module _ (w slots : List ℕ) (a : DagArena) (es : List ℕ) (named id : ℕ) (buffer : List ℕ) where
-  abbrev m : Lists
-  m = lists w slots a es named
+  abbrev m : ControllerMemory
+  m = controllerMemory w slots a es named
 
   pub no-store : {b : Bool} → Says b (Sound w slots a) → b ≡ false → Writes m id buffer (Refused notSound) buffer
   no-store s e = unsound (λ h. s .no e (h .store))
@@ -49,18 +50,18 @@ module _ (w slots : List ℕ) (a : DagArena) (es : List ℕ) (named id : ℕ) (b
   no-names s e = unsound (λ h. s .no e (h .names))
 
   module _ (s : Sound w slots a) (t : Names.Sound es named) where
-    sound : SoundLists m
+    sound : BothSound m
     sound = record { store = s; names = t }
 
     no-node : a .count ≤ id → Writes m id buffer (Refused badOperand) buffer
     no-node l = unknown sound (omega (arith, plain-length w (a .count)))
 
     module _ (l : id < a .count) where
-      below : id < length (plain m .nodes)
+      below : id < length (controllerOf m .nodes)
       below = omega (arith, plain-length w (a .count))
 
       -- 13: a text would give the node an expression
-      no-text : expressionAt w (a .count) es named id ≡ none → (u : List ℕ) → NodeText (plain m) id u → ⊥
+      no-text : expressionAt w (a .count) es named id ≡ none → (u : List ℕ) → NodeText (controllerOf m) id u → ⊥
       no-text q u n = let y : _≡_ {A = ℕ} 0 1 = cc (only-one w slots a s es named t id (n .expr) (proper-of n) (n .spells)) in omega arith
 
       module _ (e : Expr) (q : expressionAt w (a .count) es named id ≡ some e) where
@@ -70,13 +71,13 @@ module _ (w slots : List ℕ) (a : DagArena) (es : List ℕ) (named id : ℕ) (b
         says : TextFacts e
         says = writes e proper
 
-        abbrev own : NodeText (plain m) id (textOf e)
+        abbrev own : NodeText (controllerOf m) id (textOf e)
         own = record { expr = e; depth = depthOf e; text = says .reads; numbers = says .numbers; spells = spelled w slots a s es named t id l e q .spells }
 
-        same : (u : List ℕ) (n : NodeText (plain m) id u) → n .expr ≡ e
+        same : (u : List ℕ) (n : NodeText (controllerOf m) id u) → n .expr ≡ e
         same u n = let z : some (n .expr) ≡ some e = sym (only-one w slots a s es named t id (n .expr) (proper-of n) (n .spells)) ∙ q in cc
 
-        abbrev its-text : WrittenText (plain m) id (textOf e)
+        abbrev its-text : WrittenText (controllerOf m) id (textOf e)
         its-text = record {
           of = own;
           is = refl;
@@ -86,12 +87,12 @@ module _ (w slots : List ℕ) (a : DagArena) (es : List ℕ) (named id : ℕ) (b
         }
 
         -- the reading of a text that is not too long
-        back : length (textOf e) ≤ mostBytes → depthOf e ≤ mostNested → ReadsBack (lent m) (plain m) id (textOf e)
+        back : length (textOf e) ≤ mostBytes → depthOf e ≤ mostNested → ReadsBack (lentOf m) (controllerOf m) id (textOf e)
         unfolding controllerCall
         back long deep =
-            ap (onText (lent m) (plain m))
+            ap (onText (lentOf m) (controllerOf m))
             (verdict-denotes (record { sized = record { some = says .some; short = long }; depth = depthOf e; text = says .reads; shallow = deep; numbers = says .numbers }))
-            ∙ ap fromMade (reads-back w slots a s es named t (lent m) id l e q)
+            ∙ ap fromMade (reads-back w slots a s es named t (lentOf m) id l e q)
 
         too-long : TooLong its-text buffer → {r : Answer} {buffer′ : List ℕ} → Texted e buffer r buffer′ → Writes m id buffer r buffer′
         too-long x {r} {buffer′} y =
@@ -142,8 +143,8 @@ covers m id h l = (own-text, no-own)
     low : id < m .store .arena .count
     low = omega (arith, plain-length (m .store .words) (m .store .arena .count))
 
-    own-text : (e : Expr) → expressionAt (m .store .words) (m .store .arena .count) (m .names .bytes) (m .names .count) id ≡ some e → NodeText (plain m) id (textOf e)
+    own-text : (e : Expr) → expressionAt (m .store .words) (m .store .arena .count) (m .names .bytes) (m .names .count) id ≡ some e → NodeText (controllerOf m) id (textOf e)
     own-text e q = own (m .store .words) (m .store .slots) (m .store .arena) (m .names .bytes) (m .names .count) id [] (h .store) (h .names) low e q
 
-    no-own : expressionAt (m .store .words) (m .store .arena .count) (m .names .bytes) (m .names .count) id ≡ none → (t : List ℕ) → NodeText (plain m) id t → ⊥
+    no-own : expressionAt (m .store .words) (m .store .arena .count) (m .names .bytes) (m .names .count) id ≡ none → (t : List ℕ) → NodeText (controllerOf m) id t → ⊥
     no-own q = no-text (m .store .words) (m .store .slots) (m .store .arena) (m .names .bytes) (m .names .count) id [] (h .store) (h .names) low q

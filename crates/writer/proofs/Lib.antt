@@ -13,3 +13,4 @@ pub mod ReadsBack
 pub mod Answering
 pub mod Once
 pub mod AfterWriting
+pub mod ReadTexts

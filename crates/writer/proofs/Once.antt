@@ -7,25 +7,26 @@ use mathlib.Core.List.{List}
 use lib.ListN.{length}
 use native.Mathlib.Omega.{arith}
 use Rattle.expression_text.specs.Written.{textOf}
-use Rattle.writer.specs.Writing.{Lists, SoundLists, plain, NodeText, WrittenText, TooLong, inBuffer, unsound, unknown, textless, tooLong, written, WritesOnce}
+use Rattle.writer.specs.Writing.{NodeText, WrittenText, TooLong, inBuffer, unsound, unknown, textless, tooLong, written, WritesOnce}
 use Rattle.writer.specs.declared.Answer.the-variants.{Length}
 use Rattle.writer.proofs.Spelling.{only-one}
 use Rattle.writer.proofs.Answering.{proper-of}
+use Rattle.text.specs.Memory.{ControllerMemory, controllerOf, BothSound}
 
-module _ (m : Lists) (id : ℕ) (h : SoundLists m) where
+module _ (m : ControllerMemory) (id : ℕ) (h : BothSound m) where
   -- one node has one expression, and so one text
-  one-expression : {t u : List ℕ} (x : NodeText (plain m) id t) (y : NodeText (plain m) id u) → x .expr ≡ y .expr
+  one-expression : {t u : List ℕ} (x : NodeText (controllerOf m) id t) (y : NodeText (controllerOf m) id u) → x .expr ≡ y .expr
   one-expression x y =
       let z : some (x .expr) ≡ some (y .expr)
       = sym (only-one (m .store .words) (m .store .slots) (m .store .arena) (h .store) (m .names .bytes) (m .names .count) (h .names) id (x .expr) (proper-of x) (x .spells))
       ∙ only-one (m .store .words) (m .store .slots) (m .store .arena) (h .store) (m .names .bytes) (m .names .count) (h .names) id (y .expr) (proper-of y) (y .spells) in
       cc
 
-  pub one-text : {t u : List ℕ} → WrittenText (plain m) id t → WrittenText (plain m) id u → t ≡ u
+  pub one-text : {t u : List ℕ} → WrittenText (controllerOf m) id t → WrittenText (controllerOf m) id u → t ≡ u
   one-text x y = x .is ∙ ap textOf (one-expression (x .of) (y .of)) ∙ sym (y .is)
 
   -- what is too long for one is too long for the other
-  same-long : {t u : List ℕ} (buffer : List ℕ) (x : WrittenText (plain m) id t) (y : WrittenText (plain m) id u) → TooLong x buffer → TooLong y buffer
+  same-long : {t u : List ℕ} (buffer : List ℕ) (x : WrittenText (controllerOf m) id t) (y : WrittenText (controllerOf m) id u) → TooLong x buffer → TooLong y buffer
   same-long buffer x y (inl b) = inl (let z = ap length (one-text x y) in omega arith)
   same-long buffer x y (inr (inl b)) = inr (inl (let z = ap length (one-text x y) in omega arith))
   same-long {t} {u} buffer x y (inr (inr b)) = inr (inr (let z = x .shallowest u (y .of) in omega arith))

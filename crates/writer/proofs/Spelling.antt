@@ -31,7 +31,7 @@ use Rattle.writer.proofs.Leaves.{name-known}
 
 -- ---- an expression that denotes a formula is the formula's
 
-nth-is : (names : List (List ℕ)) (n : ℕ) (w : List ℕ) → nth names n ≡ some w → symbolName names n ≡ w
+pub nth-is : (names : List (List ℕ)) (n : ℕ) (w : List ℕ) → nth names n ≡ some w → symbolName names n ≡ w
 nth-is [] n w e = let z : _≡_ {A = ℕ} 0 1 = cc in absurd (omega arith)
 nth-is (x ∷ names) zero w e = cc
 nth-is (x ∷ names) (suc n) w e = nth-is names n w e

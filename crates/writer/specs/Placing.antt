@@ -39,42 +39,34 @@ deep n e = deeper (leb (rank (natural e)) n) (depthOf e)
 
 -- ---- operators
 
-abbrev pub signOf : Join → ℕ
-signOf plus = 43
-signOf minus = 45
-signOf times = 42
-signOf over = 47
-signOf raise = 94
+-- an operator's sign, the ranks of what may stand left and right of it with no brackets, and how much deeper the right one stands: "a ^ nests what
+-- stands after it"
+abbrev pub jointFor : Join → Joint
+jointFor plus = record { sign = 43; left = 4; right = 3; nesting = 0 }
+jointFor minus = record { sign = 45; left = 4; right = 3; nesting = 0 }
+jointFor times = record { sign = 42; left = 3; right = 2; nesting = 0 }
+jointFor over = record { sign = 47; left = 3; right = 2; nesting = 0 }
+jointFor raise = record { sign = 94; left = 1; right = 2; nesting = 1 }
 
--- the rank of its text, and the ranks of what may stand left and right of it with no brackets
+abbrev pub signOf : Join → ℕ
+signOf o = jointFor o .sign
+
+abbrev pub leftRank : Join → ℕ
+leftRank o = jointFor o .left
+
+abbrev pub rightRank : Join → ℕ
+rightRank o = jointFor o .right
+
+abbrev pub nests : Join → ℕ
+nests o = jointFor o .nesting
+
+-- the rank of its own text
 abbrev pub ownRank : Join → ℕ
 ownRank plus = 4
 ownRank minus = 4
 ownRank times = 3
 ownRank over = 3
 ownRank raise = 2
-
-abbrev pub leftRank : Join → ℕ
-leftRank plus = 4
-leftRank minus = 4
-leftRank times = 3
-leftRank over = 3
-leftRank raise = 1
-
-abbrev pub rightRank : Join → ℕ
-rightRank plus = 3
-rightRank minus = 3
-rightRank times = 2
-rightRank over = 2
-rightRank raise = 2
-
--- "a ^ nests what stands after it"
-abbrev pub nests : Join → ℕ
-nests plus = 0
-nests minus = 0
-nests times = 0
-nests over = 0
-nests raise = 1
 
 pub record Joins (o : Join) (r : Joint) : Type 0 where
   pub sign : r .sign ≡ signOf o

@@ -13,34 +13,11 @@ use Rattle.definitions.specs.Refusals.{notSound, badOperand, noText, textTooLon
 use Rattle.definitions.specs.Formula.{formula}
 use Rattle.definitions.specs.Controller.{LentLists, Controller, ControllerAnswer, reading, stored, controllerCall}
 use Rattle.definitions.specs.Promise.{Spells, ControllerCalled}
-use Rattle.definitions.specs.Beside.{Beside, beside, controllerModel}
-use Rattle.arena.specs.declared.DagArena.{DagArena}
-use Rattle.store.specs.Memory.{memory, model}
-use Rattle.names.specs.Memory.{nameMemory, nameModel}
+use Rattle.text.specs.Memory.{ControllerMemory, lentController, controllerOf, lentOf, BothSound}
 use Rattle.expression_text.specs.Written.{textOf, bracketPairs, blanks}
 use Rattle.writer.specs.Expression.{expressionOf}
 use Rattle.writer.specs.declared.Answer.{Answer}
 use Rattle.writer.specs.declared.Answer.the-variants.{Length, Refused}
-
--- ---- the lent lists
-
--- a store, and beside it a name list
-abbrev pub Lists : Type 0
-Lists = Beside model nameModel
-
-abbrev pub lists : List ℕ → List ℕ → DagArena → List ℕ → ℕ → Lists
-lists words slots arena entries named = beside model nameModel (memory words slots arena) (nameMemory entries named)
-
-pub record SoundLists (m : Lists) : Type 0 where
-  pub store : model .Sound (m .store)
-  pub names : nameModel .Sound (m .names)
-
--- what the plain machine has in them, and how much is lent
-abbrev pub plain : Lists → Controller
-plain m = controllerModel model nameModel .view m
-
-abbrev pub lent : Lists → LentLists
-lent m = controllerModel model nameModel .lent m
 
 -- ---- the texts of a node
 
@@ -81,30 +58,42 @@ ReadsBack l s id t = controllerCall l s (reading t) ≡ record { answer = stored
 -- ---- the call
 
 -- 20, 4, 13 and 14, in this order: "on a refusal all [bytes] stay"; or the text and its length
-pub data Writes (m : Lists) (id : ℕ) (buffer : List ℕ) : Answer → List ℕ → Type 0 where
-  unsound : (SoundLists m → ⊥) → Writes m id buffer (Refused notSound) buffer
-  unknown : SoundLists m → length (plain m .nodes) ≤ id → Writes m id buffer (Refused badOperand) buffer
-  textless : SoundLists m → id < length (plain m .nodes) → ((t : List ℕ) → NodeText (plain m) id t → ⊥)
+pub data Writes (m : ControllerMemory) (id : ℕ) (buffer : List ℕ) : Answer → List ℕ → Type 0 where
+  unsound : (BothSound m → ⊥) → Writes m id buffer (Refused notSound) buffer
+  unknown : BothSound m → length (controllerOf m .nodes) ≤ id → Writes m id buffer (Refused badOperand) buffer
+  textless : BothSound m → id < length (controllerOf m .nodes) → ((t : List ℕ) → NodeText (controllerOf m) id t → ⊥)
       → Writes m id buffer (Refused noText) buffer
-  tooLong : {t : List ℕ} → SoundLists m → id < length (plain m .nodes) → (w : WrittenText (plain m) id t) → TooLong w buffer
+  tooLong : {t : List ℕ} → BothSound m → id < length (controllerOf m .nodes) → (w : WrittenText (controllerOf m) id t) → TooLong w buffer
       → Writes m id buffer (Refused textTooLong) buffer
-  written : {t : List ℕ} → SoundLists m → id < length (plain m .nodes) → (w : WrittenText (plain m) id t) → (TooLong w buffer → ⊥)
-      → ReadsBack (lent m) (plain m) id t → Writes m id buffer (Length (length t)) (inBuffer t buffer)
+  written : {t : List ℕ} → BothSound m → id < length (controllerOf m .nodes) → (w : WrittenText (controllerOf m) id t) → (TooLong w buffer → ⊥)
+      → ReadsBack (lentOf m) (controllerOf m) id t → Writes m id buffer (Length (length t)) (inBuffer t buffer)
 
 -- no two of the five apply: each refusal is answered exactly in its case (proofs Once)
 abbrev pub WritesOnce : Type 0
-WritesOnce = (m : Lists) (id : ℕ) (buffer : List ℕ) (r r′ : Answer) (buffer′ buffer″ : List ℕ)
+WritesOnce = (m : ControllerMemory) (id : ℕ) (buffer : List ℕ) (r r′ : Answer) (buffer′ buffer″ : List ℕ)
     → Writes m id buffer r buffer′ → Writes m id buffer r′ buffer″ → (r ≡ r′) × (buffer′ ≡ buffer″)
 
 -- "It covers variables, constants, Neg and two-operand operators but Mod, with the constructors' flags, marks aside": a node with an expression
 -- (specs Expression) has a text, and no other has one
 abbrev pub Covers : Type 0
-Covers = (m : Lists) (id : ℕ) → SoundLists m → id < length (plain m .nodes)
-    → ((e : Expr) → expressionOf (plain m .names) (plain m .nodes) id ≡ some e → NodeText (plain m) id (textOf e))
-    × (expressionOf (plain m .names) (plain m .nodes) id ≡ none → (t : List ℕ) → NodeText (plain m) id t → ⊥)
+Covers = (m : ControllerMemory) (id : ℕ) → BothSound m → id < length (controllerOf m .nodes)
+    → ((e : Expr) → expressionOf (controllerOf m .names) (controllerOf m .nodes) id ≡ some e → NodeText (controllerOf m) id (textOf e))
+    × (expressionOf (controllerOf m .names) (controllerOf m .nodes) id ≡ none → (t : List ℕ) → NodeText (controllerOf m) id t → ⊥)
 
 -- what a write left in the buffer, handed to a reading on the same lists, gives the id and adds nothing
 abbrev pub ReadAfterWrite : Type 0
-ReadAfterWrite = (m m′ : Lists) (id size : ℕ) (buffer buffer′ : List ℕ) (a : ControllerAnswer)
-    → Writes m id buffer (Length size) buffer′ → ControllerCalled (controllerModel model nameModel) (reading (take size buffer′)) m a m′
-    → (a ≡ stored id) × (plain m′ ≡ plain m)
+ReadAfterWrite = (m m′ : ControllerMemory) (id size : ℕ) (buffer buffer′ : List ℕ) (a : ControllerAnswer)
+    → Writes m id buffer (Length size) buffer′ → ControllerCalled lentController (reading (take size buffer′)) m a m′
+    → (a ≡ stored id) × (controllerOf m′ ≡ controllerOf m)
+
+-- every text that a reading on the same lists reads to a node that is there, without a new name, is one of the texts over which `fewest` is said.
+-- A text that makes a name is none of them: a symbol that stands in the store without a name may be the next number.
+abbrev pub ReadTexts : Type 0
+ReadTexts = (m m′ : ControllerMemory) (id : ℕ) (t : List ℕ) → BothSound m → id < length (controllerOf m .nodes)
+    → ControllerCalled lentController (reading t) m (stored id) m′ → controllerOf m′ .names ≡ controllerOf m .names → NodeText (controllerOf m) id t
+
+-- so, of what a write left in the buffer, over the two calls: "no text that reads to that node has fewer bracket pairs"
+abbrev pub FewestRead : Type 0
+FewestRead = (m m′ : ControllerMemory) (id size : ℕ) (buffer buffer′ t : List ℕ) → Writes m id buffer (Length size) buffer′
+    → ControllerCalled lentController (reading t) m (stored id) m′ → controllerOf m′ .names ≡ controllerOf m .names
+    → bracketPairs (take size buffer′) ≤ bracketPairs t

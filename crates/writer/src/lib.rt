@@ -11,7 +11,8 @@ ghost use Prim.Native.Nat.{_<_};
 ghost use lib.ListN.{length, drop};
 ghost use Rattle.writer.specs.Placing.{Known, expressionAt};
 ghost use Rattle.writer.specs.Sweeping.{Copies, WritesExpression};
-ghost use Rattle.writer.specs.Writing.{lists, Writes};
+ghost use Rattle.writer.specs.Writing.{Writes};
+ghost use Rattle.text.specs.Memory.{controllerMemory};
 use arena::DagArena;
 use definitions::refusals::BAD_OPERAND;
 use definitions::refusals::NO_TEXT;
@@ -91,7 +92,7 @@ pub fn write(
     id: u32,
     buffer: &mut [u8],
 ) -> Answer
-    ensures { λ r. ⌜ Writes (lists (now (nodes .entry)) (now (slots .entry)) arena (now (entries .entry)) named) id (now (buffer .entry)) r (now (buffer .exit)) ⌝ }
+    ensures { λ r. ⌜ Writes (controllerMemory (now (nodes .entry)) (now (slots .entry)) arena (now (entries .entry)) named) id (now (buffer .entry)) r (now (buffer .exit)) ⌝ }
 {
     if !store::audit(nodes, slots, arena) {
         return Answer::Refused(NOT_SOUND);

@@ -8,6 +8,9 @@ use borrow.Author.Needs.{needs}
 use Rattle.writer.proofs.write_sound.Statement.{statement}
 use Rattle.writer.proofs.write_sound.Tie as tie
 
+copy-requires : tie.Need-copy-requires
+copy-requires c κs = search needs
+
 has-text-requires : tie.Need-has-text-requires
 has-text-requires c κs = search needs
 
@@ -25,9 +28,6 @@ sub-size c = search needs
 
 returns-3 : tie.Need-returns-3
 returns-3 c = write-short (replicate {A = ℕ} 8224 0) (blank-of 8224 refl) _ (c .before .before .before .before .before .has-text .ensures) (not-false _ (c .before .before .before .before .if1 .left)) (c .before .before .put .ensures) _ (c .before .if2 .left) (c .if3 .taken)
-
-copy-requires : tie.Need-copy-requires
-copy-requires c κs = record { long = c .before .before .before .before .put .ensures .long; within = c .before .before .before .before .put .ensures .within; room = omega arith }
 
 same-length : tie.Need-same-length
 same-length c = search needs
