@@ -31,3 +31,4 @@ pub mod Listing
 pub mod NoNaN
 pub mod Examples
 pub mod StrictExamples
+pub mod StrictFits
