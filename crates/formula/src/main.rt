@@ -47,7 +47,7 @@ fn say_number(n: u64) {
     io::print_decimal(STDOUT_FILENO, n);
 }
 
-// What a refusal's number says. From a typed text only a constant that is not a number makes a node without a text.
+// What a refusal's number says.
 fn words_of(number: u64) {
     match number {
         BAD_TEXT => say(b"there is no text, or it has over 8,192 bytes"),
@@ -57,7 +57,7 @@ fn words_of(number: u64) {
             b"this is not a formula: look for a sign, a name or a bracket that is missing or too much",
         ),
         NESTED_TOO_DEEP => say(b"brackets, minus signs and powers are nested over 64 deep"),
-        NO_TEXT => say(b"a constant came out that is not a number"),
+        NO_TEXT => say(b"the formula that came out has no text"),
         TEXT_TOO_LONG => say(b"the formula that came out is too long or too deep for a text"),
         TOO_MANY_TERMS => say(b"the sum has over 4,096 terms"),
         NO_NAME_PLACE => say(b"there are over 4,096 names"),
@@ -89,7 +89,7 @@ fn say_steps(steps: u64, spent: bool) {
     say(b"\n");
 }
 
-// The terms kept and dropped, and a bound on what was dropped: each dropped term is a constant below the threshold of the setting, or a NaN. For a
+// The terms kept and dropped, and a bound on what was dropped: each dropped term is a constant below the threshold of the setting. For a
 // formula of the exact kind (01) the value has moved by less than that.
 fn say_pruned(setting: u32, kept: u64, dropped: u64) {
     say(b"kept ");
@@ -100,7 +100,7 @@ fn say_pruned(setting: u32, kept: u64, dropped: u64) {
         say(b"\nno term was dropped\n");
         return;
     }
-    say(b"\nthe dropped terms that are numbers are together below ");
+    say(b"\nthe dropped terms are together below ");
     say_number(dropped);
     say(b" times the threshold of setting ");
     say_number(setting as u64);

@@ -13,7 +13,7 @@ use borrow.Author.Tests.{ne-eqb}
 use Rattle.definitions.specs.Limits.{mostChildren}
 use Rattle.definitions.specs.Node.{Node, at, addKind, subKind, mulKind, divKind, powKind, negKind}
 use Rattle.definitions.specs.Intern.{Lent, Built}
-use Rattle.definitions.specs.Patterns.{orElse, constantValue, addZero, subIdentity, mulIdentity, divIdentity, powIdentity, negDouble, identities, fold, foldBoth, constantFold, mulCoefMerge, addCoefMerge, merges, tryApply}
+use Rattle.definitions.specs.Patterns.{orElse, constantValue, addZero, subIdentity, mulIdentity, divIdentity, powIdentity, negDouble, identities, binary64Result, fold, foldBoth, constantFold, mulCoefMerge, addCoefMerge, merges, tryApply}
 use Rattle.store.specs.View.{nodesIn}
 use Rattle.patterns.specs.Deciding.{Decides, plainResult, declines}
 use Rattle.patterns.specs.declared.PatternResult.{PatternResult}
@@ -81,7 +81,7 @@ unfolding merges
 no-merge k a b x y l ns = rw (ne-eqb k mulKind x, ne-eqb k addKind y) refl
 
 no-fold : (k a b : ℕ) → (k ≡ addKind → ⊥) → (k ≡ subKind → ⊥) → (k ≡ mulKind → ⊥) → (k ≡ divKind → ⊥) → (l : Lent) (ns : List Node) → none ≡ constantFold l ns k a b
-unfolding constantFold fold
+unfolding constantFold fold binary64Result
 no-fold k a b x y z u l ns = go (constantValue (at ns a)) (constantValue (at ns b))
   where
     go : (s t : Option Float) → none ≡ foldBoth l ns k s t
