@@ -79,8 +79,6 @@ mark-kept w slots s h id below =
       wide = refl;
       words-past = drop-set-lt (s .count * nodeWords) w (id * nodeWords + flagsWord) _ (omega arith);
       slots-past = refl;
-      slots-same = λ _. refl;
-      slots-used = λ _ at n. refl;
       children = mark-children w (s .count) id k;
     }
 
