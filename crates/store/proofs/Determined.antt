@@ -1,26 +1,14 @@
 -- Nothing of a sound memory is free: it is what its nodes, its table size and what lies past them give.
 use Prim.Native.Nat.{ℕ, _*_}
-use mathlib.Core.Path.{_≡_, refl, sym, ap, ap₂, _∙_}
-use mathlib.Core.List.{List, _++_}
-use lib.ListN.{length, take, drop, take-append-drop}
+use mathlib.Core.Path.{_≡_, refl, sym, ap, _∙_}
+use lib.ListN.{length, drop}
 use Rattle.arena.specs.Layout.{nodeWords}
-use Rattle.arena.specs.Nodes.{Nodes}
 use Rattle.definitions.specs.Limits.{mostDoublings}
 use Rattle.definitions.specs.Intern.{tableSizeFrom}
-use Rattle.store.specs.View.{nodesIn}
-use Rattle.store.specs.Stored.{nodesWords}
-use Rattle.store.specs.Memory.{Memory, model, nodesOf, memoryAfter, Left, SameContent, TwoControllers, OneMemory}
+use Rattle.store.specs.Memory.{Memory, model, nodesOf, memoryAfter, Left, TwoControllers, OneMemory}
 use Rattle.store.proofs.Viewing.{plain-length}
 use Rattle.store.proofs.Sizes.{grown-refl, grown-is}
-use Rattle.store.proofs.Stored.{words-are, memory-is}
-
--- the words in use are the same where the nodes are, and so are all if those past them are
-module _ (w w′ : List ℕ) (count : ℕ) (s : Nodes w count) (s′ : Nodes w′ count) (e : nodesIn w count ≡ nodesIn w′ count) where
-  pub words-same : drop (count * nodeWords) w ≡ drop (count * nodeWords) w′ → w ≡ w′
-  words-same past =
-      sym (take-append-drop (count * nodeWords) w)
-      ∙ ap₂ (λ (a b : List ℕ). a ++ b) (words-are w count (s .formed) ∙ ap nodesWords e ∙ sym (words-are w′ count (s′ .formed))) past
-      ∙ take-append-drop (count * nodeWords) w′
+use Rattle.store.proofs.Stored.{memory-is}
 
 -- a table that holds its nodes need not grow
 pub size-stays : (m : Memory) → model .Sound m → m .arena .size ≡ tableSizeFrom mostDoublings (m .arena .size) (m .arena .count)

@@ -2,12 +2,11 @@
 use Prim.Native.Nat.{ℕ}
 use mathlib.Core.Path.{_≡_, refl, sym, ap, _∙_}
 use mathlib.Core.Bool.{true}
-use mathlib.Core.List.{List}
 use native.Mathlib.Omega.{arith}
 use Rattle.definitions.specs.Limits.{mostDoublings}
 use Rattle.definitions.specs.Refusals.{notSound}
-use Rattle.definitions.specs.Intern.{Lent, tableSizeFrom}
-use Rattle.definitions.specs.Machine.{Call, Answer, refused, After, State, call}
+use Rattle.definitions.specs.Intern.{tableSizeFrom}
+use Rattle.definitions.specs.Machine.{Call, Answer, refused, After, call}
 use Rattle.store.specs.View.{lent, Kept}
 use Rattle.store.specs.Memory.{Memory, model, memoryAfter, changesNothing, left, leftBy, Leaves}
 use Rattle.store.proofs.Sizes.{grown-is}

@@ -14,7 +14,7 @@ use Rattle.arena.specs.declared.node.DagNode.{DagNode}
 use Rattle.arena.specs.declared.DagArena.{DagArena}
 use Rattle.arena.specs.Layout.{nodeWords, mostNodes, mostChildren}
 use Rattle.arena.specs.Node as A
-use Rattle.arena.specs.Node.{nodeAt, put}
+use Rattle.arena.specs.Node.{put}
 use Rattle.arena.specs.Nodes.{WellFormed}
 use Rattle.arena.proofs.Putting.{put-past, put-old, put-new}
 use Rattle.arena.proofs.Finding.{found-at}
@@ -33,10 +33,10 @@ use Rattle.store.specs.declared.Built.{Built}
 use Rattle.store.specs.declared.Answer.{Answer}
 use Rattle.store.specs.declared.Answer.the-variants.{Id, Refused}
 use Rattle.store.specs.Sound.{Sound}
-use Rattle.store.specs.View.{plainNode, nodesIn, lent, Kept, Builds, Grown, plainBuilt, Low}
+use Rattle.store.specs.View.{plainNode, nodesIn, lent, Grown, plainBuilt, Low}
 use Rattle.store.specs.Memory.{memory}
 use Rattle.store.specs.Interning.{Interns}
-use Rattle.store.proofs.Viewing.{Neat, neat-of, find-is, plain-length, plain-more, plain-same}
+use Rattle.store.proofs.Viewing.{neat-of, find-is, plain-length, plain-more, plain-same}
 use Rattle.store.proofs.Sizes.{full-nodes, full-not, full-slots, full-double, grown-refl, grown-once}
 
 -- the table's answer as the store's

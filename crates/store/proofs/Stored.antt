@@ -1,7 +1,7 @@
 -- A sound store's words and slots are those of the plain machine's nodes.
 use Prim.Native.Nat.{ℕ, zero, suc, _+_, _*_, _-_, _%_, _≤_, _<_}
 use mathlib.Core.Path.{_≡_, refl, sym, ap, ap₂, _∙_}
-use mathlib.Core.Bool.{Bool, cond}
+use mathlib.Core.Bool.{cond}
 use mathlib.Core.List.{List, [], _∷_, _++_, append-assoc, append-nil}
 use lib.ListN.{length, getD, take, drop, replicate, length-append, length-replicate, length-drop, take-append-drop, getD-replicate, List·getD-append}
 use lib.Seq.{ext-getD, getD-append-add, getD-take, getD-drop, length-take-le, take-at, take-add}
@@ -10,7 +10,6 @@ use native.Mathlib.Omega.{arith}
 use native.Mathlib.Decide.{decLt}
 use borrow.Author.Tests.{le-leb, lt-leb}
 use Rattle.arena.specs.declared.node.DagNode.{DagNode}
-use Rattle.arena.specs.declared.DagArena.{DagArena}
 use Rattle.arena.specs.Layout.{nodeWords, mostChildren, childrenWord, arenaOf}
 use Rattle.arena.specs.Node.{nodeAt, wordsOf, newNode, nodeHash, canonical, flagsEnd}
 use Rattle.arena.specs.Nodes.{WellFormed, AllWellFormed}
@@ -24,7 +23,7 @@ use Rattle.definitions.specs.Intern.{tableSizeFrom}
 use Rattle.store.specs.View.{plainNode, nodesIn}
 use Rattle.store.specs.Stored.{storedNode, nodesWords, hashIn}
 use Rattle.store.specs.Memory.{Memory, memory, model, nodesOf, sizeFor, memoryAfter}
-use Rattle.store.proofs.Viewing.{neat-of, plain-more, plain-length, at-plain}
+use Rattle.store.proofs.Viewing.{neat-of, plain-length, at-plain}
 
 -- ---- a well-formed node is the one that its plain node gives
 
