@@ -18,8 +18,9 @@
  * the table; calls read and write both. An id is a node's number, from 0. Up to
  * 65,536 nodes are used, and 131,072 slots are enough for them. A store may be
  * copied or kept on disk as it is: every call looks it over first, in time that
- * grows with its nodes and its table. Words past the last whole node are unused
- * and stay. Ids are answered in 64 bits and taken in 32; those that calls and
+ * grows with its nodes and its table. The table is what putting the ids in by
+ * rising id gives, each at the first empty slot from its node's hash; in another
+ * order it is not sound. Words past the last whole node are unused and stay. Ids are answered in 64 bits and taken in 32; those that calls and
  * sheets answer are below 65,536.
  *
  * A CALL RETURNS 0 if it is answered, and its answer then stands behind the

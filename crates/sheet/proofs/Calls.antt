@@ -18,8 +18,7 @@ use Rattle.store.specs.declared.Answer as S
 use Rattle.store.specs.declared.Built.{Built}
 use Rattle.store.specs.View.{nodesIn}
 use Rattle.store.specs.Memory.{Memory, memory, model, answerOf, Leaves, Stays}
-use Rattle.store.proofs.Leaving.{KeptMemory}
-use Rattle.store.proofs.Staying.{stays-refl, leaves-stays}
+use Rattle.store.proofs.Staying.{stays-refl, kept-stays, leaves-stays}
 use Rattle.store.proofs.Viewing.{plain-length}
 use Rattle.walk.specs.declared.Answer.{Answer as Walked}
 use Rattle.walk.specs.Answers as W
@@ -34,19 +33,6 @@ use Rattle.sheet.specs.declared.performing.Answer.{Answer}
 use Rattle.sheet.specs.declared.performing.Answer.the-variants.{Refused}
 use Rattle.sheet.specs.Running.{operatorRequest, answerAs, PerformsAs, Performs, idOf, idBelow, wanted, PerformsStore, PerformsBody}
 use Rattle.sheet.proofs.Clamping.{store-same, simplify-same, prune-same, store-many, store-unlisted}
-
--- what every call keeps stays
-kept-stays : (m m′ : Memory) → KeptMemory m m′ → Stays m m′
-kept-stays m m′ k = record {
-  sound = k .whole;
-  count = k .count;
-  grown = k .grown;
-  same-lent = rw (k .long, k .wide) refl;
-  words-past = k .words-past;
-  slots-past = k .slots-past;
-  slots-same = k .slots-same;
-  slots-used = k .slots-used;
-}
 
 module _ (m : Memory) (h : model .Sound m) where
   abbrev l : Lent

@@ -2,10 +2,8 @@
 use Prim.Native.Nat.{ℕ, _+_, _%_, _-_, _≤_, _<_}
 use mathlib.Core.Path.{_≡_, sym, _∙_, ap}
 use native.Mathlib.Omega.{arith}
-use native.Mathlib.Nat.{mod-lt, add-zero}
-use native.Mathlib.Numerals.{add-one}
+use native.Mathlib.Nat.{mod-lt}
 use borrow.Author.Needs.{needs}
-use borrow.Author.Tests.{not-true, not-false}
 use Rattle.dedup.specs.Audit.{LowerBefore}
 use Rattle.dedup.proofs.Doubling.{positive}
 use Rattle.dedup.proofs.Rounds.{round-next}
