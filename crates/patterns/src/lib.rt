@@ -1,23 +1,27 @@
-// The patterns of patterns.rs over the store, first that fits: identities, then folding, then merging. Each pattern decides over the
-// nodes as they are what is to stand in an operator's place; `carry_out` then makes it.
+// The patterns of patterns.rs over the store, first that fits: identities, then folding, then merging; and the strict ones of 02 (i). Each pattern
+// decides over the nodes as they are what is to stand in an operator's place; `carry_out` then makes it.
 mod carrying;
 mod constants;
 mod folding;
 mod identities;
 mod merging;
+mod strict;
 
 ghost use mathlib.Core.Path.{_≡_};
 ghost use mathlib.Core.List.{[], _∷_};
 ghost use lib.ListN.{take};
+ghost use Rattle.definitions.specs.Modes.{modeOf};
 ghost use Rattle.definitions.specs.Patterns as P;
 ghost use Rattle.store.specs.View.{nodesIn, lent, Sound};
 ghost use Rattle.patterns.specs.Deciding.{Both, Decides, declines};
 ghost use Rattle.patterns.specs.Applied.{Operands, Ready, Applies, appliedOf};
+ghost use Rattle.patterns.specs.Strictly.{applyAs};
 use arena::DagArena;
 use arena::MOST_CHILDREN;
 use arena::kind::ADD;
 use arena::kind::MOD;
 use arena::kind::NEG;
+use definitions::mode::Mode;
 use store::Answer;
 use store::Built;
 
@@ -73,16 +77,35 @@ fn binary_pattern(nodes: &[u64], count: u64, kind: u64, lhs: u64, rhs: u64) -> P
     merging::merge(nodes, count, kind, lhs, rhs)
 }
 
+// The first pattern of a mode that fits an operator of two operands.
+fn operator_pattern(
+    nodes: &[u64],
+    count: u64,
+    mode: Mode,
+    kind: u64,
+    lhs: u64,
+    rhs: u64,
+) -> PatternResult
+    requires { ⌜ Both (now nodes) count lhs rhs ⌝ }
+    ensures { λ r. ⌜ Decides (now (nodes .entry)) count (λ l ns. applyAs (modeOf mode) l ns kind (lhs ∷ rhs ∷ [])) r ⌝ }
+{
+    match mode {
+        Mode::Standard => binary_pattern(nodes, count, kind, lhs, rhs),
+        Mode::Strict => strict::strict_pattern(nodes, count, kind, lhs, rhs),
+    }
+}
+
 // The first pattern that fits a kind over its children. Only operators have patterns.
 fn pattern(
     nodes: &[u64],
     count: u64,
+    mode: Mode,
     kind: u64,
     children: [u64; MOST_CHILDREN],
     arity: u64,
 ) -> PatternResult
     requires { ⌜ Ready (now nodes) count arity children ⌝ }
-    ensures { λ r. ⌜ Decides (now (nodes .entry)) count (λ l ns. P.tryApply l ns kind (take arity children)) r ⌝ }
+    ensures { λ r. ⌜ Decides (now (nodes .entry)) count (λ l ns. applyAs (modeOf mode) l ns kind (take arity children)) r ⌝ }
 {
     match kind {
         NEG => {
@@ -94,7 +117,7 @@ fn pattern(
         }
         ADD..=MOD => {
             if arity == 2 {
-                binary_pattern(nodes, count, kind, children[0], children[1])
+                operator_pattern(nodes, count, mode, kind, children[0], children[1])
             } else {
                 PatternResult::Declined
             }
@@ -121,20 +144,21 @@ fn answered(built: Built) -> Applied
     }
 }
 
-// The first pattern that fits a kind over new children, carried out.
+// The first pattern of a mode that fits a kind over new children, carried out.
 pub fn try_apply(
     nodes: &mut [u64],
     slots: &mut [u32],
     arena: DagArena,
+    mode: Mode,
     kind: u64,
     children: [u64; MOST_CHILDREN],
     arity: u64,
 ) -> Applied
     requires { ⌜ Operands (arena .count) arity children × Sound (now nodes) (now slots) arena ⌝ }
-    ensures { λ r. ⌜ Applies (now (nodes .entry)) (now (slots .entry)) arena (P.tryApply (lent (now (nodes .entry)) (now (slots .entry))) (nodesIn (now (nodes .entry)) (arena .count)) kind (take arity children)) (now (nodes .exit)) (now (slots .exit)) r ⌝ }
+    ensures { λ r. ⌜ Applies (now (nodes .entry)) (now (slots .entry)) arena (applyAs (modeOf mode) (lent (now (nodes .entry)) (now (slots .entry))) (nodesIn (now (nodes .entry)) (arena .count)) kind (take arity children)) (now (nodes .exit)) (now (slots .exit)) r ⌝ }
 {
     let count = arena.count;
-    let result = pattern(nodes, count, kind, children, arity);
+    let result = pattern(nodes, count, mode, kind, children, arity);
     match result {
         PatternResult::Fits(replacement) => answered(carrying::carry_out(
             nodes,

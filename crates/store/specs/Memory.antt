@@ -67,7 +67,7 @@ keepsInterned number = eqb number noNodePlace || eqb number noSlotPlace
 
 abbrev pub changesNothing : M.Call → ℕ → Bool
 changesNothing (M.store c) number = true
-changesNothing (M.simplify id depth budget) number = not (keepsInterned number)
+changesNothing (M.simplify mode id depth budget) number = not (keepsInterned number)
 changesNothing (M.prune id threshold) number = not (keepsInterned number)
 changesNothing (M.pruneBySetting id setting) number = not (keepsInterned number)
 
