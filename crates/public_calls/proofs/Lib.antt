@@ -1,2 +1,4 @@
 pub mod Refusals
 pub mod Sheets
+pub mod FreshMemory
+pub mod SheetAnswers
