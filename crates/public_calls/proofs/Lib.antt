@@ -2,3 +2,5 @@ pub mod Refusals
 pub mod Sheets
 pub mod FreshMemory
 pub mod SheetAnswers
+pub mod OneRun
+pub mod Beginnings
