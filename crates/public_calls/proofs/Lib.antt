@@ -4,3 +4,4 @@ pub mod FreshMemory
 pub mod SheetAnswers
 pub mod OneRun
 pub mod Beginnings
+pub mod Listings
