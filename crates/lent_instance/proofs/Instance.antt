@@ -16,8 +16,11 @@ use Rattle.hash.specs.Fnv.{nodeHashOf, fnvFrom, timesPrime, bytes32, bytes64, c
 use Rattle.definitions.specs.Machine.{variable, constant, add}
 use Rattle.definitions.specs.Names.{internName, sameName, entryBytes}
 use Rattle.definitions.specs.Node.{Node, node, variableKind, constantKind, addKind, bothFlags}
-use Rattle.definitions.specs.Controller.{Controller, emptyController, ControllerCall, building, simplifying, naming, stored, refused, numbered, controllerAnswers, controllers, Part, storePart, namesPart, pruningBySetting, simplified, pruned}
+use Rattle.definitions.specs.Controller.{Controller, emptyController, ControllerCall, ControllerAnswer, building, simplifying, naming, stored, refused, numbered, controllerAnswers, controllers, Part, storePart, namesPart, pruningBySetting, simplified, pruned}
 use Rattle.definitions.specs.Formula.{formula}
+use Rattle.definitions.specs.Settings.{setting}
+use Rattle.definitions.specs.Value.{Reading, valueOf}
+use Rattle.definitions.specs.Exact.{Exact, bound}
 use Rattle.definitions.specs.Promise.{FreshController, All, Balanced, Promise}
 use Rattle.definitions.proofs.Histories.{demand3}
 use Rattle.store.specs.View.{plainNode, nodesIn}
@@ -25,7 +28,7 @@ use Rattle.dedup.specs.Table.{hashAt}
 use Rattle.names.specs.Entry.{entryAt, SoundEntry}
 use Rattle.names.specs.Sound.{Sound as NamesSound, namesOf}
 use Rattle.names.proofs.Modelled.{no-names}
-use Rattle.text.specs.Memory.{lentController}
+use Rattle.text.specs.Memory.{ControllerMemory, lentController}
 use Rattle.lent_instance.specs.Memory.{lentHere, wordsFor, slotsFor, bytesFor, memoryFor}
 use Rattle.lent_instance.proofs.Checking.{and-both, every-below, storeSound, store-sound}
 use Rattle.lent_instance.proofs.Histories.{Held, history-held}
@@ -123,3 +126,48 @@ all-held =
     (held (x ∷ c ∷ inner true ∷ outer ∷ []) tt refl tt,
     (held (x ∷ c ∷ inner true ∷ outer ∷ kept ∷ []) tt refl tt,
     (held (x ∷ c ∷ inner true ∷ outer ∷ kept ∷ []) tt refl tt, tt)))))))))
+
+-- ---- the promise
+
+abbrev answers : List ControllerAnswer
+answers = controllerAnswers lentHere emptyController calls
+
+abbrev memories : List ControllerMemory
+memories = map memoryFor (controllers lentHere emptyController calls)
+
+fresh : FreshController lentController (memoryFor emptyController)
+fresh = record { sound = held-empty .sound; view = held-empty .view }
+
+pub promised : Promise (lentController .lent (memoryFor emptyController)) calls answers (map (lentController .view) memories)
+promised = demand3 lentController (memoryFor emptyController) calls answers memories fresh (history-held emptyController calls held-empty all-held) .0
+
+-- the memory after a call, as the plain machine sees it
+abbrev seenAfter : ℕ → Controller
+seenAfter n = getD (emptyController ∷ map (lentController .view) memories) n emptyController
+
+-- flow + (flow + 0.0625) is of the exact kind
+old-is-exact : Exact (formula (seenAfter 6 .nodes) 3)
+unfolding Exact formula controllers ofBits bound nodesIn plainNode nodeAt wordsFrom wordsOf newNode sameName addFloat le lt eq
+old-is-exact = (lit≤ tt, tt, ((lit≤ tt, tt, tt), ((lit≤ tt, tt, ((lit≤ tt, tt, tt), ((lit≤ tt, tt, tt), tt))), tt)))
+
+-- 0.1, the threshold of setting 200
+abbrev tenth : ℕ
+tenth = 0x3FB999999999999A
+
+-- The walk at 6 was spent and the prune at 7 dropped 0.0625 by setting 200: the value of flow + (flow + 0.0625) is that of flow + flow and 0.0625.
+pub instance : Balanced (formula (seenAfter 6 .nodes) 3) (formula (seenAfter 7 .nodes) 3) (formula (seenAfter 8 .nodes) 4) (ofBits binary64 tenth) 2 1
+unfolding controllerAnswers controllers sameName addFloat le lt eq ofBits setting
+instance =
+    promised .balance 6 7 3 255 5 3 5 tenth 4 2 1 true (pruningBySetting 3 200) (seenAfter 6) (seenAfter 7) (seenAfter 8) (lit< tt)
+    refl refl refl refl refl refl refl refl tt old-is-exact .4
+
+-- The prune at 8, by a setting without a threshold, answers the spent walk's answer untouched, and the value is the old one.
+pub untouched-instance : (r : Reading) → valueOf r (formula (seenAfter 6 .nodes) 3) ≡ valueOf r (formula (seenAfter 9 .nodes) 3)
+unfolding controllerAnswers controllers sameName addFloat le lt eq ofBits setting
+untouched-instance =
+    promised .untouched-balance 6 8 3 255 5 3 5 true (pruningBySetting 3 0) (seenAfter 6) (seenAfter 7) (seenAfter 9) (lit< tt)
+    refl refl refl refl refl refl refl old-is-exact .4
+
+-- the memory is sound after every call, the refused one and the spent walk too
+pub sound-after : All (λ m. (p : Part) → lentController .Sound m p) memories
+sound-after = demand3 lentController (memoryFor emptyController) calls answers memories fresh (history-held emptyController calls held-empty all-held) .1
