@@ -17,7 +17,7 @@ use Rattle.definitions.specs.Machine.{variable, constant, add}
 use Rattle.definitions.specs.Names.{internName, sameName, entryBytes}
 use Rattle.definitions.specs.Node.{Node, node, variableKind, constantKind, addKind, bothFlags}
 use Rattle.definitions.specs.Controller.{Controller, emptyController, ControllerCall, ControllerAnswer, building, simplifying, naming, stored, refused, numbered, controllerAnswers, controllers, Part, storePart, namesPart, pruningBySetting, simplified, pruned}
-use Rattle.definitions.specs.Formula.{formula}
+use Rattle.definitions.specs.Formula.{Tree, tree, nil, cons, formula}
 use Rattle.definitions.specs.Settings.{setting}
 use Rattle.definitions.specs.Value.{Reading, valueOf}
 use Rattle.definitions.specs.Exact.{Exact, bound}
@@ -154,16 +154,29 @@ old-is-exact = (lit≤ tt, tt, ((lit≤ tt, tt, tt), ((lit≤ tt, tt, ((lit≤ t
 abbrev tenth : ℕ
 tenth = 0x3FB999999999999A
 
--- The walk at 6 was spent and the prune at 7 dropped 0.0625 by setting 200: the value of flow + (flow + 0.0625) is that of flow + flow and 0.0625.
-pub instance : Balanced (formula (seenAfter 6 .nodes) 3) (formula (seenAfter 7 .nodes) 3) (formula (seenAfter 8 .nodes) 4) (ofBits binary64 tenth) 2 1
-unfolding controllerAnswers controllers sameName addFloat le lt eq ofBits setting
+-- flow, 0.0625, and flow + (flow + 0.0625)
+abbrev flowTree : Tree
+flowTree = tree variableKind 0 0 nil
+
+abbrev sixteenthTree : Tree
+sixteenthTree = tree constantKind 0x3FB0000000000000 0 nil
+
+abbrev sumTree : Tree → Tree → Tree
+sumTree a b = tree addKind 0 bothFlags (cons a (cons b nil))
+
+abbrev oldTree : Tree
+oldTree = sumTree flowTree (sumTree flowTree sixteenthTree)
+
+-- The walk at 6 was spent, and the prune at 7 dropped 0.0625 by setting 200: the old value is that of flow + flow and 0.0625.
+pub instance : Balanced oldTree oldTree (sumTree flowTree flowTree) (ofBits binary64 tenth) 2 1
+unfolding controllerAnswers controllers sameName addFloat le lt eq ofBits setting formula nodesIn plainNode nodeAt wordsFrom wordsOf newNode
 instance =
     promised .balance 6 7 3 255 5 3 5 tenth 4 2 1 true (pruningBySetting 3 200) (seenAfter 6) (seenAfter 7) (seenAfter 8) (lit< tt)
     refl refl refl refl refl refl refl refl tt old-is-exact .4
 
--- The prune at 8, by a setting without a threshold, answers the spent walk's answer untouched, and the value is the old one.
-pub untouched-instance : (r : Reading) → valueOf r (formula (seenAfter 6 .nodes) 3) ≡ valueOf r (formula (seenAfter 9 .nodes) 3)
-unfolding controllerAnswers controllers sameName addFloat le lt eq ofBits setting
+-- The prune at 8, by a setting without a threshold, answers the spent walk's answer untouched, and the value of its formula is the old one.
+pub untouched-instance : (r : Reading) → valueOf r oldTree ≡ valueOf r (formula (seenAfter 9 .nodes) 3)
+unfolding controllerAnswers controllers sameName addFloat le lt eq ofBits setting formula nodesIn plainNode nodeAt wordsFrom wordsOf newNode
 untouched-instance =
     promised .untouched-balance 6 8 3 255 5 3 5 true (pruningBySetting 3 0) (seenAfter 6) (seenAfter 7) (seenAfter 9) (lit< tt)
     refl refl refl refl refl refl refl old-is-exact .4
