@@ -37,7 +37,7 @@ held-called : (s : Controller) (c : ControllerCall) → Held s → Held (control
     → ControllerCalled lentController c (memoryFor s) (controllerCall lentHere s c .answer) (memoryFor (controllerCall lentHere s c .left))
 held-called s c h k =
     let plain : controllerCall (lentController .lent (memoryFor s)) (lentController .view (memoryFor s)) c ≡ controllerCall lentHere s c =
-        ap₂ (λ (l : LentLists) (t : Controller). controllerCall l t c) (h .lent) (h .view) in
+    ap₂ (λ (l : LentLists) (t : Controller). controllerCall l t c) (h .lent) (h .view) in
     record {
       unsound = λ u. absurd (u (all-of (lentController .Sound (memoryFor s)) (h .sound) (takes c)));
       answer = λ u. ap (λ (r : AfterCall). r .answer) (sym plain);

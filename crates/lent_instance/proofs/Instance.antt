@@ -116,16 +116,31 @@ held ns t v l =
 
 all-held : All Held (controllers lentHere emptyController calls)
 unfolding controllers sameName addFloat le lt eq ofBits storeSound slotsFor nodesIn plainNode nodeAt wordsFrom wordsOf newNode nodeHashOf fnvFrom timesPrime bytes32 bytes64 childrenBytes coefficient listed operatorArity one nodeHash
-all-held =
-    (held [] tt refl tt,
-    (held (x ∷ []) tt refl tt,
-    (held (x ∷ c ∷ []) tt refl tt,
-    (held (x ∷ c ∷ inner false ∷ []) tt refl tt,
-    (held (x ∷ c ∷ inner false ∷ outer ∷ []) tt refl tt,
-    (held (x ∷ c ∷ inner false ∷ outer ∷ []) tt refl tt,
-    (held (x ∷ c ∷ inner true ∷ outer ∷ []) tt refl tt,
-    (held (x ∷ c ∷ inner true ∷ outer ∷ kept ∷ []) tt refl tt,
-    (held (x ∷ c ∷ inner true ∷ outer ∷ kept ∷ []) tt refl tt, tt)))))))))
+all-held = (
+  held [] tt refl tt,
+  (
+    held (x ∷ []) tt refl tt,
+    (
+      held (x ∷ c ∷ []) tt refl tt,
+      (
+        held (x ∷ c ∷ inner false ∷ []) tt refl tt,
+        (
+          held (x ∷ c ∷ inner false ∷ outer ∷ []) tt refl tt,
+          (
+            held (x ∷ c ∷ inner false ∷ outer ∷ []) tt refl tt,
+            (
+              held (x ∷ c ∷ inner true ∷ outer ∷ []) tt refl tt,
+              (
+                held (x ∷ c ∷ inner true ∷ outer ∷ kept ∷ []) tt refl tt,
+                (held (x ∷ c ∷ inner true ∷ outer ∷ kept ∷ []) tt refl tt, tt),
+              ),
+            ),
+          ),
+        ),
+      ),
+    ),
+  ),
+)
 
 -- ---- the promise
 

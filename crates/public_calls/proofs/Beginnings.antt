@@ -35,7 +35,7 @@ start-of w w′ zero j′ i rest rest′ l low h h′ e =
 start-of w w′ (suc j) zero i rest rest′ l low h h′ e = absurd (omega arith)
 start-of w w′ (suc j) (suc j′) i rest rest′ l low h h′ e =
     let u = line-unique (omega arith) (run-line h (linesFrom w j (suc i) ++ rest))
-        (subst (λ (x : List ℕ). LineOf x i (nodeAt w′ i) (linesFrom w′ j′ (suc i) ++ rest′)) (sym (sym (line-then w j i rest) ∙ e ∙ line-then w′ j′ i rest′)) (run-line h′ (linesFrom w′ j′ (suc i) ++ rest′))) in
+    (subst (λ (x : List ℕ). LineOf x i (nodeAt w′ i) (linesFrom w′ j′ (suc i) ++ rest′)) (sym (sym (line-then w j i rest) ∙ e ∙ line-then w′ j′ i rest′)) (run-line h′ (linesFrom w′ j′ (suc i) ++ rest′))) in
     go (u .0) (start-of w w′ j j′ (suc i) rest rest′ (omega arith) (omega arith) (run-next h) (run-next h′) (u .1))
   where
     go : nodeAt w i ≡ nodeAt w′ i → StartOf w w′ j j′ (suc i) rest rest′ → StartOf w w′ (suc j) (suc j′) i rest rest′

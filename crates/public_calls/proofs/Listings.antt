@@ -155,7 +155,7 @@ module _ (bytes before after after′ : List ℕ) (r r′ : Answer) (h : Reading
       let z : c′ - c ≡ 0 = omega arith in
       let rests : rest ≡ rest′ = s .rest-is ∙ nothing-left z in
       let y : Ending o c rest lent r′ =
-          subst (λ (k : ℕ). Ending o k rest lent r′) (sym same) (subst (λ (t : List ℕ). Ending o c′ t lent r′) (sym rests) (subst (λ (k : Outcome). Ending k c′ rest′ lent r′) (sym (one-outcome b b′)) x′)) in
+      subst (λ (k : ℕ). Ending o k rest lent r′) (sym same) (subst (λ (t : List ℕ). Ending o c′ t lent r′) (sym rests) (subst (λ (k : Outcome). Ending k c′ rest′ lent r′) (sym (one-outcome b b′)) x′)) in
       let f = b .formed .fits in
       let g : c * nodeWords ≤ length after′ = subst (λ (k : ℕ). k * nodeWords ≤ length after′) (sym same) (b′ .formed .fits) in
       (one-answer x y, same-after c f g (λ k m. let i : 0 + k ≡ k = omega arith in subst (λ (j : ℕ). nodeAt after j ≡ nodeAt after′ j) i (s .same k m)) (nodes-written x) (nodes-written y))

@@ -88,7 +88,7 @@ module _ (bytes : List ℕ) (m m′ m″ : Memory) (o o′ : Outcome) (f : Runs 
   one-run =
       let outcomes = either (outcomeNumbers o) (outcomeNumbers o′) (λ h. ap outcomeNumbers (sound-outcome h)) (λ n. ap outcomeNumbers (unsound-outcome n)) in
       let counts = either (m′ .arena .count ∷ m′ .arena .size ∷ []) (m″ .arena .count ∷ m″ .arena .size ∷ [])
-          (λ h. ap₂ (λ (x y : ℕ). x ∷ y ∷ []) (sound-count h) (sound-size h)) (λ n. ap (λ (x : Memory). x .arena .count ∷ x .arena .size ∷ []) (unsound-memory n)) in
+      (λ h. ap₂ (λ (x y : ℕ). x ∷ y ∷ []) (sound-count h) (sound-size h)) (λ n. ap (λ (x : Memory). x .arena .count ∷ x .arena .size ∷ []) (unsound-memory n)) in
       record {
         outcome = sym (back o) ∙ ap outcomeFrom outcomes ∙ back o′;
         words = either (m′ .words) (m″ .words) sound-words (λ n. ap (λ (x : Memory). x .words) (unsound-memory n));
