@@ -1,25 +1,19 @@
--- What finding and running the call at a place of a list says.
+-- What finding the call at a place of a list says.
 use Prim.Native.Nat.{ℕ, _+_, _-_, _≤_}
 use mathlib.Core.Path.{_≡_}
 use mathlib.Core.Option.{Option, none, some}
 use mathlib.Core.List.{List}
 use lib.ListN.{length, getD, take, drop}
 use Rattle.definitions.specs.Controller.{ControllerCall}
-use Rattle.text.specs.Memory.{ControllerMemory}
-use Rattle.calls.specs.declared.handing.CallResult.{CallResult}
-use Rattle.calls.specs.Encoding.{headerWords, lastCode, callOfCode, firstCall}
-use Rattle.calls.specs.Calling.{RunsCall}
-use Rattle.history.specs.declared.finding.Next.{Next}
-use Rattle.history.specs.declared.finding.Next.the-variants.{Call, Stop}
+use Rattle.encoding.specs.Encoding.{headerWords, lastCode, callOfCode, firstCall}
+use Rattle.encoding.specs.declared.finding.Next.{Next}
+use Rattle.encoding.specs.declared.finding.Next.the-variants.{Call, Stop}
 
 -- the call whose header stands at one place, with the operands up to another
 abbrev pub callBetween : List ℕ → ℕ → ℕ → Option ControllerCall
 callBetween calls at end =
     callOfCode (getD calls at 0) (getD calls (at + 1) 0) (getD calls (at + 2) 0) (getD calls (at + 3) 0) (getD calls (at + 4) 0)
     (take (end - (at + headerWords)) (drop (at + headerWords) calls))
-
-abbrev pub RunsCallAt : List ℕ → ℕ → ℕ → ControllerMemory → CallResult → ControllerMemory → Type 0
-RunsCallAt calls at end m r m′ = RunsCall (callBetween calls at end) m r m′
 
 -- a whole call with a known code stands between two places, and it is the first of the words from there on
 pub record WholeCall (calls : List ℕ) (at end : ℕ) : Type 0 where

@@ -7,8 +7,8 @@ use lib.ListN.{length, getD, take, set, length-set, length-map, List·getD-map}
 use lib.Seq.{take-all, take-suc, take-suc-set}
 use native.Mathlib.Numerals.{add-one}
 use native.Mathlib.Omega.{arith}
-use Rattle.calls.specs.Encoding.{lowestByte, bytesOf}
-use Rattle.calls.specs.Calling.{SpellsUpTo}
+use Rattle.encoding.specs.Encoding.{lowestByte, bytesOf}
+use Rattle.encoding.specs.Spelling.{SpellsUpTo}
 
 -- the first so many bytes are spelled
 pub record SpelledTo (most : ℕ) (operands bytes : List ℕ) (i : ℕ) : Type 0 where

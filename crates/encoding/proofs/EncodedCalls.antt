@@ -13,8 +13,8 @@ use Rattle.definitions.specs.Machine.{variable, constant, add, sub, mul, div, p
 use Rattle.definitions.specs.Names.{internName, lookupName, nameOf}
 use Rattle.definitions.specs.Controller.{ControllerCall, building, simplifying, pruning, pruningBySetting, naming, reading}
 use Rattle.definitions.specs.Promise.{All}
-use Rattle.calls.specs.Encoding.{withRest, headerWords, wordValues, callOfCode, firstCall, decode, unread, readWords, bytesOf, wordsOf, encodeCall, encode, Word, WideWord, OperandsWithin, Byte, CallWithin, Encodes}
-use Rattle.history.proofs.Decoding.{decode-none, decode-some, unread-none, unread-some, none-in-nothing}
+use Rattle.encoding.specs.Encoding.{withRest, headerWords, wordValues, callOfCode, firstCall, decode, unread, readWords, bytesOf, wordsOf, encodeCall, encode, Word, WideWord, OperandsWithin, Byte, CallWithin, Encodes}
+use Rattle.encoding.proofs.Decoding.{decode-none, decode-some, unread-none, unread-some, none-in-nothing}
 
 -- ---- the first call of a call's words and more
 

@@ -9,7 +9,7 @@ use lib.Dec.{leb}
 use native.Mathlib.Omega.{arith}
 use borrow.Author.Tests.{leb-true}
 use Rattle.definitions.specs.Controller.{ControllerCall}
-use Rattle.calls.specs.Encoding.{withRest, callOfCode, firstCall, Decoded, decoded, withFirst, decodeFrom, decode, unread}
+use Rattle.encoding.specs.Encoding.{withRest, callOfCode, firstCall, Decoded, decoded, withFirst, decodeFrom, decode, unread}
 
 -- the rest after a call is shorter
 pub shorter : (ws : List ℕ) (c : ControllerCall) (r : List ℕ) → firstCall ws ≡ some (c, r) → length r < length ws

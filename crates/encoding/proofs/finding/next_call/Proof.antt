@@ -2,10 +2,10 @@ use Prim.Native.Nat.{_+_}
 use native.Mathlib.Omega.{arith}
 use borrow.Author.Tests.{not-true, not-false}
 use mathlib.Core.Path.{sym, _∙_}
-use Rattle.history.proofs.FirstCalls.{stops-at, short-header, short-operands, unknown-code, whole-call}
+use Rattle.encoding.proofs.FirstCalls.{stops-at, short-header, short-operands, unknown-code, whole-call}
 use borrow.Author.Needs.{needs}
-use Rattle.history.proofs.finding.next_call.Statement.{statement}
-use Rattle.history.proofs.finding.next_call.Tie as tie
+use Rattle.encoding.proofs.finding.next_call.Statement.{statement}
+use Rattle.encoding.proofs.finding.next_call.Tie as tie
 
 sub-left : tie.Need-sub-left
 sub-left c = search needs

@@ -11,10 +11,10 @@ use native.Mathlib.Omega.{arith}
 use native.Mathlib.Nat.{add-zero}
 use borrow.Author.Tests.{le-leb, lt-leb, leb-true}
 use Rattle.definitions.specs.Controller.{ControllerCall}
-use Rattle.history.specs.declared.finding.Next.the-variants.{Call, Stop}
-use Rattle.calls.specs.Encoding.{withRest, headerWords, lastCode, callOfCode, known, firstCall}
-use Rattle.history.specs.Finding.{callBetween, WholeCall, FindsCall}
-use Rattle.calls.proofs.CodeCalls.{known-has, unknown-has-none}
+use Rattle.encoding.specs.declared.finding.Next.the-variants.{Call, Stop}
+use Rattle.encoding.specs.Encoding.{withRest, headerWords, lastCode, callOfCode, known, firstCall}
+use Rattle.encoding.specs.Finding.{callBetween, WholeCall, FindsCall}
+use Rattle.encoding.proofs.CodeTable.{known-has, unknown-has-none}
 
 call-is-not-stop : (A : Type 0) (end : ℕ) → Call end ≡ Stop → A
 call-is-not-stop A end e = let z : _≡_ {A = ℕ} 0 1 = cc in absurd (omega arith)

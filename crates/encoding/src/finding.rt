@@ -2,16 +2,16 @@
 ghost use mathlib.Core.Path.{_≡_};
 ghost use Prim.Native.Nat.{_≤_};
 ghost use lib.ListN.{length};
-ghost use Rattle.calls.specs.Encoding.{known};
-ghost use Rattle.history.specs.Finding.{FindsCall};
-use calls::codes::READ;
+ghost use Rattle.encoding.specs.Encoding.{known};
+ghost use Rattle.encoding.specs.Finding.{FindsCall};
+use crate::codes::READ;
 
 // Code, a, b, high, low, number of operands.
-pub(crate) const HEADER_WORDS: usize = 6;
+pub const HEADER_WORDS: usize = 6;
 
 const LAST_CODE: u32 = READ;
 
-pub(crate) enum Next {
+pub enum Next {
     // The place after the call.
     Call { end: usize },
     // No whole call with a known code.
@@ -26,7 +26,7 @@ fn is_known(code: u32) -> bool
 }
 
 // Whether a whole call with a known code stands at a place.
-pub(crate) fn next_call(calls: &[u32], at: usize) -> Next
+pub fn next_call(calls: &[u32], at: usize) -> Next
     requires { ⌜ at ≤ length (now calls) ⌝ }
     ensures { λ r. ⌜ FindsCall (now (calls .entry)) at r ⌝ }
 {
