@@ -3,8 +3,8 @@ ghost use mathlib.Core.List.{[], _∷_};
 ghost use Rattle.writer.specs.Writing.{lists, Writes};
 ghost use Rattle.outputs.specs.Calls.{arenaOf, OutputsStay};
 ghost use Rattle.curvalique.specs.Writing.{lengthUnlessRefused};
-use outputs::leaving::ANSWERED;
 use arena::DagArena;
+use outputs::leaving::ANSWERED;
 use writer::Answer;
 
 // The text of a node, and its length.
