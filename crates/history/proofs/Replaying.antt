@@ -35,14 +35,14 @@ use Rattle.definitions.specs.Beside.{beside}
 use Rattle.calls.specs.Memory.{freshControllerMemory, CallLeaves, done}
 use Rattle.history.specs.declared.Run.{Run}
 use Rattle.history.specs.declared.Opening.the-variants.{Opened, Refused}
-use Rattle.calls.specs.Encoding.{firstCall, decode, unread, readWords}
+use Rattle.encoding.specs.Encoding.{firstCall, decode, unread, readWords}
 use Rattle.calls.specs.Calling.{lastReplyOf}
-use Rattle.history.specs.Finding.{RunsCallAt, WholeCall}
-use Rattle.history.specs.Replaying.{after, Continues, RunsAll, lentIn, Promised, NothingRun, Replays}
+use Rattle.encoding.specs.Finding.{WholeCall}
+use Rattle.history.specs.Replaying.{RunsCallAt, after, Continues, RunsAll, lentIn, Promised, NothingRun, Replays}
 use Rattle.history.proofs.Keeping.{history-of}
 use Rattle.calls.proofs.CodeCalls.{store-beside}
 use Rattle.history.proofs.Turns.{turns-more, stays-in-turn, NamesStay, names-in-turn, last-is}
-use Rattle.history.proofs.Decoding.{decode-none, decode-some, unread-none, unread-some, none-in-nothing}
+use Rattle.encoding.proofs.Decoding.{decode-none, decode-some, unread-none, unread-some, none-in-nothing}
 
 -- the calls before a place were run, so many of them, and with those from there on they are all
 pub record RunTo (m : ControllerMemory) (calls : List ℕ) (at : ℕ) (r : CallResult) (many : ℕ) (m′ : ControllerMemory) : Type 0 where

@@ -23,8 +23,9 @@ use Rattle.history.specs.declared.Replayed.{Replayed}
 use Rattle.history.specs.declared.Opening.the-variants.{Opened, Refused}
 use Rattle.text.specs.Memory.{ControllerMemory, controllerMemory, lentController}
 use Rattle.calls.specs.Memory.{freshControllerMemory, LeavesInTurn}
-use Rattle.calls.specs.Encoding.{firstCall, decode, readWords}
-use Rattle.calls.specs.Calling.{lastReplyOf, NameBeside}
+use Rattle.encoding.specs.Encoding.{firstCall, decode, readWords}
+use Rattle.encoding.specs.Finding.{callBetween}
+use Rattle.calls.specs.Calling.{lastReplyOf, NameBeside, RunsCall}
 
 -- the last of a list, if there is one
 abbrev pub last : {A : Type 0} → List A → Option A
@@ -34,6 +35,9 @@ last (x ∷ xs) = some (lastOf x xs)
 -- the memory that was lent, after a call
 abbrev pub after : List ℕ → List ℕ → List ℕ → CallResult → ControllerMemory
 after words slots bytes r = controllerMemory words slots (r .arena) bytes (r .names)
+
+abbrev pub RunsCallAt : List ℕ → ℕ → ℕ → ControllerMemory → CallResult → ControllerMemory → Type 0
+RunsCallAt calls at end m r m′ = RunsCall (callBetween calls at end) m r m′
 
 -- Calls on any memory: the answers, the memory after each, and the last of both.
 pub record Continues (m : ControllerMemory) (cs : List ControllerCall) (r : CallResult) (m′ : ControllerMemory) : Type 0 where
