@@ -8,7 +8,7 @@ use arena::DagArena;
 use writer::Answer;
 
 // 01's greatest depth limit, and a budget; a walk that uses it up says so. A second walk of an answer goes no deeper, for the answer is marked.
-const DEPTH: u32 = 255;
+pub const DEPTH: u32 = 255;
 
 const BUDGET: u64 = 100_000_000;
 
