@@ -1,8 +1,8 @@
 use borrow.Author.Needs.{needs}
 use Prim.Native.Nat.{_-_, _≤_}
 use lib.ListN.{length}
-use Rattle.writer_tests.proofs.line_end.Statement.{statement}
-use Rattle.writer_tests.proofs.line_end.Tie as tie
+use Rattle.writer_tests.proofs.lines.line_end.Statement.{statement}
+use Rattle.writer_tests.proofs.lines.line_end.Tie as tie
 
 abbrev Inv-loop : tie.InvT-loop
 Inv-loop input from at₀ at = (from ≤ at) × (at ≤ length input)

@@ -2,8 +2,8 @@ use mathlib.Core.Path.{sym}
 use lib.Seq.{length-take-le}
 use native.Mathlib.Omega.{arith}
 use borrow.Author.Needs.{needs}
-use Rattle.writer_tests.proofs.say_first.Statement.{statement}
-use Rattle.writer_tests.proofs.say_first.Tie as tie
+use Rattle.writer_tests.proofs.printing.say_first.Statement.{statement}
+use Rattle.writer_tests.proofs.printing.say_first.Tie as tie
 
 slice-aggregate-say : tie.Need-slice-aggregate-say
 slice-aggregate-say c = sym (length-take-le _ _ (omega arith))

@@ -2,8 +2,8 @@ use mathlib.Core.Path.{sym}
 use lib.Seq.{length-take-le}
 use native.Mathlib.Omega.{arith}
 use borrow.Author.Needs.{needs}
-use Rattle.writer_tests.proofs.operator_over.Statement.{statement}
-use Rattle.writer_tests.proofs.operator_over.Tie as tie
+use Rattle.writer_tests.proofs.building.operator_over.Statement.{statement}
+use Rattle.writer_tests.proofs.building.operator_over.Tie as tie
 
 returns : tie.Need-returns
 returns c = search needs

@@ -1,6 +1,6 @@
 use borrow.Author.Needs.{needs}
-use Rattle.writer_tests.proofs.over_last_often.Statement.{statement}
-use Rattle.writer_tests.proofs.over_last_often.Tie as tie
+use Rattle.writer_tests.proofs.building.over_last_often.Statement.{statement}
+use Rattle.writer_tests.proofs.building.over_last_often.Tie as tie
 
 abbrev Inv-loop : tie.InvT-loop
 Inv-loop nodes₀ slots₀ code often now₀ left₀ nodes slots now left = Unit {0}

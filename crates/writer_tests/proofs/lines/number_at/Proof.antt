@@ -1,8 +1,8 @@
 use borrow.Author.Needs.{needs}
 use Prim.Native.Nat.{_-_}
 use lib.ListN.{length}
-use Rattle.writer_tests.proofs.number_at.Statement.{statement}
-use Rattle.writer_tests.proofs.number_at.Tie as tie
+use Rattle.writer_tests.proofs.lines.number_at.Statement.{statement}
+use Rattle.writer_tests.proofs.lines.number_at.Tie as tie
 
 abbrev Inv-loop : tie.InvT-loop
 Inv-loop line from value₀ at₀ value at = Unit {0}
