@@ -236,19 +236,6 @@ module _ (l : Lent) where
       by false false false true = strict-quotient ns a b
       by false false false false = tt
 
-  strict-folds : (ns : List Node) (k : ℕ) (x y : Option Float) → Fires (S.strictFoldBoth l ns k x y)
-  strict-folds ns k none y = tt
-  strict-folds ns k (some x) none = tt
-  strict-folds ns k (some x) (some y) = by (S.strictFold k x y)
-    where
-      by : (z : Option Float) → Fires (P.folded l ns z)
-      by none = tt
-      by (some z) = constants ns z
-
-  strict-constant-fold : (ns : List Node) (k a b : ℕ) → Fires (S.strictConstantFold l ns k a b)
-  unfolding S.strictConstantFold
-  strict-constant-fold ns k a b = strict-folds ns k (constantValue (at ns a)) (constantValue (at ns b))
-
   strict-tries : (ns : List Node) (k : ℕ) (c : List ℕ) → Fires (strictApply l ns k c)
   unfolding strictApply
   strict-tries ns k [] = tt
@@ -256,7 +243,7 @@ module _ (l : Lent) where
       cond-fires (eqb k 8) (P.negDouble ns a) none
       (cond-fires (eqb (at ns a .kind) 8) (P.onlyChild ns (at ns a .children)) none (only-child ns (at ns a .children)) tt) tt
   strict-tries ns k (a ∷ b ∷ []) =
-      or-fires (S.strictIdentities ns k a b) (S.strictConstantFold l ns k a b) (strict-identities ns k a b) (strict-constant-fold ns k a b)
+      or-fires (S.strictIdentities ns k a b) (P.constantFold l ns k a b) (strict-identities ns k a b) (constant-fold ns k a b)
   strict-tries ns k (a ∷ b ∷ c ∷ r) = tt
 
   -- ---- the walk
