@@ -137,7 +137,7 @@ uint64_t curvalique_variable(
 
 /*
  * A constant, by the bits of its binary64 value: kind 1, flags 0. 0.0 and -0.0
- * are two nodes, and so are NaNs with other bits. Refusals: 20, 21, 22.
+ * are two nodes; infinities are numbers, NaNs are not. Refusals: 20, 10, 21, 22.
  */
 uint64_t curvalique_constant(
     uint64_t *nodes, size_t node_words, uint32_t *slots, size_t slot_count,
@@ -390,7 +390,7 @@ uint64_t curvalique_read_text(
  * fewer bracket pairs. Whole constants from 0 to 999,999,999 are in fewest digits
  * (not -0.0), others are # and 16 hex digits of their bits, A to F in capitals. Reading it
  * with the same store and names gives the same id and adds nothing. It covers
- * variables, constants (a NaN has no text), Neg and operators of two operands but
+ * variables, constants, Neg and operators of two operands but
  * Mod, with the flags that the constructors give; marks do not matter. Each node
  * under the id is looked at once for 13, and no more nodes are visited than the
  * text has bytes.
