@@ -47,7 +47,7 @@ loop-less : tie.Need-loop-less Inv-loop μ-loop
 loop-less c = search needs
 
 loop-again : tie.Need-loop-again Inv-loop μ-loop
-loop-again c = search (needs, Q.moves)
+loop-again c = Q.moves 0 _ _ _ (c .before .before .before .before .pre .0) (c .before .before .before .before .pre .1) _ _ (c .before .before .loop .inv) (c .before .loop-test .taken)
 
 add-t18 : tie.Need-add-t18 Inv-loop μ-loop
 add-t18 c = search needs
