@@ -7,7 +7,7 @@ ghost use Rattle.write_back.specs.Answers.{Pruned, Finishes, Simplifies,
 use arena::DagArena;
 use writer::Answer;
 
-// 01's greatest depth limit, and a budget; a walk that uses it up says so. A second walk of an answer goes no deeper, for the answer is marked.
+// 01's greatest depth limit, and a budget; a walk that uses it up says so. A second walk would seldom go deeper: what the first finished is marked.
 pub const DEPTH: u32 = 255;
 
 const BUDGET: u64 = 100_000_000;
