@@ -121,11 +121,11 @@ last-small code l n0 n1 n2 n3 n4 n5 n6 n7 =
     (above code 7 (above code 6 (above code 5 (above code 4 (above code 3 (above code 2 (above code 1 (above code 0 (zero-least code) n0) n1) n2) n3) n4) n5) n6) n7)
     l
 
-pub last-rewriting : (code : ℕ) → firstRewriting ≤ code → code < firstNaming → (code ≡ 15 → ⊥) → (code ≡ 16 → ⊥) → code ≡ 17
-last-rewriting code h l n15 n16 = exactly code 17 (above code 16 (above code 15 h n15) n16) l
+pub last-rewriting : (code : ℕ) → firstRewriting ≤ code → code < firstNaming → (code ≡ 15 → ⊥) → (code ≡ 16 → ⊥) → (code ≡ 18 → ⊥) → code ≡ 17
+last-rewriting code h l n15 n16 n18 = let x = above code 16 (above code 15 h n15) n16 in omega arith
 
-pub last-naming : (code : ℕ) → firstNaming ≤ code → code < firstReading → (code ≡ 20 → ⊥) → (code ≡ 18 → ⊥) → code ≡ 19
-last-naming code h l n20 n18 = omega arith
+pub last-naming : (code : ℕ) → firstNaming ≤ code → code < firstReading → (code ≡ 21 → ⊥) → (code ≡ 19 → ⊥) → code ≡ 20
+last-naming code h l n21 n19 = omega arith
 
 -- ---- the table
 
@@ -168,7 +168,8 @@ module _ (code a b high low : ℕ) (operands : List ℕ) where
       line code 18 _ _ (omega arith) (λ n18.
       line code 19 _ _ (omega arith) (λ n19.
       line code 20 _ _ (omega arith) (λ n20.
-      line code 21 _ _ (omega arith) (λ n21. absurd (omega arith)))))))))))))))))))))))
+      line code 21 _ _ (omega arith) (λ n21.
+      line code 22 _ _ (omega arith) (λ n22. absurd (omega arith))))))))))))))))))))))))
 
   past-has-none : lastCode < code → callOfCode code a b high low operands ≡ none
   unfolding callOfCode
@@ -194,7 +195,8 @@ module _ (code a b high low : ℕ) (operands : List ℕ) where
       (past code 18 _ _ (omega arith)
       (past code 19 _ _ (omega arith)
       (past code 20 _ _ (omega arith)
-      (past code 21 _ _ (omega arith) refl)))))))))))))))))))))
+      (past code 21 _ _ (omega arith)
+      (past code 22 _ _ (omega arith) refl))))))))))))))))))))))
 
   pub unknown-has-none : known code ≡ false → callOfCode code a b high low operands ≡ none
   unknown-has-none h = past-has-none (leb-false code lastCode h)
