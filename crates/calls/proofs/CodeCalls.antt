@@ -118,8 +118,8 @@ last-small code l n0 n1 n2 n3 n4 n5 n6 n7 =
     (above code 7 (above code 6 (above code 5 (above code 4 (above code 3 (above code 2 (above code 1 (above code 0 (zero-least code) n0) n1) n2) n3) n4) n5) n6) n7)
     l
 
-pub last-rewriting : (code : ℕ) → firstRewriting ≤ code → code < firstNaming → (code ≡ 15 → ⊥) → (code ≡ 16 → ⊥) → code ≡ 17
-last-rewriting code h l n15 n16 = exactly code 17 (above code 16 (above code 15 h n15) n16) l
+pub last-rewriting : (code : ℕ) → firstRewriting ≤ code → code < firstNaming → (code ≡ 15 → ⊥) → (code ≡ 16 → ⊥) → (code ≡ 18 → ⊥) → code ≡ 17
+last-rewriting code h l n15 n16 n18 = let x = above code 16 (above code 15 h n15) n16 in omega arith
 
-pub last-naming : (code : ℕ) → firstNaming ≤ code → code < firstReading → (code ≡ 20 → ⊥) → (code ≡ 18 → ⊥) → code ≡ 19
-last-naming code h l n20 n18 = omega arith
+pub last-naming : (code : ℕ) → firstNaming ≤ code → code < firstReading → (code ≡ 21 → ⊥) → (code ≡ 19 → ⊥) → code ≡ 20
+last-naming code h l n21 n19 = omega arith

@@ -17,6 +17,7 @@ use crate::reply::pruned;
 use crate::reply::simplified;
 use crate::reply::stored;
 use arena::DagArena;
+use definitions::mode::Mode;
 use encoding::codes;
 
 // Codes below this one are calls over at most two arguments.
@@ -117,7 +118,7 @@ fn call_with_operands(
     stored(builder::control(nodes, slots, arena, a, operands))
 }
 
-// Simplify and the two prunes.
+// The walk, the two prunes and the strict walk.
 fn call_rewriting(
     nodes: &mut [u64],
     slots: &mut [u32],
@@ -134,10 +135,21 @@ fn call_rewriting(
         (memory (now (nodes .entry)) (now (slots .entry)) arena) r (memory (now (nodes .exit)) (now (slots .exit)) (r .arena)) ⌝ }
 {
     if code == codes::SIMPLIFY {
-        return simplified(walk::simplify(nodes, slots, arena, a, b, wide(high, low)));
+        return simplified(walk::simplify(
+            nodes,
+            slots,
+            arena,
+            Mode::Standard,
+            a,
+            b,
+            wide(high, low),
+        ));
     }
     if code == codes::PRUNE {
         return pruned(pruner::prune(nodes, slots, arena, a, wide(high, low)));
+    }
+    if code == codes::SIMPLIFY_STRICTLY {
+        return simplified(walk::simplify(nodes, slots, arena, Mode::Strict, a, b, wide(high, low)));
     }
     pruned(pruner::prune_by_setting(nodes, slots, arena, a, b))
 }

@@ -49,7 +49,8 @@ module _ (code a b high low : ℕ) (operands : List ℕ) where
       line code 18 _ _ (omega arith) (λ n18.
       line code 19 _ _ (omega arith) (λ n19.
       line code 20 _ _ (omega arith) (λ n20.
-      line code 21 _ _ (omega arith) (λ n21. absurd (omega arith)))))))))))))))))))))))
+      line code 21 _ _ (omega arith) (λ n21.
+      line code 22 _ _ (omega arith) (λ n22. absurd (omega arith))))))))))))))))))))))))
 
   past-has-none : lastCode < code → callOfCode code a b high low operands ≡ none
   unfolding callOfCode
@@ -75,7 +76,8 @@ module _ (code a b high low : ℕ) (operands : List ℕ) where
       (past code 18 _ _ (omega arith)
       (past code 19 _ _ (omega arith)
       (past code 20 _ _ (omega arith)
-      (past code 21 _ _ (omega arith) refl)))))))))))))))))))))
+      (past code 21 _ _ (omega arith)
+      (past code 22 _ _ (omega arith) refl))))))))))))))))))))))
 
   pub unknown-has-none : known code ≡ false → callOfCode code a b high low operands ≡ none
   unknown-has-none h = past-has-none (leb-false code lastCode h)

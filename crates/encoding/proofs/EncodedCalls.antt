@@ -11,6 +11,7 @@ use native.Mathlib.Omega.{arith}
 use borrow.Author.Tests.{le-leb}
 use Rattle.definitions.specs.Machine.{variable, constant, add, sub, mul, div, pow, modulo, neg, operator, function, select, ifElse, forLoop, control}
 use Rattle.definitions.specs.Names.{internName, lookupName, nameOf}
+use Rattle.definitions.specs.Walk.{standard, strict}
 use Rattle.definitions.specs.Controller.{ControllerCall, building, simplifying, pruning, pruningBySetting, naming, reading}
 use Rattle.definitions.specs.Promise.{All}
 use Rattle.encoding.specs.Encoding.{withRest, headerWords, wordValues, callOfCode, firstCall, decode, unread, readWords, bytesOf, wordsOf, encodeCall, encode, Word, WideWord, OperandsWithin, Byte, CallWithin, Encodes}
@@ -56,13 +57,14 @@ first-call (building (select a b c)) rest w = first-words 11 a b c 0 [] rest
 first-call (building (ifElse a b c)) rest w = first-words 12 a b c 0 [] rest
 first-call (building (forLoop a b c d)) rest w = first-words 13 a b c d [] rest
 first-call (building (control o c)) rest w = first-words 14 o 0 0 0 c rest
-first-call (simplifying i depth n) rest w = first-words 15 i depth (n / wordValues) (n % wordValues) [] rest ∙ ap (λ (k : ℕ). some (simplifying i depth k, rest)) (halves n)
+first-call (simplifying standard i depth n) rest w = first-words 15 i depth (n / wordValues) (n % wordValues) [] rest ∙ ap (λ (k : ℕ). some (simplifying standard i depth k, rest)) (halves n)
+first-call (simplifying strict i depth n) rest w = first-words 18 i depth (n / wordValues) (n % wordValues) [] rest ∙ ap (λ (k : ℕ). some (simplifying strict i depth k, rest)) (halves n)
 first-call (pruning i n) rest w = first-words 16 i 0 (n / wordValues) (n % wordValues) [] rest ∙ ap (λ (k : ℕ). some (pruning i k, rest)) (halves n)
 first-call (pruningBySetting i n) rest w = first-words 17 i n 0 0 [] rest
-first-call (naming (internName name)) rest w = first-words 18 0 0 0 0 name rest ∙ ap (λ (b : List ℕ). some (naming (internName b), rest)) (own-bytes name (w .1))
-first-call (naming (lookupName name)) rest w = first-words 19 0 0 0 0 name rest ∙ ap (λ (b : List ℕ). some (naming (lookupName b), rest)) (own-bytes name (w .1))
-first-call (naming (nameOf number)) rest w = first-words 20 number 0 0 0 [] rest
-first-call (reading text) rest w = first-words 21 0 0 0 0 text rest ∙ ap (λ (b : List ℕ). some (reading b, rest)) (own-bytes text (w .1))
+first-call (naming (internName name)) rest w = first-words 19 0 0 0 0 name rest ∙ ap (λ (b : List ℕ). some (naming (internName b), rest)) (own-bytes name (w .1))
+first-call (naming (lookupName name)) rest w = first-words 20 0 0 0 0 name rest ∙ ap (λ (b : List ℕ). some (naming (lookupName b), rest)) (own-bytes name (w .1))
+first-call (naming (nameOf number)) rest w = first-words 21 number 0 0 0 [] rest
+first-call (reading text) rest w = first-words 22 0 0 0 0 text rest ∙ ap (λ (b : List ℕ). some (reading b, rest)) (own-bytes text (w .1))
 
 decodes : (cs : List ControllerCall) → All CallWithin cs → decode (encode cs) ≡ cs
 decodes [] w = decode-none [] none-in-nothing
@@ -117,13 +119,14 @@ call-words (building (select a b c)) (p, q, r) = header 11 a b c 0 [] (omega ari
 call-words (building (ifElse a b c)) (p, q, r) = header 12 a b c 0 [] (omega arith) p q r zero-word no-operands
 call-words (building (forLoop a b c d)) (p, q, r, s) = header 13 a b c d [] (omega arith) p q r s no-operands
 call-words (building (control o c)) (p, r) = header 14 o 0 0 0 c (omega arith) p zero-word zero-word zero-word r
-call-words (simplifying i depth n) (p, q, r) = header 15 i depth (n / wordValues) (n % wordValues) [] (omega arith) p q (high-word n r) (low-word n) no-operands
+call-words (simplifying standard i depth n) (p, q, r) = header 15 i depth (n / wordValues) (n % wordValues) [] (omega arith) p q (high-word n r) (low-word n) no-operands
+call-words (simplifying strict i depth n) (p, q, r) = header 18 i depth (n / wordValues) (n % wordValues) [] (omega arith) p q (high-word n r) (low-word n) no-operands
 call-words (pruning i n) (p, r) = header 16 i 0 (n / wordValues) (n % wordValues) [] (omega arith) p zero-word (high-word n r) (low-word n) no-operands
 call-words (pruningBySetting i n) (p, q) = header 17 i n 0 0 [] (omega arith) p q zero-word zero-word no-operands
-call-words (naming (internName name)) (p, q) = header 18 0 0 0 0 name (omega arith) zero-word zero-word zero-word zero-word (p, byte-words name q)
-call-words (naming (lookupName name)) (p, q) = header 19 0 0 0 0 name (omega arith) zero-word zero-word zero-word zero-word (p, byte-words name q)
-call-words (naming (nameOf number)) h = header 20 number 0 0 0 [] (omega arith) h zero-word zero-word zero-word no-operands
-call-words (reading text) (p, q) = header 21 0 0 0 0 text (omega arith) zero-word zero-word zero-word zero-word (p, byte-words text q)
+call-words (naming (internName name)) (p, q) = header 19 0 0 0 0 name (omega arith) zero-word zero-word zero-word zero-word (p, byte-words name q)
+call-words (naming (lookupName name)) (p, q) = header 20 0 0 0 0 name (omega arith) zero-word zero-word zero-word zero-word (p, byte-words name q)
+call-words (naming (nameOf number)) h = header 21 number 0 0 0 [] (omega arith) h zero-word zero-word zero-word no-operands
+call-words (reading text) (p, q) = header 22 0 0 0 0 text (omega arith) zero-word zero-word zero-word zero-word (p, byte-words text q)
 
 all-words : (cs : List ControllerCall) → All CallWithin cs → All Word (encode cs)
 all-words [] h = tt

@@ -8,6 +8,7 @@ use lib.ListN.{length, getD, take, drop}
 use lib.Dec.{leb, eqb}
 use Rattle.definitions.specs.Machine.{Store, variable, constant, add, sub, mul, div, pow, modulo, neg, operator, function, select, ifElse, forLoop, control}
 use Rattle.definitions.specs.Names.{NameCall, internName, lookupName, nameOf}
+use Rattle.definitions.specs.Walk.{standard, strict}
 use Rattle.definitions.specs.Controller.{ControllerCall, building, simplifying, pruning, pruningBySetting, naming, reading}
 use Rattle.definitions.specs.Promise.{All}
 
@@ -29,7 +30,7 @@ lowestByte word = word % 256
 abbrev pub bytesOf : List ℕ → List ℕ
 bytesOf operands = map lowestByte operands
 
--- the first code of a call over a list of operands, the first of a simplify or prune, the first of a name call, that of a reading, and the last
+-- the first code of a call over a list of operands, the first of a simplify or prune (strict walks too), the first of a name call, that of a reading, and the last
 abbrev pub firstWithOperands : ℕ
 firstWithOperands = 9
 
@@ -37,16 +38,16 @@ abbrev pub firstRewriting : ℕ
 firstRewriting = 15
 
 abbrev pub firstNaming : ℕ
-firstNaming = 18
+firstNaming = 19
 
 abbrev pub firstReading : ℕ
-firstReading = 21
+firstReading = 22
 
 abbrev pub lastCode : ℕ
-lastCode = 21
+lastCode = 22
 
--- the call of a code: 0 to 14 the store calls in the order of their list, 15 simplify, 16 prune, 17 prune by setting, 18 a name interned,
--- 19 a name looked up, 20 the name of a number, 21 a text read
+-- the call of a code: 0 to 14 the store calls in the order of their list, 15 simplify, 16 prune, 17 prune by setting, 18 a strict
+-- simplify, 19 a name interned, 20 a name looked up, 21 the name of a number, 22 a text read
 unfoldable pub callOfCode : ℕ → ℕ → ℕ → ℕ → ℕ → List ℕ → Option ControllerCall
 callOfCode code a b high low operands =
     cond (eqb code 0) (some (building (variable a)))
@@ -64,13 +65,14 @@ callOfCode code a b high low operands =
     (cond (eqb code 12) (some (building (ifElse a b high)))
     (cond (eqb code 13) (some (building (forLoop a b high low)))
     (cond (eqb code 14) (some (building (control a operands)))
-    (cond (eqb code 15) (some (simplifying a b (wide high low)))
+    (cond (eqb code 15) (some (simplifying standard a b (wide high low)))
     (cond (eqb code 16) (some (pruning a (wide high low)))
     (cond (eqb code 17) (some (pruningBySetting a b))
-    (cond (eqb code 18) (some (naming (internName (bytesOf operands))))
-    (cond (eqb code 19) (some (naming (lookupName (bytesOf operands))))
-    (cond (eqb code 20) (some (naming (nameOf a)))
-    (cond (eqb code 21) (some (reading (bytesOf operands))) none)))))))))))))))))))))
+    (cond (eqb code 18) (some (simplifying strict a b (wide high low)))
+    (cond (eqb code 19) (some (naming (internName (bytesOf operands))))
+    (cond (eqb code 20) (some (naming (lookupName (bytesOf operands))))
+    (cond (eqb code 21) (some (naming (nameOf a)))
+    (cond (eqb code 22) (some (reading (bytesOf operands))) none))))))))))))))))))))))
 
 -- whether a code has a call
 abbrev pub known : ℕ → Bool
@@ -147,17 +149,18 @@ encodeStore (forLoop a b c d) = wordsOf 13 a b c d []
 encodeStore (control o c) = wordsOf 14 o 0 0 0 c
 
 abbrev pub encodeName : NameCall → List ℕ
-encodeName (internName name) = wordsOf 18 0 0 0 0 name
-encodeName (lookupName name) = wordsOf 19 0 0 0 0 name
-encodeName (nameOf number) = wordsOf 20 number 0 0 0 []
+encodeName (internName name) = wordsOf 19 0 0 0 0 name
+encodeName (lookupName name) = wordsOf 20 0 0 0 0 name
+encodeName (nameOf number) = wordsOf 21 number 0 0 0 []
 
 abbrev pub encodeCall : ControllerCall → List ℕ
 encodeCall (building c) = encodeStore c
-encodeCall (simplifying i depth n) = wordsOf 15 i depth (n / wordValues) (n % wordValues) []
+encodeCall (simplifying standard i depth n) = wordsOf 15 i depth (n / wordValues) (n % wordValues) []
+encodeCall (simplifying strict i depth n) = wordsOf 18 i depth (n / wordValues) (n % wordValues) []
 encodeCall (pruning i n) = wordsOf 16 i 0 (n / wordValues) (n % wordValues) []
 encodeCall (pruningBySetting i n) = wordsOf 17 i n 0 0 []
 encodeCall (naming c) = encodeName c
-encodeCall (reading text) = wordsOf 21 0 0 0 0 text
+encodeCall (reading text) = wordsOf 22 0 0 0 0 text
 
 abbrev pub encode : List ControllerCall → List ℕ
 encode [] = []
@@ -202,7 +205,7 @@ NameWithin (nameOf number) = Word number
 
 abbrev pub CallWithin : ControllerCall → Type 0
 CallWithin (building c) = StoreWithin c
-CallWithin (simplifying i depth n) = Word i × Word depth × WideWord n
+CallWithin (simplifying m i depth n) = Word i × Word depth × WideWord n
 CallWithin (pruning i n) = Word i × WideWord n
 CallWithin (pruningBySetting i n) = Word i × Word n
 CallWithin (naming c) = NameWithin c

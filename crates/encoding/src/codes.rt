@@ -35,10 +35,12 @@ pub const PRUNE: u32 = 16;
 
 pub const PRUNE_BY_SETTING: u32 = 17;
 
-pub const INTERN: u32 = 18;
+pub const SIMPLIFY_STRICTLY: u32 = 18;
 
-pub const LOOKUP: u32 = 19;
+pub const INTERN: u32 = 19;
 
-pub const NAME_OF: u32 = 20;
+pub const LOOKUP: u32 = 20;
 
-pub const READ: u32 = 21;
+pub const NAME_OF: u32 = 21;
+
+pub const READ: u32 = 22;

@@ -8,6 +8,9 @@ use lib.ListN.{length, getD, take, drop}
 use lib.Dec.{eqb, ltb}
 use native.Mathlib.Omega.{arith}
 use borrow.Author.Tests.{eq-eqb, ne-eqb, lt-ltb, le-ltb}
+use Rattle.definitions.specs.Walk.{standard, strict}
+use Rattle.definitions.specs.Modes.{modeOf}
+use Rattle.definitions.specs.declared.mode.Mode.{Mode}
 use Rattle.definitions.specs.Machine.{Call, store, variable, constant, operator, function, control, simplify, prune}
 use Rattle.definitions.specs.Sheet as Sheet
 use Rattle.definitions.specs.Sheet.{bigEndian, operands, withOperands, sized, variableBody, constantBody, operatorBody, functionBody, controlBody, simplifyBody, pruneBody, body}
@@ -47,17 +50,17 @@ module _ (s : List ℕ) (at n : ℕ) (h : at + n ≤ length s) where
   constant-whole e v i =
       record { is = sym (sized-right 8 _ e ∙ ap (λ (x : ℕ). some (store (constant x))) (ap (λ (m : ℕ). bigEndian (part s at m)) e ∙ sym i)); within = tt }
 
-  -- 06 operand, depth(1), budget(4)
-  pub simplify-wrong : (n ≡ 7 → ⊥) → Decodes s (simplifyBody (part s at n)) Malformed
-  simplify-wrong w = malformed s _ (sized-wrong 7 _ w)
+  -- 06 and 08 operand, depth(1), budget(4)
+  pub simplify-wrong : (mode : Mode) → (n ≡ 7 → ⊥) → Decodes s (simplifyBody (modeOf mode) (part s at n)) Malformed
+  simplify-wrong mode w = malformed s _ (sized-wrong 7 _ w)
 
-  pub simplify-whole : n ≡ 7 → (o b : ℕ) → o ≡ operandFrom s at → b ≡ bigEndian (part s (at + 2 + 1) 4) → Decodes s (simplifyBody (part s at n)) (Simplify o (getD s (at + 2) 0) b)
-  simplify-whole e o b i j = let three : at + 3 ≡ at + 2 + 1 = omega arith in record {
+  pub simplify-whole : (mode : Mode) → n ≡ 7 → (o b : ℕ) → o ≡ operandFrom s at → b ≡ bigEndian (part s (at + 2 + 1) 4) → Decodes s (simplifyBody (modeOf mode) (part s at n)) (Simplify mode o (getD s (at + 2) 0) b)
+  simplify-whole mode e o b i j = let three : at + 3 ≡ at + 2 + 1 = omega arith in record {
     is =
         sym
         (sized-right 7 _ e
         ∙ ap some
-        (ap₃ simplify (ap bigEndian (part-take s at 2 n (omega arith)) ∙ sym i) (part-getD s at n 2 (omega arith))
+        (ap₃ (simplify (modeOf mode)) (ap bigEndian (part-take s at 2 n (omega arith)) ∙ sym i) (part-getD s at n 2 (omega arith))
         (ap bigEndian (ap (λ (m : ℕ). drop 3 (part s at m)) e ∙ part-drop s at 3 4 ∙ ap (λ (k : ℕ). part s k 4) three) ∙ sym j)));
     within = tt;
   }
@@ -164,8 +167,9 @@ byFirst k r =
     (cond (eqb k 3) (operatorBody r)
     (cond (eqb k 4) (functionBody r)
     (cond (eqb k 5) (controlBody r)
-    (cond (eqb k 6) (simplifyBody r)
-    (cond (eqb k 7) (pruneBody r) none))))))
+    (cond (eqb k 6) (simplifyBody standard r)
+    (cond (eqb k 7) (pruneBody r)
+    (cond (eqb k 8) (simplifyBody strict r) none)))))))
 
 body-cons : (s : List ℕ) (at n : ℕ) → at + n ≤ length s → 0 < n → body (part s at n) ≡ byFirst (getD s at 0) (part s (at + 1) (n - 1))
 unfolding body
@@ -184,6 +188,6 @@ module _ (s : List ℕ) (at n : ℕ) (h : at + n ≤ length s) (l : 0 < n) where
   abbrev first : ℕ
   first = getD s at 0
 
-  pub body-unknown : (first ≡ 1 → ⊥) → (first ≡ 2 → ⊥) → (first ≡ 3 → ⊥) → (first ≡ 4 → ⊥) → (first ≡ 5 → ⊥) → (first ≡ 6 → ⊥) → (first ≡ 7 → ⊥) → Decodes s (body (part s at n)) Malformed
-  body-unknown a b c d f g i =
-      malformed s _ (body-cons s at n h l ∙ (rw (ne-eqb first 1 a, ne-eqb first 2 b, ne-eqb first 3 c, ne-eqb first 4 d, ne-eqb first 5 f, ne-eqb first 6 g, ne-eqb first 7 i) refl))
+  pub body-unknown : (first ≡ 1 → ⊥) → (first ≡ 2 → ⊥) → (first ≡ 3 → ⊥) → (first ≡ 4 → ⊥) → (first ≡ 5 → ⊥) → (first ≡ 6 → ⊥) → (first ≡ 7 → ⊥) → (first ≡ 8 → ⊥) → Decodes s (body (part s at n)) Malformed
+  body-unknown a b c d f g i j =
+      malformed s _ (body-cons s at n h l ∙ (rw (ne-eqb first 1 a, ne-eqb first 2 b, ne-eqb first 3 c, ne-eqb first 4 d, ne-eqb first 5 f, ne-eqb first 6 g, ne-eqb first 7 i, ne-eqb first 8 j) refl))

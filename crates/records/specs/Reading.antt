@@ -9,6 +9,7 @@ use lib.Dec.{leb, eqb}
 use Rattle.definitions.specs.Limits.{mostRecords, mostSheetBytes}
 use Rattle.definitions.specs.Refusals.{badSheet}
 use Rattle.definitions.specs.Intern.{Lent}
+use Rattle.definitions.specs.Modes.{modeOf}
 use Rattle.definitions.specs.Machine.{variable, constant, operator, function, control, Call, store, simplify, prune, State}
 use Rattle.definitions.specs.Sheet.{bigEndian, cut, withRest, recordCall, Ran, ran, records, sheet}
 use Rattle.records.specs.declared.Body.{Body}
@@ -42,7 +43,7 @@ callOf s (Constant b) = some (store (constant b))
 callOf s (Operator o f first count) = some (store (operator o f (operandsFrom s first count)))
 callOf s (Function n first count) = some (store (function n (operandsFrom s first count)))
 callOf s (Control o first count) = some (store (control o (operandsFrom s first count)))
-callOf s (Simplify o depth budget) = some (simplify o depth budget)
+callOf s (Simplify mode o depth budget) = some (simplify (modeOf mode) o depth budget)
 callOf s (Prune o threshold) = some (prune o threshold)
 callOf s Malformed = none
 
@@ -53,7 +54,7 @@ OperandsInSheet long (Constant b) = Unit {0}
 OperandsInSheet long (Operator o f first count) = first + count * 2 ≤ long
 OperandsInSheet long (Function n first count) = first + count * 2 ≤ long
 OperandsInSheet long (Control o first count) = first + count * 2 ≤ long
-OperandsInSheet long (Simplify o depth budget) = Unit {0}
+OperandsInSheet long (Simplify mode o depth budget) = Unit {0}
 OperandsInSheet long (Prune o threshold) = Unit {0}
 OperandsInSheet long Malformed = Unit {0}
 

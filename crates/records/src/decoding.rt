@@ -1,11 +1,13 @@
 // A record's body. 01: "Body by first byte".
 ghost use Prim.Native.Nat.{_+_, _≤_};
 ghost use lib.ListN.{length, take, drop};
+ghost use Rattle.definitions.specs.Modes.{modeOf};
 ghost use Rattle.definitions.specs.Sheet as Sheet;
 ghost use Rattle.records.specs.Reading.{Decodes, part};
 use crate::Body;
 use crate::number::OPERAND_BYTES;
 use crate::number::number;
+use definitions::mode::Mode;
 
 const VARIABLE: u8 = 1;
 
@@ -21,11 +23,13 @@ const SIMPLIFY: u8 = 6;
 
 const PRUNE: u8 = 7;
 
+const SIMPLIFY_STRICTLY: u8 = 8;
+
 // "01 symbol(4)", "04 function(4), operands".
 const SYMBOL_BYTES: usize = 4;
 // "02 bits(8)", "07 operand, threshold bits(8)".
 const BITS_BYTES: usize = 8;
-// "06 operand, depth(1), budget(4)".
+// "06 operand, depth(1), budget(4)"; 02 (i): "its sheet body is 08, laid out as 06".
 const BUDGET_BYTES: usize = 4;
 
 fn variable_body(sheet: &[u8], at: usize, length: usize) -> Body
@@ -106,9 +110,9 @@ fn control_body(sheet: &[u8], at: usize, length: usize) -> Body
     }
 }
 
-fn simplify_body(sheet: &[u8], at: usize, length: usize) -> Body
+fn simplify_body(sheet: &[u8], mode: Mode, at: usize, length: usize) -> Body
     requires { ⌜ at + length ≤ lib.ListN.length (now sheet) ⌝ }
-    ensures { λ r. ⌜ Decodes (now (sheet .entry)) (Sheet.simplifyBody (part (now (sheet .entry)) at length)) r ⌝ }
+    ensures { λ r. ⌜ Decodes (now (sheet .entry)) (Sheet.simplifyBody (modeOf mode) (part (now (sheet .entry)) at length)) r ⌝ }
 {
     if length != OPERAND_BYTES + 1 + BUDGET_BYTES {
         return Body::Malformed;
@@ -117,6 +121,7 @@ fn simplify_body(sheet: &[u8], at: usize, length: usize) -> Body
     let depth = sheet[at + OPERAND_BYTES];
     let budget = number(sheet, at + OPERAND_BYTES + 1, BUDGET_BYTES) as u32;
     Body::Simplify {
+        mode,
         operand,
         depth,
         budget,
@@ -151,8 +156,9 @@ pub(crate) fn decode(sheet: &[u8], at: usize, length: usize) -> Body
         OPERATOR => operator_body(sheet, first, left),
         FUNCTION => function_body(sheet, first, left),
         CONTROL => control_body(sheet, first, left),
-        SIMPLIFY => simplify_body(sheet, first, left),
+        SIMPLIFY => simplify_body(sheet, Mode::Standard, first, left),
         PRUNE => prune_body(sheet, first, left),
+        SIMPLIFY_STRICTLY => simplify_body(sheet, Mode::Strict, first, left),
         _ => Body::Malformed,
     }
 }

@@ -5,6 +5,7 @@ mod number;
 pub use number::operand;
 ghost use Rattle.records.specs.Reading.{OpensSheet, ReadsRecord};
 use decoding::decode;
+use definitions::mode::Mode;
 use number::number;
 
 // 01, refusal 1: "sheet empty, over 16,384 bytes, or first byte not 1".
@@ -47,6 +48,7 @@ pub enum Body {
         count: usize,
     },
     Simplify {
+        mode: Mode,
         operand: usize,
         depth: u8,
         budget: u32,

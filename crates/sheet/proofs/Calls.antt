@@ -27,6 +27,9 @@ use Rattle.pruner.specs.Answers as P
 use Rattle.builder.specs.Stores.{BuildsSound, Asked}
 use Rattle.records.specs.declared.Body.{Body}
 use Rattle.records.specs.declared.Body.the-variants.{Simplify, Prune}
+use Rattle.definitions.specs.Walk.{Mode}
+use Rattle.definitions.specs.Modes.{modeOf}
+use Rattle.definitions.specs.declared.mode.Mode as Modes
 use Rattle.records.specs.Reading.{callOf}
 use Rattle.sheet.specs.declared.building.Request.{Request}
 use Rattle.sheet.specs.declared.performing.Answer.{Answer}
@@ -54,10 +57,10 @@ module _ (m : Memory) (h : model .Sound m) where
     counted : length ns ≡ m .arena .count
     counted = plain-length (m .words) (m .arena .count)
 
-    pub simplified : (depth budget : ℕ) (a x : Walked) → a ≡ x → Leaves (M.simplify root depth budget) m (W.meaning a) m′ → Performs (M.simplify (idOf ids done (m .arena .count) operand) depth budget) m (answerAs (W.meaning x)) m′
-    simplified depth budget a x e k =
-        called-as (M.simplify root depth budget) (M.simplify (idOf ids done (m .arena .count) operand) depth budget) (W.meaning a) (answerAs (W.meaning x)) m′
-        (ap (λ (i : ℕ). M.call l (model .view m) (M.simplify i depth budget)) found ∙ simplify-same ids done (m .arena .count) l ns counted operand depth budget)
+    pub simplified : (mode : Mode) (depth budget : ℕ) (a x : Walked) → a ≡ x → Leaves (M.simplify mode root depth budget) m (W.meaning a) m′ → Performs (M.simplify mode (idOf ids done (m .arena .count) operand) depth budget) m (answerAs (W.meaning x)) m′
+    simplified mode depth budget a x e k =
+        called-as (M.simplify mode root depth budget) (M.simplify mode (idOf ids done (m .arena .count) operand) depth budget) (W.meaning a) (answerAs (W.meaning x)) m′
+        (ap (λ (i : ℕ). M.call l (model .view m) (M.simplify mode i depth budget)) found ∙ simplify-same ids done (m .arena .count) l ns counted mode operand depth budget)
         (ap (λ (y : Walked). answerAs (W.meaning y)) (sym e))
         k
 
@@ -155,8 +158,8 @@ module _ (s : List ℕ) (body : Body) (ids : List ℕ) (done : ℕ) (m : Memory)
       (ap (λ (r : Request). wanted r (onIds (M.requested c .node .children))) f ∙ t)
       p)
 
-  pub simplify-body : (o depth budget : ℕ) → body ≡ Simplify o depth budget → Performs (M.simplify (idOf ids done (m .arena .count) o) depth budget) m a m′ → PerformsBody s body ids done m a m′
-  simplify-body o depth budget e p = body-whole s body ids done m (M.simplify o depth budget) (ap (callOf s) e) a m′ p
+  pub simplify-body : (mode : Modes.Mode) (o depth budget : ℕ) → body ≡ Simplify mode o depth budget → Performs (M.simplify (modeOf mode) (idOf ids done (m .arena .count) o) depth budget) m a m′ → PerformsBody s body ids done m a m′
+  simplify-body mode o depth budget e p = body-whole s body ids done m (M.simplify (modeOf mode) o depth budget) (ap (callOf s) e) a m′ p
 
   pub prune-body : (o threshold : ℕ) → body ≡ Prune o threshold → Performs (M.prune (idOf ids done (m .arena .count) o) threshold) m a m′ → PerformsBody s body ids done m a m′
   prune-body o threshold e p = body-whole s body ids done m (M.prune o threshold) (ap (callOf s) e) a m′ p

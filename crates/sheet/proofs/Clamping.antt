@@ -11,7 +11,7 @@ use Rattle.definitions.specs.Limits.{mostDepth, mostChildren}
 use Rattle.definitions.specs.Refusals.{badOperand, badCode, notANumber, badChildCount}
 use Rattle.definitions.specs.Node.{Node, node, addKind, mulKind, negKind, functionKind, controlKind, forLoopControl, operatorChildren, controlChildren, nanConstant, childCountListed}
 use Rattle.definitions.specs.Intern.{Lent, intern}
-use Rattle.definitions.specs.Walk.{standard, walkRoot}
+use Rattle.definitions.specs.Walk.{Mode, walkRoot}
 use Rattle.definitions.specs.Threshold.{given}
 use Rattle.definitions.specs.Machine as M
 use Rattle.sheet.specs.Running.{idOf, idBelow}
@@ -86,11 +86,11 @@ module _ (ids : List ℕ) (done count : ℕ) where
         ∙ rooted (ltb (idOf ids done count o) count) f o refl
         ∙ ap (λ (c : ℕ). cond (ltb (idOf ids done count o) c) (f (idOf ids done count o)) (M.outcome (M.refused badOperand) ns)) (sym n)
 
-    pub simplify-same : (o depth budget : ℕ) → M.call l (M.state ns) (M.simplify (idBelow ids done count o) depth budget) ≡ M.call l (M.state ns) (M.simplify (idOf ids done count o) depth budget)
+    pub simplify-same : (mode : Mode) (o depth budget : ℕ) → M.call l (M.state ns) (M.simplify mode (idBelow ids done count o) depth budget) ≡ M.call l (M.state ns) (M.simplify mode (idOf ids done count o) depth budget)
     unfolding M.call M.simplifyCall
-    simplify-same o depth budget =
+    simplify-same mode o depth budget =
         ap (λ (x : M.Outcome). M.onNodes (M.state ns) (cond (leb depth mostDepth) x (M.outcome (M.refused badCode) ns)))
-        (root-same (λ i. M.walkedAs i (walkRoot standard l depth budget ns i)) o)
+        (root-same (λ i. M.walkedAs i (walkRoot mode l depth budget ns i)) o)
 
     pub prune-same : (o threshold : ℕ) → M.call l (M.state ns) (M.prune (idBelow ids done count o) threshold) ≡ M.call l (M.state ns) (M.prune (idOf ids done count o) threshold)
     unfolding M.call M.pruneCall

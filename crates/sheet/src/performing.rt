@@ -7,6 +7,7 @@ ghost use Rattle.store.specs.Sound.{Sound};
 ghost use Rattle.store.specs.Memory.{memory};
 ghost use Rattle.records.specs.Reading.{OperandsInSheet};
 ghost use Rattle.definitions.specs.Machine as M;
+ghost use Rattle.definitions.specs.Modes.{modeOf};
 ghost use Rattle.sheet.specs.Running.{Performs, PerformsBody, idOf};
 use crate::MOST_RECORDS;
 use crate::building::build;
@@ -18,6 +19,7 @@ use arena::DagArena;
 use arena::kind::CONSTANT;
 use arena::kind::FUNCTION;
 use arena::kind::VARIABLE;
+use definitions::mode::Mode;
 use definitions::refusals::BAD_RECORD;
 use records::Body;
 
@@ -33,23 +35,24 @@ pub(crate) struct Performed {
     pub arena: DagArena,
 }
 
-// 06 operand, depth(1), budget(4).
+// 06 and 08 operand, depth(1), budget(4).
 fn simplify(
     ids: &[u64; MOST_RECORDS],
     done: usize,
     nodes: &mut [u64],
     slots: &mut [u32],
     arena: DagArena,
+    mode: Mode,
     operand: usize,
     depth: u8,
     budget: u32,
 ) -> Performed
     requires { ⌜ (length (now ids) ≡ mostRecords) × (done ≤ mostRecords) × Sound (now nodes) (now slots) arena ⌝ }
-    ensures { λ r. ⌜ Performs (M.simplify (idOf (now (ids .entry)) done (arena .count) operand) depth budget) (memory (now (nodes .entry)) (now (slots .entry)) arena) (r .answer) (memory (now (nodes .exit)) (now (slots .exit)) (r .arena)) ⌝ }
+    ensures { λ r. ⌜ Performs (M.simplify (modeOf mode) (idOf (now (ids .entry)) done (arena .count) operand) depth budget) (memory (now (nodes .entry)) (now (slots .entry)) arena) (r .answer) (memory (now (nodes .exit)) (now (slots .exit)) (r .arena)) ⌝ }
 {
     let count = arena.count;
     let root = operand_id(ids, done, count, operand);
-    let walked = walk::simplify_sound(nodes, slots, arena, root, depth as u32, budget as u64);
+    let walked = walk::simplify_sound(nodes, slots, arena, mode, root, depth as u32, budget as u64);
     let after = walked.arena;
     let answer = walked.answer;
     match answer {
@@ -146,10 +149,11 @@ pub(crate) fn perform(
             build(sheet, first, count, ids, done, nodes, slots, arena, request)
         }
         Body::Simplify {
+            mode,
             operand,
             depth,
             budget,
-        } => simplify(ids, done, nodes, slots, arena, operand, depth, budget),
+        } => simplify(ids, done, nodes, slots, arena, mode, operand, depth, budget),
         Body::Prune { operand, threshold } => {
             prune(ids, done, nodes, slots, arena, operand, threshold)
         }

@@ -9,7 +9,7 @@ use crate::record::{check_child_count, check_constant, check_flags, check_thresh
 use crate::refusal::Refusal;
 use crate::settings::{Setting, meaning_of_setting};
 use crate::store::Store;
-use crate::walk::{Walked, simplify};
+use crate::walk::{Mode, Walked, simplify};
 
 /// A call and its arguments; operands are ids.
 #[derive(Clone, Debug, PartialEq)]
@@ -19,7 +19,7 @@ pub enum Call {
     Operator { operator: u64, flags: u8, operands: Vec<u32> },
     Function { number: u32, operands: Vec<u32> },
     Control { control: u64, operands: Vec<u32> },
-    Simplify { root: u32, depth_limit: u64, budget: u32 },
+    Simplify { mode: Mode, root: u32, depth_limit: u64, budget: u32 },
     Prune { root: u32, threshold: f64 },
     PruneBySetting { root: u32, setting: u64 },
 }
@@ -59,10 +59,10 @@ fn perform(store: &mut Store, call: &Call) -> Result<CallAnswer, Refusal> {
             Control::from_number(*control).ok_or(Refusal::Value)?;
             build(store, Kind::Control, *control, 0, operands)
         }
-        Call::Simplify { root, depth_limit, budget } => {
+        Call::Simplify { mode, root, depth_limit, budget } => {
             let depth_limit = u8::try_from(*depth_limit).map_err(|_| Refusal::Value)?;
             check_ids(store, &[*root])?;
-            simplify(store, *root, depth_limit, *budget).map(CallAnswer::Walked)
+            simplify(store, *mode, *root, depth_limit, *budget).map(CallAnswer::Walked)
         }
         Call::Prune { root, threshold } => {
             check_ids(store, &[*root])?;

@@ -14,10 +14,13 @@ pub enum Outside {
     NotANumber,
     /// A Pow of two constants gets past the identities.
     PowerOfConstants,
+    /// A walk is strict (02 i: "The runs compare sheets without it").
+    StrictWalk,
 }
 
 impl Outside {
-    pub const ALL: [Outside; 4] = [Outside::Refused, Outside::Spent, Outside::NotANumber, Outside::PowerOfConstants];
+    pub const ALL: [Outside; 5] =
+        [Outside::Refused, Outside::Spent, Outside::NotANumber, Outside::PowerOfConstants, Outside::StrictWalk];
 
     pub const fn words(self) -> &'static str {
         match self {
@@ -25,6 +28,7 @@ impl Outside {
             Outside::Spent => "spent",
             Outside::NotANumber => "not a number",
             Outside::PowerOfConstants => "power of constants",
+            Outside::StrictWalk => "strict walk",
         }
     }
 }
@@ -32,7 +36,9 @@ impl Outside {
 /// Why the sheet of this run is outside the domain, or nothing if it is inside.
 pub fn outside(run: &Run) -> Option<Outside> {
     let spent = |detail: Detail| matches!(detail, Detail::Walked { spent: true, .. });
-    if run.end != End::Done {
+    if run.store.noticed.strict_walk {
+        Some(Outside::StrictWalk)
+    } else if run.end != End::Done {
         Some(Outside::Refused)
     } else if run.answers.iter().any(|answer| spent(answer.detail)) {
         Some(Outside::Spent)

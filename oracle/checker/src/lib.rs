@@ -9,6 +9,7 @@ mod arithmetic;
 mod audit;
 mod call;
 mod domain;
+mod evaluation;
 mod hash;
 mod lent;
 mod listing;
@@ -22,12 +23,14 @@ mod refusal;
 mod run;
 mod settings;
 mod store;
+mod strict;
 mod text;
 mod walk;
 
 pub use audit::sound;
 pub use call::{Call, CallAnswer, call};
 pub use domain::{Outside, outside};
+pub use evaluation::unequal_walk;
 pub use hash::fnv_1a;
 pub use lent::{LentStore, WORDS_PER_NODE};
 pub use listing::{details, listing};
@@ -43,7 +46,7 @@ pub use text::{
     Derivation, NESTING_MAXIMUM, Step, TEXT_BYTES_MAXIMUM, TextLists, derivations, read_text, read_text_by_definition,
     rival_with_fewer_brackets, steps_of, write_text,
 };
-pub use walk::{Walked, simplify};
+pub use walk::{Mode, Walked, simplify};
 
 /// The answer of the command line: the listing, and the details if asked for.
 pub fn answer(sheet: &[u8], with_details: bool) -> Vec<u8> {

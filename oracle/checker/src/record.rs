@@ -4,6 +4,7 @@
 use crate::arithmetic::is_not_a_number;
 use crate::node::{Control, Kind, Operator};
 use crate::refusal::Refusal;
+use crate::walk::Mode;
 
 /// The largest flags value that a record or call may give.
 pub const FLAGS_MAXIMUM: u8 = 3;
@@ -16,7 +17,7 @@ pub enum Record {
     Operator { operator: Operator, flags: u8, operands: Vec<u16> },
     Function { number: u32, operands: Vec<u16> },
     Control { control: Control, operands: Vec<u16> },
-    Simplify { operand: u16, depth_limit: u8, budget: u32 },
+    Simplify { mode: Mode, operand: u16, depth_limit: u8, budget: u32 },
     Prune { operand: u16, threshold: f64 },
 }
 
@@ -35,8 +36,9 @@ pub fn read(body: &[u8], index: usize) -> Result<Record, Refusal> {
         3 => operator_record(fields)?,
         4 => function_record(fields)?,
         5 => control_record(fields)?,
-        6 => simplify_record(fields)?,
+        6 => simplify_record(Mode::Standard, fields)?,
         7 => prune_record(fields)?,
+        8 => simplify_record(Mode::Strict, fields)?,
         _ => return Err(Refusal::Record),
     };
     check(&record, index)?;
@@ -75,10 +77,10 @@ fn control_record(fields: &[u8]) -> Result<Record, Refusal> {
     Ok(Record::Control { control, operands })
 }
 
-fn simplify_record(fields: &[u8]) -> Result<Record, Refusal> {
+fn simplify_record(mode: Mode, fields: &[u8]) -> Result<Record, Refusal> {
     let [high, low, depth_limit, budget @ ..]: [u8; 7] = exactly(fields)?;
     let operand = u16::from_be_bytes([high, low]);
-    Ok(Record::Simplify { operand, depth_limit, budget: u32::from_be_bytes(budget) })
+    Ok(Record::Simplify { mode, operand, depth_limit, budget: u32::from_be_bytes(budget) })
 }
 
 fn prune_record(fields: &[u8]) -> Result<Record, Refusal> {

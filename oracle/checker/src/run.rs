@@ -6,7 +6,7 @@ use crate::prune::prune;
 use crate::record::{self, Record};
 use crate::refusal::Refusal;
 use crate::store::Store;
-use crate::walk::simplify;
+use crate::walk::{Mode, simplify};
 
 const LISTING_NODES: usize = 512;
 const LISTING_SLOTS: usize = 1_024;
@@ -40,13 +40,15 @@ pub enum End {
 pub struct Run {
     pub store: Store,
     pub answers: Vec<Answer>,
+    /// The root and the answer of each strict walk.
+    pub strict_walks: Vec<(u32, u32)>,
     pub end: End,
 }
 
 /// Runs a sheet.
 pub fn run(sheet: &[u8]) -> Run {
     let store = Store::fresh(LISTING_NODES, LISTING_SLOTS).expect("the listing lends at least 64 slots");
-    let mut run = Run { store, answers: Vec::new(), end: End::Done };
+    let mut run = Run { store, answers: Vec::new(), strict_walks: Vec::new(), end: End::Done };
     match sheet.split_first() {
         Some((&SHEET_FIRST_BYTE, records)) if sheet.len() <= SHEET_BYTES_MAXIMUM => {
             if let Err(refusal) = run.records(records) {
@@ -83,9 +85,13 @@ impl Run {
             }
             Record::Function { number, operands } => self.build(Kind::Function, u64::from(*number), 0, operands),
             Record::Control { control, operands } => self.build(Kind::Control, *control as u64, 0, operands),
-            Record::Simplify { operand, depth_limit, budget } => {
+            Record::Simplify { mode, operand, depth_limit, budget } => {
                 let root = self.id(*operand);
-                let walked = simplify(&mut self.store, root, *depth_limit, *budget)?;
+                self.store.noticed.strict_walk |= *mode == Mode::Strict;
+                let walked = simplify(&mut self.store, *mode, root, *depth_limit, *budget)?;
+                if *mode == Mode::Strict {
+                    self.strict_walks.push((root, walked.id));
+                }
                 let detail = Detail::Walked { steps: walked.steps, spent: walked.spent };
                 Ok(Answer { id: walked.id, detail })
             }

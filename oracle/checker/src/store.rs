@@ -20,6 +20,8 @@ pub struct Noticed {
     pub not_a_number: bool,
     /// A Pow of two constants got past the identities.
     pub power_of_constants: bool,
+    /// A walk was strict.
+    pub strict_walk: bool,
 }
 
 #[derive(Clone, Debug)]

@@ -1,9 +1,19 @@
-//! The walk of a simplify (01, "engine: the walk"), written as a recursion.
+//! The walk of a simplify (01, "engine: the walk"; strictly 02 i), written as
+//! a recursion.
 
 use crate::node::{COMMUTATIVE_ASSOCIATIVE, Children, Kind, Node, Operator};
 use crate::patterns;
 use crate::refusal::Refusal;
 use crate::store::Store;
+use crate::strict;
+
+/// Whether a walk is strict: it then has other patterns, and sets and heeds
+/// no marks.
+#[derive(Clone, Copy, Debug, PartialEq, Eq)]
+pub enum Mode {
+    Standard,
+    Strict,
+}
 
 /// The answer of a simplify that is not refused.
 #[derive(Clone, Copy, Debug, PartialEq, Eq)]
@@ -27,14 +37,15 @@ impl From<Refusal> for Stop {
 
 struct Walk<'a> {
     store: &'a mut Store,
+    mode: Mode,
     depth_limit: u8,
     budget: u32,
     steps: u32,
 }
 
 /// Walks the formula under `root`, which is below the node count.
-pub fn simplify(store: &mut Store, root: u32, depth_limit: u8, budget: u32) -> Result<Walked, Refusal> {
-    let mut walk = Walk { store, depth_limit, budget, steps: 0 };
+pub fn simplify(store: &mut Store, mode: Mode, root: u32, depth_limit: u8, budget: u32) -> Result<Walked, Refusal> {
+    let mut walk = Walk { store, mode, depth_limit, budget, steps: 0 };
     match walk.frame(root, 0) {
         Ok(id) => Ok(Walked { id, steps: walk.steps, spent: false }),
         Err(Stop::Spent) => Ok(Walked { id: root, steps: walk.steps, spent: true }),
@@ -64,22 +75,29 @@ impl Walk<'_> {
         for value in &mut values {
             self.step()?;
             let child = self.store.node(*value);
-            if !child.is_leaf() && !child.is_marked() {
+            let taken = self.mode == Mode::Standard && child.is_marked();
+            if !child.is_leaf() && !taken {
                 *value = self.frame(*value, depth + 1)?;
             }
         }
         self.step()?;
-        let result = rebuild(self.store, id, &values)?;
-        self.store.mark(result);
+        let result = rebuild(self.store, self.mode, id, &values)?;
+        if self.mode == Mode::Standard {
+            self.store.mark(result);
+        }
         Ok(result)
     }
 }
 
 /// The result of a finished frame: a pattern's, else the node itself if its
 /// children are unchanged, else what the constructor gives.
-fn rebuild(store: &mut Store, id: u32, values: &[u32]) -> Result<u32, Refusal> {
+fn rebuild(store: &mut Store, mode: Mode, id: u32, values: &[u32]) -> Result<u32, Refusal> {
     let node = *store.node(id);
-    if let Some(result) = patterns::apply(store, node.kind, values)? {
+    let fitted = match mode {
+        Mode::Standard => patterns::apply(store, node.kind, values)?,
+        Mode::Strict => strict::apply(store, node.kind, values)?,
+    };
+    if let Some(result) = fitted {
         return Ok(result);
     }
     if node.children.ids() == values {

@@ -1,6 +1,6 @@
 //! Calls on lent stores, and the audit.
 
-use checker::{Call, CallAnswer, LentNames, LentStore, NAME_BYTES, Refusal, WORDS_PER_NODE, call, sound};
+use checker::{Call, CallAnswer, LentNames, LentStore, Mode, NAME_BYTES, Refusal, WORDS_PER_NODE, call, sound};
 
 fn variable(symbol: u32) -> Call {
     Call::Variable { symbol }
@@ -128,7 +128,7 @@ fn order_of_a_call() {
         assert_eq!(call(&mut store, &Call::PruneBySetting { root: 3, setting }).map(|_| ()), expected);
     }
     assert_eq!(call(&mut store, &Call::PruneBySetting { root: 50, setting: 201 }), Err(Refusal::Operand));
-    let deep = Call::Simplify { root: 50, depth_limit: 256, budget: 1 };
+    let deep = Call::Simplify { mode: Mode::Standard, root: 50, depth_limit: 256, budget: 1 };
     assert_eq!(call(&mut store, &deep), Err(Refusal::Value));
     store.words[2] ^= 1;
     assert_eq!(call(&mut store, &deep), Err(Refusal::NotSound));
@@ -161,7 +161,7 @@ fn stopped_between_two_nodes_of_a_merge() {
     ] {
         call(&mut store, &built).unwrap();
     }
-    let simplify = Call::Simplify { root: 4, depth_limit: 255, budget: 100 };
+    let simplify = Call::Simplify { mode: Mode::Standard, root: 4, depth_limit: 255, budget: 100 };
     assert_eq!(call(&mut store, &simplify), Err(Refusal::NoNodePlace));
     assert!(sound(&store));
     assert_eq!(store.node_count, 6);

@@ -4,7 +4,7 @@
 use std::fmt::Write;
 use std::fs::read_to_string;
 
-use checker::{Call, CallAnswer, LentNames, LentStore, NAME_BYTES, Refusal, WORDS_PER_NODE, call, fnv_1a, sound};
+use checker::{Call, CallAnswer, LentNames, LentStore, Mode, NAME_BYTES, Refusal, WORDS_PER_NODE, call, fnv_1a, sound};
 
 const FOLDER: &str = concat!(env!("CARGO_MANIFEST_DIR"), "/../../crates/call_tests");
 const WORDS: usize = 16_384;
@@ -41,6 +41,10 @@ fn operator(operator: u64, flags: u8, operands: &[u32]) -> Call {
     Call::Operator { operator, flags, operands: operands.to_vec() }
 }
 
+fn simplify(mode: Mode, given: &[u64]) -> Call {
+    Call::Simplify { mode, root: given[0] as u32, depth_limit: given[1], budget: given[2] as u32 }
+}
+
 /// The call of a command, but for those on names.
 fn call_of(command: &str, given: &[u64]) -> Option<Call> {
     let ids: Vec<u32> = given.iter().map(|&id| id as u32).collect();
@@ -60,7 +64,8 @@ fn call_of(command: &str, given: &[u64]) -> Option<Call> {
         "if_else" => Call::Control { control: 1, operands: ids },
         "for_loop" => Call::Control { control: 2, operands: ids },
         "control" => Call::Control { control: given[0], operands: ids[1..].to_vec() },
-        "simplify" => Call::Simplify { root: ids[0], depth_limit: given[1], budget: ids[2] },
+        "simplify" => simplify(Mode::Standard, given),
+        "simplify_strictly" => simplify(Mode::Strict, given),
         "prune" => Call::Prune { root: ids[0], threshold: f64::from_bits(given[1]) },
         "prune_by_setting" => Call::PruneBySetting { root: ids[0], setting: given[1] },
         _ => return None,

@@ -42,8 +42,13 @@ fn chunk(options: &Options, parties: &[Party], start: u64, length: u64, reported
     let sheets: Vec<Vec<u8>> =
         (start..start + length).map(|number| generator::sheet(options.mode, options.seed, number)).collect();
     let mut tally = Tally::default();
-    for sheet in &sheets {
-        tally.count(sheet);
+    for (number, sheet) in (start..).zip(&sheets) {
+        tally.count(sheet, number);
+    }
+    for difference in &tally.differences {
+        if reported.fetch_add(1, Ordering::Relaxed) < REPORTED_MAXIMUM {
+            println!("{}", difference.report());
+        }
     }
     for party in parties {
         let differences = differences(party, &sheets, start);

@@ -6,6 +6,9 @@ use crate::random::Random;
 use crate::sheet::Sheet;
 use crate::{budgets, damage, exhaustive, limits, shapes};
 
+/// The largest budget of a strict walk.
+const STRICT_BUDGET_MAXIMUM: u32 = 10_000;
+
 #[derive(Clone, Copy, Debug, PartialEq, Eq)]
 pub enum Mode {
     /// Inside 01's domain.
@@ -18,6 +21,8 @@ pub enum Mode {
     Damaged,
     /// Near the numbers that 01 sets as limits.
     Limits,
+    /// As `Any`, two of three walks strict.
+    Strict,
 }
 
 impl Mode {
@@ -28,6 +33,7 @@ impl Mode {
             "exhaustive" => Some(Mode::Exhaustive),
             "damaged" => Some(Mode::Damaged),
             "limits" => Some(Mode::Limits),
+            "strict" => Some(Mode::Strict),
             _ => None,
         }
     }
@@ -48,6 +54,11 @@ pub fn sheet(mode: Mode, seed: u64, number: u64) -> Vec<u8> {
         Mode::Exhaustive => exhaustive::sheet(seed.wrapping_add(number)).bytes(),
         Mode::Damaged => damage::sheet(&mut random),
         Mode::Limits => limits::sheet(&mut random),
+        Mode::Strict => {
+            let mut sheet = shapes::any(&mut random);
+            sheet.make_strict(STRICT_BUDGET_MAXIMUM, || !random.once_in(3));
+            sheet.bytes()
+        }
     }
 }
 

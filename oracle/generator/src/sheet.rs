@@ -10,6 +10,7 @@ pub const NEG: u8 = 6;
 
 const SHEET_FIRST_BYTE: u8 = 1;
 const SIMPLIFY: u8 = 6;
+const SIMPLIFY_STRICTLY: u8 = 8;
 /// Where the budget stands in the body of a simplify record.
 const BUDGET_PLACE: usize = 4;
 
@@ -100,6 +101,19 @@ impl Sheet {
         body.extend(operand.to_be_bytes());
         body.extend(threshold.to_bits().to_be_bytes());
         self.record(body)
+    }
+
+    /// Makes simplify records strict, as many as are picked, with budgets up to
+    /// a bound: without marks a tower of shared nodes takes exponentially many
+    /// steps.
+    pub fn make_strict(&mut self, budget_maximum: u32, mut picked: impl FnMut() -> bool) {
+        for body in &mut self.bodies {
+            if body[0] == SIMPLIFY && picked() {
+                body[0] = SIMPLIFY_STRICTLY;
+                let budget = u32::from_be_bytes(body[BUDGET_PLACE..].try_into().expect("4 bytes"));
+                body[BUDGET_PLACE..].copy_from_slice(&budget.min(budget_maximum).to_be_bytes());
+            }
+        }
     }
 
     /// Changes the budget of a simplify record.

@@ -1,6 +1,6 @@
 //! A call of the checker's, done by the port on a lent store.
 
-use checker::{Call, CallAnswer, LentStore, Pruned, Walked};
+use checker::{Call, CallAnswer, LentStore, Mode, Pruned, Walked};
 
 use crate::interface::*;
 use crate::lists::Counts;
@@ -47,12 +47,18 @@ fn perform(store: &mut LentStore, counts: &mut Counts, call: &Call) -> Result<Ca
         Call::Control { control, operands } => {
             on!(store, counts, curvalique_control(*control as u32, operands.as_ptr(), operands.len(), &mut id))
         }
-        Call::Simplify { root, depth_limit, budget } => {
-            let number = on!(
-                store,
-                counts,
-                curvalique_simplify(*root, *depth_limit as u32, u64::from(*budget), &mut id, &mut first, &mut second)
-            );
+        Call::Simplify { mode, root, depth_limit, budget } => {
+            let (depth, budget) = (*depth_limit as u32, u64::from(*budget));
+            let number = match mode {
+                Mode::Standard => {
+                    on!(store, counts, curvalique_simplify(*root, depth, budget, &mut id, &mut first, &mut second))
+                }
+                Mode::Strict => on!(
+                    store,
+                    counts,
+                    curvalique_simplify_strictly(*root, depth, budget, &mut id, &mut first, &mut second)
+                ),
+            };
             return unless_refused(
                 number,
                 CallAnswer::Walked(Walked { id: id as u32, steps: second as u32, spent: first != 0 }),

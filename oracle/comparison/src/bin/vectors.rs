@@ -12,8 +12,13 @@ use generator::{Mode, examples, sheet};
 const SEED: u64 = 20_261;
 /// Groups after the examples: mode, sheets, and the most bytes of a sheet
 /// with its listing.
-const GROUPS: [(Mode, usize, usize); 4] =
-    [(Mode::Domain, 1_300, 1_000), (Mode::Any, 400, 1_000), (Mode::Damaged, 1_000, 800), (Mode::Limits, 30, 25_000)];
+const GROUPS: [(Mode, usize, usize); 5] = [
+    (Mode::Domain, 1_300, 1_000),
+    (Mode::Any, 400, 1_000),
+    (Mode::Damaged, 1_000, 800),
+    (Mode::Limits, 30, 25_000),
+    (Mode::Strict, 200, 800),
+];
 
 fn main() -> ExitCode {
     let arguments: Vec<String> = std::env::args().skip(1).collect();

@@ -17,7 +17,7 @@ same-length c = search needs
 
 returns : tie.Need-returns
 unfolding callOfCode
-returns c = runs-names _ 20 _ _ _ _ _ _ _ (c .before .before .before .if1 .taken) (c .before .name .ensures .called) (c .before .name .ensures .beside, c .before .name .ensures .fits) (λ b high low. refl)
+returns c = runs-names _ 21 _ _ _ _ _ _ _ (c .before .before .before .if1 .taken) (c .before .name .ensures .called) (c .before .name .ensures .beside, c .before .name .ensures .fits) (λ b high low. refl)
 
 spell-name-requires : tie.Need-spell-name-requires
 spell-name-requires c κs = search needs
@@ -36,7 +36,7 @@ same-length-2 c = search needs
 
 returns-2 : tie.Need-returns-2
 unfolding callOfCode
-returns-2 c = runs-names _ 18 _ _ _ _ _ _ _ (c .before .before .before .before .before .if2 .taken) (interns-spelled _ _ (c .before .before .before .before .before .before .before .before .before .before .before .args .operands .now) _ (c .before .before .intern .result .answer) (replicate longestName 0) _ _ (c .before .before .before .before .before .before .before .spell-name .ensures .is) (c .before .before .intern .ensures)) (interned-beside _ _ _ (c .before .before .intern .result .answer) _ _ (c .before .before .intern .ensures)) (λ b high low. refl)
+returns-2 c = runs-names _ 19 _ _ _ _ _ _ _ (c .before .before .before .before .before .if2 .taken) (interns-spelled _ _ (c .before .before .before .before .before .before .before .before .before .before .before .args .operands .now) _ (c .before .before .intern .result .answer) (replicate longestName 0) _ _ (c .before .before .before .before .before .before .before .spell-name .ensures .is) (c .before .before .intern .ensures)) (interned-beside _ _ _ (c .before .before .intern .result .answer) _ _ (c .before .before .intern .ensures)) (λ b high low. refl)
 
 array-share-prefix-bytes-2 : tie.Need-array-share-prefix-bytes-2
 array-share-prefix-bytes-2 c = search needs
@@ -52,7 +52,7 @@ same-length-3 c = search needs
 
 returns-3 : tie.Need-returns-3
 unfolding callOfCode
-returns-3 c = runs-names _ 19 _ _ _ _ _ _ _ (last-naming _ (c .before .before .before .before .before .before .before .before .before .pre .0) (c .before .before .before .before .before .before .before .before .before .pre .1) (c .before .before .before .before .before .before .if1 .left) (c .before .before .before .if2 .left)) (looks-up-spelled _ _ (c .before .before .before .before .before .before .before .before .before .args .operands .now) _ (c .lookup .result) (replicate longestName 0) _ _ (c .before .before .before .before .before .spell-name .ensures .is) (c .lookup .ensures)) (looked-up-beside _ _ _ (c .lookup .result) _ _ (c .lookup .ensures)) (λ b high low. refl)
+returns-3 c = runs-names _ 20 _ _ _ _ _ _ _ (last-naming _ (c .before .before .before .before .before .before .before .before .before .pre .0) (c .before .before .before .before .before .before .before .before .before .pre .1) (c .before .before .before .before .before .before .if1 .left) (c .before .before .before .if2 .left)) (looks-up-spelled _ _ (c .before .before .before .before .before .before .before .before .before .args .operands .now) _ (c .lookup .result) (replicate longestName 0) _ _ (c .before .before .before .before .before .spell-name .ensures .is) (c .lookup .ensures)) (looked-up-beside _ _ _ (c .lookup .result) _ _ (c .lookup .ensures)) (λ b high low. refl)
 
 pub call-names-spec : {M : Type 1} → statement M
 call-names-spec =

@@ -48,6 +48,9 @@ simplify-body-requires c κs = search needs
 prune-body-requires : tie.Need-prune-body-requires
 prune-body-requires c κs = search needs
 
+simplify-body-requires-2 : tie.Need-simplify-body-requires-2
+simplify-body-requires-2 c κs = search needs
+
 returns-2 : tie.Need-returns-2
 returns-2 c = B.body-known _ _ _ (c .before .before .before .before .before .pre) (omega arith) 1 (c .before .match .keys1) _ (c .variable-body .ensures)
 
@@ -70,7 +73,10 @@ returns-8 : tie.Need-returns-8
 returns-8 c = B.body-known _ _ _ (c .before .before .before .before .before .pre) (omega arith) 7 (c .before .match .keys7) _ (c .prune-body .ensures)
 
 returns-9 : tie.Need-returns-9
-returns-9 c = B.body-unknown _ _ _ (c .before .before .before .before .pre) (omega arith) (c .match .rest .0 .0 .0 .0 .0 .0 .1) (c .match .rest .0 .0 .0 .0 .0 .1) (c .match .rest .0 .0 .0 .0 .1) (c .match .rest .0 .0 .0 .1) (c .match .rest .0 .0 .1) (c .match .rest .0 .1) (c .match .rest .1)
+returns-9 c = B.body-known _ _ _ (c .before .before .before .before .before .pre) (omega arith) 8 (c .before .match .keys8) _ (c .simplify-body2 .ensures)
+
+returns-10 : tie.Need-returns-10
+returns-10 c = B.body-unknown _ _ _ (c .before .before .before .before .pre) (omega arith) (c .match .rest .0 .0 .0 .0 .0 .0 .0 .1) (c .match .rest .0 .0 .0 .0 .0 .0 .1) (c .match .rest .0 .0 .0 .0 .0 .1) (c .match .rest .0 .0 .0 .0 .1) (c .match .rest .0 .0 .0 .1) (c .match .rest .0 .0 .1) (c .match .rest .0 .1) (c .match .rest .1)
 
 pub decode-spec : {M : Type 1} → statement M
 decode-spec =
@@ -87,6 +93,7 @@ decode-spec =
     control-body-requires
     simplify-body-requires
     prune-body-requires
+    simplify-body-requires-2
     returns-2
     returns-3
     returns-4
@@ -94,4 +101,5 @@ decode-spec =
     returns-6
     returns-7
     returns-8
-    returns-9)
+    returns-9
+    returns-10)

@@ -15,7 +15,7 @@ add-if1-2 : tie.Need-add-if1-2
 add-if1-2 c = search needs
 
 returns : tie.Need-returns
-returns c = B.simplify-wrong _ _ _ (c .before .before .pre) (c .if1 .taken)
+returns c = B.simplify-wrong _ _ _ (c .before .before .pre) (c .before .before .args .mode) (c .if1 .taken)
 
 number-requires : tie.Need-number-requires
 number-requires c κs = search needs
@@ -39,7 +39,7 @@ cast-budget : tie.Need-cast-budget
 cast-budget c = search needs
 
 returns-2 : tie.Need-returns-2
-returns-2 c = B.simplify-whole _ _ _ (c .before .before .before .before .before .pre) (c .before .before .before .if1 .left) _ _ (c .before .before .number .ensures .is) (c .number2 .ensures .is)
+returns-2 c = B.simplify-whole _ _ _ (c .before .before .before .before .before .pre) (c .before .before .before .before .before .args .mode) (c .before .before .before .if1 .left) _ _ (c .before .before .number .ensures .is) (c .number2 .ensures .is)
 
 pub simplify-body-spec : {M : Type 1} → statement M
 simplify-body-spec =

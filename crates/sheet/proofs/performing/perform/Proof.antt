@@ -157,7 +157,7 @@ same-length-12 c = search needs
 returns-6 : tie.Need-returns-6
 returns-6 c =
     let a = c .before .before .before .before .before .before .before .before .before .before .before .before .before .args in
-    C.simplify-body (now (a .sheet)) (a .body) (now (a .ids)) (a .done) (memory (now (a .nodes)) (now (a .slots)) (a .arena)) _ _ _ _ _ (c .before .before .before .before .before .before .before .before .body6 .given .1) (c .before .before .before .before .simplify .ensures)
+    C.simplify-body (now (a .sheet)) (a .body) (now (a .ids)) (a .done) (memory (now (a .nodes)) (now (a .slots)) (a .arena)) _ _ _ _ _ _ (c .before .before .before .before .before .before .before .before .body6 .given .1) (c .before .before .before .before .simplify .ensures)
 
 same-length-13 : tie.Need-same-length-13
 same-length-13 c = search needs

@@ -2,6 +2,7 @@ use denote.Ref.{now}
 use Rattle.store.specs.Memory.{memory}
 use Rattle.sheet.proofs.Calls.{simplified}
 use borrow.Author.Needs.{needs}
+use Rattle.definitions.specs.Modes.{modeOf}
 use Rattle.sheet.proofs.performing.simplify.Statement.{statement}
 use Rattle.sheet.proofs.performing.simplify.Tie as tie
 use Rattle.sheet.proofs.performing.simplify.Reads as reads
@@ -33,7 +34,7 @@ same-length-2 c = search needs
 returns : tie.Need-returns
 returns c =
     let a = c .before .before .before .before .before .before .before .before .before .before .before .before .before .before .args in
-    simplified (memory (now (a .nodes)) (now (a .slots)) (a .arena)) (c .before .before .before .before .before .before .before .before .before .before .before .before .before .before .pre .2) (now (a .ids)) (a .done) (a .operand) _ (c .before .before .before .before .before .before .before .before .before .before .before .operand-id .ensures) _ (a .depth) (a .budget) _ _ (c .before .answer .given .1) (c .before .before .before .before .before .before .before .before .simplify-sound .ensures)
+    simplified (memory (now (a .nodes)) (now (a .slots)) (a .arena)) (c .before .before .before .before .before .before .before .before .before .before .before .before .before .before .pre .2) (now (a .ids)) (a .done) (a .operand) _ (c .before .before .before .before .before .before .before .before .before .before .before .operand-id .ensures) _ (modeOf (a .mode)) (a .depth) (a .budget) _ _ (c .before .answer .given .1) (c .before .before .before .before .before .before .before .before .simplify-sound .ensures)
 
 same-length-3 : tie.Need-same-length-3
 same-length-3 c = search needs
@@ -44,7 +45,7 @@ same-length-4 c = search needs
 returns-2 : tie.Need-returns-2
 returns-2 c =
     let a = c .before .before .before .before .before .before .before .before .before .before .before .before .before .before .args in
-    simplified (memory (now (a .nodes)) (now (a .slots)) (a .arena)) (c .before .before .before .before .before .before .before .before .before .before .before .before .before .before .pre .2) (now (a .ids)) (a .done) (a .operand) _ (c .before .before .before .before .before .before .before .before .before .before .before .operand-id .ensures) _ (a .depth) (a .budget) _ _ (c .before .answer2 .given .1) (c .before .before .before .before .before .before .before .before .simplify-sound .ensures)
+    simplified (memory (now (a .nodes)) (now (a .slots)) (a .arena)) (c .before .before .before .before .before .before .before .before .before .before .before .before .before .before .pre .2) (now (a .ids)) (a .done) (a .operand) _ (c .before .before .before .before .before .before .before .before .before .before .before .operand-id .ensures) _ (modeOf (a .mode)) (a .depth) (a .budget) _ _ (c .before .answer2 .given .1) (c .before .before .before .before .before .before .before .before .simplify-sound .ensures)
 
 same-length-5 : tie.Need-same-length-5
 same-length-5 c = search needs
@@ -55,7 +56,7 @@ same-length-6 c = search needs
 returns-3 : tie.Need-returns-3
 returns-3 c =
     let a = c .before .before .before .before .before .before .before .before .before .before .before .before .before .before .args in
-    simplified (memory (now (a .nodes)) (now (a .slots)) (a .arena)) (c .before .before .before .before .before .before .before .before .before .before .before .before .before .before .pre .2) (now (a .ids)) (a .done) (a .operand) _ (c .before .before .before .before .before .before .before .before .before .before .before .operand-id .ensures) _ (a .depth) (a .budget) _ _ (c .before .answer3 .given .1) (c .before .before .before .before .before .before .before .before .simplify-sound .ensures)
+    simplified (memory (now (a .nodes)) (now (a .slots)) (a .arena)) (c .before .before .before .before .before .before .before .before .before .before .before .before .before .before .pre .2) (now (a .ids)) (a .done) (a .operand) _ (c .before .before .before .before .before .before .before .before .before .before .before .operand-id .ensures) _ (modeOf (a .mode)) (a .depth) (a .budget) _ _ (c .before .answer3 .given .1) (c .before .before .before .before .before .before .before .before .simplify-sound .ensures)
 
 pub simplify-spec : {M : Type 1} → statement M
 simplify-spec =

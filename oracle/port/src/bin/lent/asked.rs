@@ -1,7 +1,7 @@
 //! What is asked in a history: calls on the store, names, readings, and
 //! writings if the library has them.
 
-use checker::{Call, CallAnswer, TextLists, read_text};
+use checker::{Call, CallAnswer, Mode, TextLists, read_text};
 use generator::{Random, texts};
 
 /// NaNs: quiet and signalling, of either sign.
@@ -132,6 +132,7 @@ fn store_call(random: &mut Random, count: usize) -> Call {
             Call::Control { control: random.pick(&[0, 1, 2, 3]), operands: operands(random, count, many) }
         }
         10 | 11 => Call::Simplify {
+            mode: random.pick(&[Mode::Standard, Mode::Strict]),
             root: operand(random, count),
             depth_limit: random.pick(&[0, 1, 2, 255, 255, 255, 256, 1 << 31]),
             budget: random.pick(&[0, 1, 2, 3, 5, 100_000, 100_000, 100_000]),
