@@ -2,7 +2,6 @@
 //! right, all NaNs counted as one; Pow, Mod, functions and controls are some
 //! function of the kind, the payload and the arguments' bits.
 
-use crate::arithmetic::NOT_A_NUMBER;
 use crate::node::{Kind, Node, Operator};
 use crate::run::Run;
 
@@ -24,6 +23,9 @@ const OFTEN: [u64; 14] = [
     0x7FEF_FFFF_FFFF_FFFF,
     0x3FE0_0000_0000_0001,
 ];
+
+/// The bits that stand for every NaN.
+const ONE_NAN: u64 = 0x7FF8_0000_0000_0000;
 
 /// Values tried for each sheet.
 const TRIALS: u64 = 16;
@@ -79,7 +81,7 @@ fn drawn(node: &Node, operands: &[f64], trial: u64) -> u64 {
 }
 
 fn one_nan(value: f64) -> u64 {
-    if value.is_nan() { NOT_A_NUMBER } else { value.to_bits() }
+    if value.is_nan() { ONE_NAN } else { value.to_bits() }
 }
 
 fn mix(bits: u64) -> u64 {

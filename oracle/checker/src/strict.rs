@@ -1,6 +1,6 @@
 //! The patterns of a strict walk (02 i), constants told by their bits.
 
-use crate::arithmetic::{NOT_A_NUMBER, fold};
+use crate::arithmetic::{Folded, fold};
 use crate::node::{Kind, Operator};
 use crate::refusal::Refusal;
 use crate::store::Store;
@@ -41,7 +41,7 @@ fn folded(store: &mut Store, operator: Operator, left: u32, right: u32) -> Resul
     let values = (store.node(left).constant_value(), store.node(right).constant_value());
     let (Some(left), Some(right)) = values else { return Ok(None) };
     match fold(operator, left, right) {
-        Some(bits) if bits != NOT_A_NUMBER => store.constant(bits).map(Some),
-        _ => Ok(None),
+        Folded::Bits(bits) => store.constant(bits).map(Some),
+        Folded::NotANumber | Folded::Never => Ok(None),
     }
 }
