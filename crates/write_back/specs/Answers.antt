@@ -4,6 +4,7 @@ use mathlib.Core.Path.{_≡_}
 use mathlib.Core.Bool.{Bool}
 use mathlib.Core.List.{List}
 use Rattle.definitions.specs.Machine as M
+use Rattle.definitions.specs.Walk.{standard}
 use Rattle.definitions.specs.Controller.{ControllerCall, simplifying, reading, ControllerAnswer, stored, simplified, refused}
 use Rattle.definitions.specs.Promise.{ControllerCalled}
 use Rattle.definitions.specs.Beside.{beside, controllerModel}
@@ -49,8 +50,8 @@ pub data Finishes (pruning : Pruning) (steps : ℕ) (spent : Bool) (m : Lists) (
 
 -- the walk, and then these
 pub data Simplifies (pruning : Pruning) (m : Lists) (id : ℕ) (buffer : List ℕ) : Outcome → List ℕ → Type 0 where
-  unsimplified : {number : ℕ} {m′ : Lists} → Calls (simplifying (idOf id) depthLimit ampleBudget) m (refused number) m′ → Simplifies pruning m id buffer (Refused number) buffer
-  walked : {i steps : ℕ} {spent : Bool} {m′ : Lists} {o : Outcome} {buffer′ : List ℕ} → Calls (simplifying (idOf id) depthLimit ampleBudget) m (simplified i spent steps) m′
+  unsimplified : {number : ℕ} {m′ : Lists} → Calls (simplifying standard (idOf id) depthLimit ampleBudget) m (refused number) m′ → Simplifies pruning m id buffer (Refused number) buffer
+  walked : {i steps : ℕ} {spent : Bool} {m′ : Lists} {o : Outcome} {buffer′ : List ℕ} → Calls (simplifying standard (idOf id) depthLimit ampleBudget) m (simplified i spent steps) m′
       → Finishes pruning steps spent m′ i buffer o buffer′ → Simplifies pruning m id buffer o buffer′
 
 -- the reading, and then these: a refusal leaves the buffer as it was

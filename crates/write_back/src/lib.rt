@@ -5,6 +5,7 @@ ghost use Rattle.writer.specs.Writing.{lists};
 ghost use Rattle.write_back.specs.Ids.{idOf};
 ghost use Rattle.write_back.specs.Answers.{Pruned, Finishes, Simplifies, Answers};
 use arena::DagArena;
+use definitions::mode::Mode;
 use writer::Answer;
 
 // 01's greatest depth limit, and a budget; a walk that uses it up says so.
@@ -111,7 +112,15 @@ fn simplify(
 ) -> Outcome
     ensures { λ r. ⌜ Simplifies pruning (lists (now (nodes .entry)) (now (slots .entry)) arena (now (entries .entry)) names) id (now (text .entry)) r (now (text .exit)) ⌝ }
 {
-    let walked = walk::simplify(nodes, slots, arena, id_of(id), DEPTH, BUDGET);
+    let walked = walk::simplify(
+        nodes,
+        slots,
+        arena,
+        Mode::Standard,
+        id_of(id),
+        DEPTH,
+        BUDGET,
+    );
     let after = walked.arena;
     let answer = walked.answer;
     match answer {
