@@ -13,7 +13,7 @@ use Rattle.definitions.specs.Limits.{mostTerms, mostDepth, mostChildren}
 use Rattle.definitions.specs.Refusals.{badOperand, badCode, notANumber, badChildCount, tooManyTerms}
 use Rattle.definitions.specs.Node.{Node, at, addKind, subKind, nanConstant, childCountListed}
 use Rattle.definitions.specs.Intern.{Lent, Built, built, stopped, intern}
-use Rattle.definitions.specs.Walk.{Walked, finished, spent, halted, walkRoot, standard}
+use Rattle.definitions.specs.Walk.{Mode, Walked, finished, spent, halted, walkRoot}
 use Rattle.definitions.specs.Prune.{chain, keeps, filter, flatten, sumOfKept}
 use Rattle.definitions.specs.Threshold.{Threshold, bits, untouched, refusing, given}
 use Rattle.definitions.specs.Settings.{setting}
@@ -71,9 +71,9 @@ store-node l ns r s =
     go true false false c m h = tt
     go false n b c m h = tt
 
-simplify-node : (l : Lent) (ns : List Node) (i depth budget : ℕ) → Sound ns → IsNode (simplifyCall standard l ns i depth budget)
+simplify-node : (m : Mode) (l : Lent) (ns : List Node) (i depth budget : ℕ) → Sound ns → IsNode (simplifyCall m l ns i depth budget)
 unfolding simplifyCall
-simplify-node l ns i depth budget s = go (leb depth mostDepth) (ltb i (length ns)) (walkRoot standard l depth budget ns i) (simplifies laws l ns i depth budget s .says)
+simplify-node m l ns i depth budget s = go (leb depth mostDepth) (ltb i (length ns)) (walkRoot m l depth budget ns i) (simplifies laws l m ns i depth budget s .says)
   where
     answered : Bool → Bool → Walked → Outcome
     answered a b w = cond a (cond b (walkedAs i w) (outcome (refused badOperand) ns)) (outcome (refused badCode) ns)
@@ -128,7 +128,7 @@ prune-node l ns i (bits t) s = one (ltb i (length ns)) refl
 call-node : (l : Lent) (s : State) (c : Call) → Sound (s .nodes) → Below (call l s c .answer) (length (call l s c .left .nodes))
 unfolding call
 call-node l s (store c) h = store-node l (s .nodes) (requested c) h
-call-node l s (simplify i depth budget) h = simplify-node l (s .nodes) i depth budget h
+call-node l s (simplify m i depth budget) h = simplify-node m l (s .nodes) i depth budget h
 call-node l s (prune i t) h = prune-node l (s .nodes) i (given t) h
 call-node l s (pruneBySetting i n) h = prune-node l (s .nodes) i (setting n) h
 

@@ -5,6 +5,7 @@ use mathlib.Core.Bool.{Bool}
 use mathlib.Core.List.{List}
 use lib.Dec.{ltb}
 use Rattle.definitions.specs.Machine as M
+use Rattle.definitions.specs.Walk.{standard}
 use Rattle.definitions.specs.Controller.{simplifying, reading, simplified, refused, fromStore}
 use Rattle.definitions.specs.Beside.{beside}
 use Rattle.definitions.proofs.Lifting.{lift-store}
@@ -55,12 +56,12 @@ module _ (pruning : Pruning) (steps : ℕ) (spent deep : Bool) (m : ControllerMe
 
 -- ---- the walk
 
-module _ (pruning : Pruning) (m : ControllerMemory) (id i : ℕ) (buffer : List ℕ) (q : i ≡ idOf id) (a : Walk.Answer) {s : Memory} (h : Leaves (M.simplify i depthLimit ampleBudget) (m .store) (WalkAnswers.meaning a) s) where
-  walks : (b : M.Answer) → WalkAnswers.meaning a ≡ b → Calls (simplifying (idOf id) depthLimit ampleBudget) m (fromStore b) (beside model nameModel s (m .names))
+module _ (pruning : Pruning) (m : ControllerMemory) (id i : ℕ) (buffer : List ℕ) (q : i ≡ idOf id) (a : Walk.Answer) {s : Memory} (h : Leaves (M.simplify standard i depthLimit ampleBudget) (m .store) (WalkAnswers.meaning a) s) where
+  walks : (b : M.Answer) → WalkAnswers.meaning a ≡ b → Calls (simplifying standard (idOf id) depthLimit ampleBudget) m (fromStore b) (beside model nameModel s (m .names))
   walks b e =
-      subst (λ (x : M.Answer). Calls (simplifying (idOf id) depthLimit ampleBudget) m (fromStore x) (beside model nameModel s (m .names))) e
-      (subst (λ (x : ℕ). Calls (simplifying x depthLimit ampleBudget) m (fromStore (WalkAnswers.meaning a)) (beside model nameModel s (m .names))) q
-      (lift-store model nameModel (M.simplify i depthLimit ampleBudget) (m .store) s (WalkAnswers.meaning a) (m .names) (h .called)))
+      subst (λ (x : M.Answer). Calls (simplifying standard (idOf id) depthLimit ampleBudget) m (fromStore x) (beside model nameModel s (m .names))) e
+      (subst (λ (x : ℕ). Calls (simplifying standard x depthLimit ampleBudget) m (fromStore (WalkAnswers.meaning a)) (beside model nameModel s (m .names))) q
+      (lift-store model nameModel (M.simplify standard i depthLimit ampleBudget) (m .store) s (WalkAnswers.meaning a) (m .names) (h .called)))
 
   pub walk-refused : (number : ℕ) → a ≡ walk.Refused number → Simplifies pruning m id buffer (Refused number) (beside model nameModel s (m .names)) buffer
   walk-refused number e = unsimplified (walks (M.refused number) (ap WalkAnswers.meaning e))

@@ -10,6 +10,7 @@ use lib.Dec.{T}
 use lib.Ieee.{binary64, ofBits, le}
 use native.Mathlib.Omega.{arith}
 use Rattle.definitions.specs.Machine as M
+use Rattle.definitions.specs.Walk.{standard}
 use Rattle.definitions.specs.Machine.{state, simplify, call}
 use Rattle.definitions.specs.Patterns.{one64}
 use Rattle.definitions.specs.Formula.{formula}
@@ -56,12 +57,12 @@ id-same s i h l =
 
 -- a walk answers an id of the nodes after it
 walk-below : (l : LentLists) (s : Controller) (root depth budget id steps : ℕ) (spent : Bool) → Whole s
-    → controllerCall l s (simplifying root depth budget) .answer ≡ simplified id spent steps → id < length (controllerCall l s (simplifying root depth budget) .left .nodes)
+    → controllerCall l s (simplifying standard root depth budget) .answer ≡ simplified id spent steps → id < length (controllerCall l s (simplifying standard root depth budget) .left .nodes)
 unfolding controllerCall call
 walk-below l s root depth budget id steps spent w e =
-    let c = simplify root depth budget in
+    let c = simplify standard root depth budget in
     let f = from-simplified (call (l .store) (state (s .nodes)) c .answer) id spent steps e in
-    subst (SimplifySays (s .nodes) root (call (l .store) (state (s .nodes)) c .left .nodes)) f (simplifies laws (l .store) (s .nodes) root depth budget (w .nodes) .says) .1
+    subst (SimplifySays (s .nodes) root (call (l .store) (state (s .nodes)) c .left .nodes)) f (simplifies laws (l .store) standard (s .nodes) root depth budget (w .nodes) .says) .1
 
 empty-whole : Whole emptyController
 empty-whole = record { nodes = λ i h. absurd (omega arith); names = none-listed }
@@ -85,16 +86,16 @@ at-setting {m = m} {m′ = m′} {a = a} i e h = subst (λ (x : ℕ). Leaves (M.
 
 module _ (typed : List ℕ) (setting t : ℕ) (m : ControllerMemory) (buffer : List ℕ) (fresh : FreshController Model m) (threshold : HasThreshold setting t) (one : T (le (ofBits binary64 t) one64)) where
   module _ {m1 m2 : ControllerMemory} {s : Memory} (id i steps j kept dropped : ℕ) (spent : Bool) (text : List ℕ)
-      (c1 : Calls (reading typed) m (stored id) m1) (c2 : Calls (simplifying (idOf id) depthLimit ampleBudget) m1 (simplified i spent steps) m2)
+      (c1 : Calls (reading typed) m (stored id) m1) (c2 : Calls (simplifying standard (idOf id) depthLimit ampleBudget) m1 (simplified i spent steps) m2)
       (c3 : Leaves (M.pruneBySetting (idOf i) setting) (m2 .store) (M.pruned j kept dropped) s) (w : WrittenText (controllerOf (beside model nameModel s (m2 .names))) (idOf j) text) where
     abbrev m3 : ControllerMemory
     m3 = beside model nameModel s (m2 .names)
 
-    history : History Model m (reading typed ∷ simplifying (idOf id) depthLimit ampleBudget ∷ pruningBySetting (idOf i) setting ∷ [])
+    history : History Model m (reading typed ∷ simplifying standard (idOf id) depthLimit ampleBudget ∷ pruningBySetting (idOf i) setting ∷ [])
         (stored id ∷ simplified i spent steps ∷ pruned j kept dropped ∷ []) (m1 ∷ m2 ∷ m3 ∷ [])
     history = next c1 (next c2 (next (lift-store model nameModel (M.pruneBySetting (idOf i) setting) (m2 .store) s (M.pruned j kept dropped) (m2 .names) (c3 .called)) done))
 
-    kept-promise : Promise (lentOf m) (reading typed ∷ simplifying (idOf id) depthLimit ampleBudget ∷ pruningBySetting (idOf i) setting ∷ [])
+    kept-promise : Promise (lentOf m) (reading typed ∷ simplifying standard (idOf id) depthLimit ampleBudget ∷ pruningBySetting (idOf i) setting ∷ [])
         (stored id ∷ simplified i spent steps ∷ pruned j kept dropped ∷ []) (controllerOf m1 ∷ controllerOf m2 ∷ controllerOf m3 ∷ [])
     kept-promise = demand3 Model m _ _ _ fresh history .0
 
@@ -125,7 +126,7 @@ module _ (typed : List ℕ) (setting t : ℕ) (m : ControllerMemory) (buffer : L
     moved : Exact (formula (controllerOf m1 .nodes) id) → (r : Reading)
         → Moved (valueOf r (formula (controllerOf m1 .nodes) id)) (valueOf r (formula (controllerOf m3 .nodes) (idOf j))) (ofBits binary64 t) dropped
     moved exact r =
-        let b = kept-promise .balance 1 2 (idOf id) depthLimit ampleBudget i steps t j kept dropped spent (pruningBySetting (idOf i) setting) (controllerOf m1) (controllerOf m2) (controllerOf m3)
+        let b = kept-promise .balance standard 1 2 (idOf id) depthLimit ampleBudget i steps t j kept dropped spent (pruningBySetting (idOf i) setting) (controllerOf m1) (controllerOf m2) (controllerOf m3)
         (omega arith) refl refl refl (threshold (idOf i) ∙ ap (λ (x : ℕ). some (x, bits t)) i-is) refl refl refl refl one
         (subst (λ (x : ℕ). Exact (formula (controllerOf m1 .nodes) x)) (sym id-is) exact) in
         let j-is : idOf j ≡ j = id-same s j (sound .1 .1 .0 storePart) (b .2) in
@@ -148,7 +149,7 @@ module _ (typed : List ℕ) (setting t : ℕ) (m : ControllerMemory) (buffer : L
   -- ---- from the cases of `Answers`
 
   finishes : {m1 m2 m′ : ControllerMemory} {buffer′ : List ℕ} {o : Outcome} (id i steps steps′ size kept dropped : ℕ) (spent spent′ deep deep′ : Bool)
-      → Calls (reading typed) m (stored id) m1 → Calls (simplifying (idOf id) depthLimit ampleBudget) m1 (simplified i spent′ steps′) m2
+      → Calls (reading typed) m (stored id) m1 → Calls (simplifying standard (idOf id) depthLimit ampleBudget) m1 (simplified i spent′ steps′) m2
       → Finishes (BySetting setting) steps′ spent′ deep′ m2 i buffer o m′ buffer′ → o ≡ Written size steps spent deep kept dropped → MovedText typed (take size buffer′) t dropped
   finishes id i steps steps′ size kept dropped spent spent′ deep deep′ c1 c2 (unpruned p) e = let z : _≡_ {A = ℕ} 0 1 = cc in absurd (omega arith)
   finishes id i steps steps′ size kept dropped spent spent′ deep deep′ c1 c2 (finished {a = write.Refused number} p w) e = let z : _≡_ {A = ℕ} 0 1 = cc in absurd (omega arith)

@@ -5,6 +5,7 @@ use mathlib.Core.Bool.{Bool}
 use mathlib.Core.List.{List}
 use lib.Dec.{ltb}
 use Rattle.definitions.specs.Machine as M
+use Rattle.definitions.specs.Walk.{standard}
 use Rattle.definitions.specs.Controller.{ControllerCall, simplifying, reading, ControllerAnswer, stored, simplified, refused}
 use Rattle.definitions.specs.Promise.{ControllerCalled}
 use Rattle.definitions.specs.Beside.{beside, controllerModel}
@@ -58,10 +59,10 @@ mayBeDeeper id = ltb depthLimit (idOf id)
 
 -- the walk, and then these
 pub data Simplifies (pruning : Pruning) (m : ControllerMemory) (id : ℕ) (buffer : List ℕ) : Outcome → ControllerMemory → List ℕ → Type 0 where
-  unsimplified : {number : ℕ} {m′ : ControllerMemory} → Calls (simplifying (idOf id) depthLimit ampleBudget) m (refused number) m′
+  unsimplified : {number : ℕ} {m′ : ControllerMemory} → Calls (simplifying standard (idOf id) depthLimit ampleBudget) m (refused number) m′
       → Simplifies pruning m id buffer (Refused number) m′ buffer
   walked : {i steps : ℕ} {spent : Bool} {m′ m″ : ControllerMemory} {o : Outcome} {buffer′ : List ℕ}
-      → Calls (simplifying (idOf id) depthLimit ampleBudget) m (simplified i spent steps) m′
+      → Calls (simplifying standard (idOf id) depthLimit ampleBudget) m (simplified i spent steps) m′
       → Finishes pruning steps spent (mayBeDeeper id) m′ i buffer o m″ buffer′ → Simplifies pruning m id buffer o m″ buffer′
 
 -- the reading, and then these: a refusal leaves the buffer as it was, and the lists as the refused call left them

@@ -5,6 +5,7 @@ ghost use Rattle.text.specs.Memory.{controllerMemory};
 ghost use Rattle.write_back.specs.Ids.{idOf};
 ghost use Rattle.write_back.specs.Answers.{Pruned, Finishes, Simplifies, Answers};
 use arena::DagArena;
+use definitions::mode::Mode;
 use writer::Answer;
 
 // 01's greatest depth limit, and a budget; a walk that uses it up says so. A second walk would seldom go deeper: what the first finished is marked.
@@ -138,7 +139,7 @@ fn simplify(
 {
     let root = id_of(id);
     let deep = DEPTH < root;
-    let walked = walk::simplify(nodes, slots, arena, root, DEPTH, BUDGET);
+    let walked = walk::simplify(nodes, slots, arena, Mode::Standard, root, DEPTH, BUDGET);
     let after = walked.arena;
     let answer = walked.answer;
     match answer {
