@@ -4,6 +4,7 @@ use mathlib.Core.Path.{_≡_, refl, sym, ap, subst, _∙_}
 use mathlib.Core.Bool.{Bool, true, false, _&&_, _||_, not}
 use mathlib.Core.List.{List, [], _∷_}
 use lib.ListN.{length, getD, drop, replicate, length-replicate, List·getD-eq-default}
+use lib.Seq.{take-all}
 use lib.Dec.{T, eqb, leb, ltb, leb→le, ltb→lt, eqb→eq}
 use native.Mathlib.Omega.{arith}
 use native.Mathlib.Decide.{decLt}
@@ -13,12 +14,11 @@ use Rattle.arena.specs.Kind.{listed}
 use Rattle.arena.specs.Node.{nodeAt, one, flagsEnd, nodeHash, coefficient}
 use Rattle.arena.specs.Nodes.{WellFormed, Nodes}
 use Rattle.arena.proofs.Words.{children-length}
-use Rattle.dedup.specs.Table.{Table, TableSize, hashAt}
-use Rattle.dedup.proofs.Renewing.{empty, table-more}
+use Rattle.dedup.specs.Table.{Table, TableSize, inserted, hashAt}
+use Rattle.dedup.proofs.Inserting.{inserted-length}
 use Rattle.definitions.specs.Limits.{firstTableSize}
 use Rattle.definitions.specs.Intern.{capacity}
 use Rattle.store.specs.Sound.{Sound}
-use Rattle.lent_instance.specs.Memory.{slotsFor}
 
 -- ---- tests
 
@@ -118,37 +118,27 @@ nodes-sound words count t =
 
 -- ---- the table
 
--- the place of each id's hash is empty when the id is put there
-unfoldable placesFree : (ℕ → ℕ) → ℕ → Bool
-unfolding slotsFor
-placesFree hash count = every count (λ i. eqb (getD (slotsFor hash i) (hash i % firstTableSize) 0) 0)
-
 first-size : TableSize firstTableSize
 first-size = record { doublings = 0; is = refl }
 
-table-for : (hash : ℕ → ℕ) (count : ℕ) → T (placesFree hash count) → count ≤ capacity firstTableSize → Table hash count (slotsFor hash count) firstTableSize
-unfolding slotsFor placesFree
-table-for hash zero t l = empty hash firstTableSize (replicate firstTableSize 0) first-size (leb→le 64 64 tt)
-table-for hash (suc i) t l =
-    let both = and-both (eqb (getD (slotsFor hash i) (hash i % firstTableSize) 0) 0) (placesFree hash i) t in
-    let z : hash i ≡ hash i + 0 = omega arith in
-    subst (λ (n : ℕ). Table hash n (slotsFor hash (suc i)) firstTableSize) (let e : i + 1 ≡ suc i = omega arith in e)
-    (table-more hash i (slotsFor hash i) firstTableSize (hash i) (slotsFor hash (suc i)) (table-for hash i (both .1) (omega arith)) refl (omega arith)
-    (record {
-      place = hash i % firstTableSize;
-      free = record { far = 0; near = omega arith; is = ap (λ (h : ℕ). h % firstTableSize) z; empty = eqb→eq (getD (slotsFor hash i) (hash i % firstTableSize) 0) 0 (both .0); used = λ d m. absurd (omega arith) };
-      after = refl;
-    }))
+table-for : (hash : ℕ → ℕ) (count : ℕ) → count ≤ capacity firstTableSize → Table hash count (inserted hash firstTableSize count) firstTableSize
+table-for hash count l =
+    let long = inserted-length hash firstTableSize count in
+    record {
+      doubled = first-size;
+      sized = omega (arith, long);
+      load = l;
+      filled = take-all firstTableSize (inserted hash firstTableSize count) (omega (arith, long));
+    }
 
 -- ---- the store
 
 unfoldable pub storeSound : List ℕ → ℕ → Bool
-unfolding nodesSound placesFree
-storeSound words count = leb count (capacity firstTableSize) && (nodesSound words count && placesFree (hashAt words) count)
+unfolding nodesSound
+storeSound words count = leb count (capacity firstTableSize) && nodesSound words count
 
-pub store-sound : (words : List ℕ) (count : ℕ) → T (storeSound words count) → Sound words (slotsFor (hashAt words) count) (arenaOf count firstTableSize)
+pub store-sound : (words : List ℕ) (count : ℕ) → T (storeSound words count) → Sound words (inserted (hashAt words) firstTableSize count) (arenaOf count firstTableSize)
 unfolding storeSound
 store-sound words count t =
-    let a = and-both (leb count (capacity firstTableSize)) _ t in
-    let b = and-both (nodesSound words count) (placesFree (hashAt words) count) (a .1) in
-    record { nodes = nodes-sound words count (b .0); table = table-for (hashAt words) count (b .1) (leb→le count (capacity firstTableSize) (a .0)) }
+    let a = and-both (leb count (capacity firstTableSize)) (nodesSound words count) t in
+    record { nodes = nodes-sound words count (a .1); table = table-for (hashAt words) count (leb→le count (capacity firstTableSize) (a .0)) }

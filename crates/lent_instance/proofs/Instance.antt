@@ -17,6 +17,7 @@ use Rattle.definitions.specs.Machine.{variable, constant, add}
 use Rattle.definitions.specs.Names.{internName, sameName, entryBytes}
 use Rattle.definitions.specs.Node.{Node, node, variableKind, constantKind, addKind, bothFlags}
 use Rattle.definitions.specs.Controller.{Controller, emptyController, ControllerCall, ControllerAnswer, building, simplifying, naming, stored, refused, numbered, controllerAnswers, controllers, Part, storePart, namesPart, pruningBySetting, simplified, pruned}
+use Rattle.definitions.specs.Walk.{standard}
 use Rattle.definitions.specs.Formula.{Tree, tree, nil, cons, formula}
 use Rattle.definitions.specs.Settings.{setting}
 use Rattle.definitions.specs.Value.{Reading, valueOf}
@@ -25,12 +26,14 @@ use Rattle.definitions.specs.Promise.{FreshController, All, Balanced, Promise}
 use Rattle.definitions.proofs.Histories.{demand3}
 use Rattle.store.specs.View.{plainNode, nodesIn}
 use Rattle.dedup.specs.Table.{hashAt}
+use Rattle.dedup.proofs.Inserting.{inserted-length}
+use Rattle.definitions.specs.Limits.{firstTableSize}
 use Rattle.names.specs.Entry.{entryAt, SoundEntry}
 use Rattle.names.specs.Sound.{Sound as NamesSound, namesOf}
 use Rattle.names.proofs.Modelled.{no-names}
 use Rattle.text.specs.Memory.{ControllerMemory, lentController}
-use Rattle.lent_instance.specs.Memory.{lentHere, wordsFor, slotsFor, bytesFor, memoryFor}
-use Rattle.lent_instance.proofs.Checking.{and-both, every-below, storeSound, store-sound}
+use Rattle.lent_instance.specs.Memory.{lentHere, wordsFor, bytesFor, memoryFor}
+use Rattle.lent_instance.proofs.Checking.{every-below, storeSound, store-sound}
 use Rattle.lent_instance.proofs.Histories.{Held, history-held}
 
 abbrev flow : List ℕ
@@ -39,7 +42,7 @@ flow = 102 ∷ 108 ∷ 111 ∷ 119 ∷ []
 abbrev calls : List ControllerCall
 calls =
     naming (internName flow) ∷ building (variable 0) ∷ building (constant 0x3FB0000000000000) ∷ building (add 0 1) ∷ building (add 0 2)
-    ∷ building (add 0 9) ∷ simplifying 3 255 5 ∷ pruningBySetting 3 200 ∷ pruningBySetting 3 0 ∷ []
+    ∷ building (add 0 9) ∷ simplifying standard 3 255 5 ∷ pruningBySetting 3 200 ∷ pruningBySetting 3 0 ∷ []
 
 pub answers-are : controllerAnswers lentHere emptyController calls
     ≡ numbered 0 ∷ stored 0 ∷ stored 1 ∷ stored 2 ∷ stored 3 ∷ refused 4 ∷ simplified 3 true 5 ∷ pruned 4 2 1 ∷ pruned 3 1 0 ∷ []
@@ -79,13 +82,13 @@ held-empty = record { sound = sounds; view = refl; lent = refl }
     sounds namesPart = no-names (bytesFor []) .sound
 
 -- the nodes of a state, beside the one name
-held-named : (ns : List Node) → T (storeSound (wordsFor ns) (length ns)) → nodesIn (wordsFor ns) (length ns) ≡ ns → length (wordsFor ns) ≡ 50 → length (slotsFor (hashAt (wordsFor ns)) (length ns)) ≡ 64
+held-named : (ns : List Node) → T (storeSound (wordsFor ns) (length ns)) → nodesIn (wordsFor ns) (length ns) ≡ ns → length (wordsFor ns) ≡ 50
     → Held (record { nodes = ns; names = flow ∷ [] })
 unfolding namesOf
-held-named ns t v w s = record {
+held-named ns t v w = record {
   sound = sounds;
   view = ap (λ (ms : List Node). record { nodes = ms; names = flow ∷ [] }) v;
-  lent = ap₂ (λ (a b : ℕ). record { store = record { nodes = a / 10; slots = b }; names = 1 }) w s;
+  lent = ap₂ (λ (a b : ℕ). record { store = record { nodes = a / 10; slots = b }; names = 1 }) w (inserted-length (hashAt (wordsFor ns)) firstTableSize (length ns));
 }
   where
     sounds : (p : Part) → lentController .Sound (memoryFor (record { nodes = ns; names = flow ∷ [] })) p
@@ -108,14 +111,12 @@ outer = node addKind 0 bothFlags (0 ∷ 2 ∷ [])
 abbrev kept : Node
 kept = node addKind 0 bothFlags (0 ∷ 0 ∷ [])
 
-held : (ns : List Node) → T (storeSound (wordsFor ns) (length ns)) → nodesIn (wordsFor ns) (length ns) ≡ ns → T (eqb (length (wordsFor ns)) 50 && eqb (length (slotsFor (hashAt (wordsFor ns)) (length ns))) 64)
+held : (ns : List Node) → T (storeSound (wordsFor ns) (length ns)) → nodesIn (wordsFor ns) (length ns) ≡ ns → T (eqb (length (wordsFor ns)) 50)
     → Held (record { nodes = ns; names = flow ∷ [] })
-held ns t v l =
-    let b = and-both (eqb (length (wordsFor ns)) 50) (eqb (length (slotsFor (hashAt (wordsFor ns)) (length ns))) 64) l in
-    held-named ns t v (eqb→eq (length (wordsFor ns)) 50 (b .0)) (eqb→eq (length (slotsFor (hashAt (wordsFor ns)) (length ns))) 64 (b .1))
+held ns t v l = held-named ns t v (eqb→eq (length (wordsFor ns)) 50 l)
 
 all-held : All Held (controllers lentHere emptyController calls)
-unfolding controllers sameName addFloat le lt eq ofBits storeSound slotsFor nodesIn plainNode nodeAt wordsFrom wordsOf newNode nodeHashOf fnvFrom timesPrime bytes32 bytes64 childrenBytes coefficient listed operatorArity one nodeHash
+unfolding controllers sameName addFloat le lt eq ofBits storeSound nodesIn plainNode nodeAt wordsFrom wordsOf newNode nodeHashOf fnvFrom timesPrime bytes32 bytes64 childrenBytes coefficient listed operatorArity one nodeHash
 all-held = (
   held [] tt refl tt,
   (
@@ -186,14 +187,14 @@ oldTree = sumTree flowTree (sumTree flowTree sixteenthTree)
 pub instance : Balanced oldTree oldTree (sumTree flowTree flowTree) (ofBits binary64 tenth) 2 1
 unfolding controllerAnswers controllers sameName addFloat le lt eq ofBits setting formula nodesIn plainNode nodeAt wordsFrom wordsOf newNode
 instance =
-    promised .balance 6 7 3 255 5 3 5 tenth 4 2 1 true (pruningBySetting 3 200) (seenAfter 6) (seenAfter 7) (seenAfter 8) (lit< tt)
+    promised .balance standard 6 7 3 255 5 3 5 tenth 4 2 1 true (pruningBySetting 3 200) (seenAfter 6) (seenAfter 7) (seenAfter 8) (lit< tt)
     refl refl refl refl refl refl refl refl tt old-is-exact .4
 
 -- The prune at 8, by a setting without a threshold, answers the spent walk's answer untouched, and the value of its formula is the old one.
 pub untouched-instance : (r : Reading) → valueOf r oldTree ≡ valueOf r (formula (seenAfter 9 .nodes) 3)
 unfolding controllerAnswers controllers sameName addFloat le lt eq ofBits setting formula nodesIn plainNode nodeAt wordsFrom wordsOf newNode
 untouched-instance =
-    promised .untouched-balance 6 8 3 255 5 3 5 true (pruningBySetting 3 0) (seenAfter 6) (seenAfter 7) (seenAfter 9) (lit< tt)
+    promised .untouched-balance standard 6 8 3 255 5 3 5 true (pruningBySetting 3 0) (seenAfter 6) (seenAfter 7) (seenAfter 9) (lit< tt)
     refl refl refl refl refl refl refl old-is-exact .4
 
 -- the memory is sound after every call, the refused one and the spent walk too

@@ -1,11 +1,11 @@
 -- Lent memory that holds given nodes and names, written out: words for a few nodes, a table of 64 slots, bytes for one name.
-use Prim.Native.Nat.{ℕ, zero, suc, _+_, _-_, _*_, _%_}
+use Prim.Native.Nat.{ℕ, _+_, _*_}
 use mathlib.Core.Bool.{Bool, true, _&&_, cond}
 use mathlib.Core.List.{List, [], _∷_, _++_}
-use lib.ListN.{length, set, replicate, take}
+use lib.ListN.{length, replicate, take}
 use Rattle.arena.specs.Layout.{nodeWords, mostChildren, arenaOf}
 use Rattle.arena.specs.Node.{canonical, wordsOf, newNode}
-use Rattle.dedup.specs.Table.{hashAt}
+use Rattle.dedup.specs.Table.{inserted, hashAt}
 use Rattle.definitions.specs.Limits.{firstTableSize}
 use Rattle.definitions.specs.Node.{Node}
 use Rattle.definitions.specs.Lists.{LentLists, Controller}
@@ -41,11 +41,6 @@ nodesInWords (n ∷ ns) = nodeInWords n ++ nodesInWords ns
 abbrev pub wordsFor : List Node → List ℕ
 wordsFor ns = padded (lentNodes * nodeWords) (nodesInWords ns)
 
--- a table in which every id has the place of its hash
-unfoldable pub slotsFor : (ℕ → ℕ) → ℕ → List ℕ
-slotsFor hash zero = replicate firstTableSize 0
-slotsFor hash (suc id) = set (slotsFor hash id) (hash id % firstTableSize) (id + 1)
-
 abbrev pub entriesInBytes : List (List ℕ) → List ℕ
 entriesInBytes [] = []
 entriesInBytes (name ∷ names) = entryOf name ++ entriesInBytes names
@@ -58,4 +53,4 @@ abbrev pub memoryFor : Controller → ControllerMemory
 memoryFor s =
     let words = wordsFor (s .nodes) in
     let count = length (s .nodes) in
-    controllerMemory words (slotsFor (hashAt words) count) (arenaOf count firstTableSize) (bytesFor (s .names)) (length (s .names))
+    controllerMemory words (inserted (hashAt words) firstTableSize count) (arenaOf count firstTableSize) (bytesFor (s .names)) (length (s .names))

@@ -1,4 +1,4 @@
--- One sheet on one memory has one outcome, and leaves the same words and counts.
+-- One sheet on one memory has one outcome, and leaves one memory.
 use Prim.Native.Nat.{ℕ, _+_, _*_}
 use mathlib.Core.Path.{_≡_, refl, sym, ap, ap₂, subst, _∙_}
 use mathlib.Core.Bool.{Bool, true, false, cond}
@@ -22,7 +22,7 @@ use Rattle.records.specs.Reading.{isSheet}
 use Rattle.listing_lines.specs.declared.Outcome.{Outcome}
 use Rattle.listing_lines.specs.declared.Outcome.the-variants.{Ok, Empty, Spent, Refused}
 use Rattle.sheet.specs.declared.Ran.{Ran}
-use Rattle.sheet.specs.Sheets.{Runs, RunsFresh, refusedAtStart, notOpened}
+use Rattle.sheet.specs.Sheets.{Runs, RunsFresh, refusedAtStart, notOpened, Ended, ended}
 use Rattle.public_calls.specs.Sheets.{OneRun, RunsOneWay, RunsFreshOneWay}
 
 -- ---- lists that are the same whether something holds or not
@@ -57,48 +57,28 @@ back (Refused number at) = refl
 -- ---- on any store
 
 module _ (bytes : List ℕ) (m m′ m″ : Memory) (o o′ : Outcome) (f : Runs bytes m o m′) (g : Runs bytes m o′ m″) where
-  -- on a sound one
-  module _ (h : model .Sound m) where
-    sound-outcome : o ≡ o′
-    sound-outcome = f .outcome h ∙ sym (g .outcome h)
+  same : (d : Dec (model .Sound m)) → ended o m′ ≡ ended o′ m″
+  same d = f .equation d ∙ sym (g .equation d)
 
-    nodes : nodesIn (m′ .words) (m′ .arena .count) ≡ nodesIn (m″ .words) (m″ .arena .count)
-    nodes = ap (λ (s : State). s .nodes) (f .left h ∙ sym (g .left h))
+  -- a list of numbers that is read off both ends
+  both : (read : Ended → List ℕ) → read (ended o m′) ≡ read (ended o′ m″)
+  both read = either (read (ended o m′)) (read (ended o′ m″)) (λ h. ap read (same (yes h))) (λ n. ap read (same (no n)))
 
-    sound-count : m′ .arena .count ≡ m″ .arena .count
-    sound-count = sym (plain-length (m′ .words) (m′ .arena .count)) ∙ ap length nodes ∙ plain-length (m″ .words) (m″ .arena .count)
-
-    sound-size : m′ .arena .size ≡ m″ .arena .size
-    sound-size = f .size h ∙ ap (tableSizeFrom mostDoublings (m .arena .size)) sound-count ∙ sym (g .size h)
-
-    sound-words : m′ .words ≡ m″ .words
-    sound-words =
-        words-same (m′ .words) (m″ .words) (m′ .arena .count) (f .sound h .nodes) (rw sound-count (g .sound h .nodes)) (nodes ∙ ap (nodesIn (m″ .words)) (sym sound-count))
-        (f .words-past ∙ (rw sound-count (sym (g .words-past))))
-
-  -- on one that is not
-  module _ (n : model .Sound m → ⊥) where
-    unsound-outcome : o ≡ o′
-    unsound-outcome = f .unsound n .0 ∙ sym (g .unsound n .0)
-
-    unsound-memory : m′ ≡ m″
-    unsound-memory = f .unsound n .1 ∙ sym (g .unsound n .1)
+  arenaFrom : List ℕ → DagArena
+  arenaFrom [] = m .arena
+  arenaFrom (x ∷ []) = m .arena
+  arenaFrom (x ∷ y ∷ r) = record { count = x; size = y }
 
   pub one-run : OneRun o o′ m′ m″
   one-run =
-      let outcomes = either (outcomeNumbers o) (outcomeNumbers o′) (λ h. ap outcomeNumbers (sound-outcome h)) (λ n. ap outcomeNumbers (unsound-outcome n)) in
-      let counts = either (m′ .arena .count ∷ m′ .arena .size ∷ []) (m″ .arena .count ∷ m″ .arena .size ∷ [])
-      (λ h. ap₂ (λ (x y : ℕ). x ∷ y ∷ []) (sound-count h) (sound-size h)) (λ n. ap (λ (x : Memory). x .arena .count ∷ x .arena .size ∷ []) (unsound-memory n)) in
+      let outcomes = both (λ e. outcomeNumbers (e .outcome)) in
+      let words = both (λ e. e .memory .words) in
+      let slots = both (λ e. e .memory .slots) in
+      let arenas = ap arenaFrom (both (λ e. e .memory .arena .count ∷ e .memory .arena .size ∷ [])) in
       record {
         outcome = sym (back o) ∙ ap outcomeFrom outcomes ∙ back o′;
-        words = either (m′ .words) (m″ .words) sound-words (λ n. ap (λ (x : Memory). x .words) (unsound-memory n));
-        arena = ap arenaFrom counts;
+        memory = λ i. memory (words i) (slots i) (arenas i);
       }
-    where
-      arenaFrom : List ℕ → DagArena
-      arenaFrom [] = m .arena
-      arenaFrom (x ∷ []) = m .arena
-      arenaFrom (x ∷ y ∷ r) = record { count = x; size = y }
 
 pub runs-one-way : RunsOneWay
 runs-one-way bytes m m′ m″ o o′ f g = one-run bytes m m′ m″ o o′ f g
@@ -114,7 +94,10 @@ runs-fresh-one-way bytes words slots words′ slots′ words″ slots″ before 
         let y = g .refused number e in
         record {
           outcome = ap (λ (z : Ran). z .outcome) (x .0 ∙ sym (y .0));
-          words = x .1 ∙ sym (y .1);
-          arena = ap (λ (z : Ran). z .arena) (x .0 ∙ sym (y .0));
+          memory =
+              let words-same = x .1 ∙ sym (y .1) in
+              let slots-same = x .2 ∙ sym (y .2) in
+              let ran-same = x .0 ∙ sym (y .0) in
+              λ i. memory (words-same i) (slots-same i) (ran-same i .arena);
         }
     by none e = one-run bytes (freshMemory words slots) (memory words′ slots′ (r .arena)) (memory words″ slots″ (r′ .arena)) (r .outcome) (r′ .outcome) (f .runs e) (g .runs e)

@@ -23,7 +23,7 @@ use Rattle.listing_lines.specs.declared.Outcome.the-variants.{Ok, Empty, Spent,
 use Rattle.listing_lines.specs.Outcome.{answeredAs, outcomeOf, firstLineOf}
 use Rattle.listing_lines.proofs.Lines.{first-line-is}
 use Rattle.sheet.specs.declared.Ran.{Ran}
-use Rattle.sheet.specs.Sheets.{Runs, RunsFresh, notOpened}
+use Rattle.sheet.specs.Sheets.{Ended, Runs, RunsFresh, notOpened}
 use Rattle.listing_bytes.specs.Listed.{listingLent, Listed}
 use Rattle.refusals_listed.specs.Listed.{among}
 use Rattle.refusals_listed.proofs.Called.{among-more, not-not}
@@ -62,7 +62,7 @@ outcome-or l s bytes (Refused number at) e = outcome-refuses l s bytes number at
 
 module _ (bytes : List ℕ) (m m′ : Memory) (o : Outcome) (h : Runs bytes m o m′) where
   on-sound : (number at : ℕ) → model .Sound m → o ≡ Refused number at → RefusesAt (model .lent m) (model .view m) bytes number at × T (among number sheetRefusals)
-  on-sound number at s e = outcome-refuses (model .lent m) (model .view m) bytes number at (sym (h .outcome s) ∙ e)
+  on-sound number at s e = outcome-refuses (model .lent m) (model .view m) bytes number at (sym (ap (λ (x : Ended). x .outcome) (h .equation (yes s))) ∙ e)
 
   listed : (p : Outcome) → o ≡ p → OutcomeOr (notSound ∷ sheetRefusals) p
   listed (Ok i) e = tt
@@ -70,14 +70,14 @@ module _ (bytes : List ℕ) (m m′ : Memory) (o : Outcome) (h : Runs bytes m o 
   listed (Spent i) e = tt
   listed (Refused number at) e = not-not (among number (notSound ∷ sheetRefusals)) (λ out.
       let unsound : model .Sound m → ⊥ = λ s. out (among-more number notSound sheetRefusals (on-sound number at s e .1)) in
-      let q : Refused number at ≡ Refused notSound 0 = sym e ∙ h .unsound unsound .0 in
+      let q : Refused number at ≡ Refused notSound 0 = sym e ∙ ap (λ (x : Ended). x .outcome) (h .equation (no unsound)) in
       let p : number ≡ notSound = cc in
       out (subst (λ (n : ℕ). T (among n (notSound ∷ sheetRefusals))) (sym p) tt))
 
   pub sheet-listed : SheetListed bytes m o
   sheet-listed = record {
     listed = listed o refl;
-    unsound = λ u. h .unsound u .0;
+    unsound = λ u. ap (λ (x : Ended). x .outcome) (h .equation (no u));
     sound = λ at s e. on-sound notSound at s e .1;
     refused = λ number at s e. on-sound number at s e .0;
   }

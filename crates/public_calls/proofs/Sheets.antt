@@ -28,7 +28,7 @@ use Rattle.public_calls.specs.Sheets.{sheetRefusals, RefusesAt, noSheet,
 -- no record prunes by a setting
 abbrev Recorded : Call → Type 0
 Recorded (store c) = Unit {0}
-Recorded (simplify i depth budget) = Unit {0}
+Recorded (simplify mode i depth budget) = Unit {0}
 Recorded (prune i t) = Unit {0}
 Recorded (pruneBySetting i n) = ⊥
 
@@ -80,11 +80,12 @@ body-recorded (k ∷ r) =
     (one-of-two (eqb k 4) _ _ (function-recorded r)
     (one-of-two (eqb k 5) _ _ (control-recorded r)
     (one-of-two (eqb k 6) _ _ (sized-recorded 7 r _ tt)
-    (one-of-two (eqb k 7) _ _ (sized-recorded 10 r _ tt) tt))))))
+    (one-of-two (eqb k 7) _ _ (sized-recorded 10 r _ tt)
+    (one-of-two (eqb k 8) _ _ (sized-recorded 7 r _ tt) tt)))))))
 
 on-recorded : (f : ℕ → ℕ) (c : Call) → Recorded c → Recorded (callOn f c)
 on-recorded f (store c) h = tt
-on-recorded f (simplify i depth budget) h = tt
+on-recorded f (simplify mode i depth budget) h = tt
 on-recorded f (prune i t) h = tt
 on-recorded f (pruneBySetting i n) h = h
 
@@ -128,7 +129,7 @@ store-within (M.control o c) = tt
 
 record-within : (c : Call) → Recorded c → T (within (listedRefusals (asked c)) sheetRefusals)
 record-within (store c) h = store-within c
-record-within (simplify i depth budget) h = tt
+record-within (simplify mode i depth budget) h = tt
 record-within (prune i t) h = tt
 record-within (pruneBySetting i n) h = absurd h
 

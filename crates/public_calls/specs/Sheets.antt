@@ -7,7 +7,7 @@ use mathlib.Core.List.{List, [], _∷_, _++_}
 use lib.Dec.{T}
 use Rattle.arena.specs.declared.DagArena.{DagArena}
 use Rattle.definitions.specs.Limits.{mostRecords}
-use Rattle.definitions.specs.Refusals.{badSheet, badRecord, tooManyRecords, badOperand, badCode, badChildCount, badThreshold, tooManyTerms, notSound, noSlotPlace}
+use Rattle.definitions.specs.Refusals.{badSheet, badRecord, tooManyRecords, badOperand, badCode, notANumber, badChildCount, badThreshold, tooManyTerms, notSound, noSlotPlace}
 use Rattle.definitions.specs.Intern.{Lent}
 use Rattle.definitions.specs.Machine.{Call, refused, State, empty, freshRefused, answers}
 use Rattle.definitions.specs.Sheet.{sheet}
@@ -27,10 +27,10 @@ use Rattle.sheet.specs.Sheets.{Runs, RunsFresh, notOpened}
 use Rattle.listing_bytes.specs.Listed.{listingLent, Listed}
 use Rattle.refusals_listed.specs.Listed.{among, placeRefusals, listedRefusals}
 
--- "1, then per record 3, 2, 5, 6, 4, 7, 23, 21, 22": no record prunes by a setting, so that 8 is not among them
+-- "1, then per record 3, 2, 5, 6, 4, 7, 23, 21, 22", and 10 "right after 5" (02 b): no record prunes by a setting, so that 8 is not among them
 abbrev pub sheetRefusals : List ℕ
 sheetRefusals =
-    badSheet ∷ tooManyRecords ∷ badRecord ∷ badCode ∷ badChildCount ∷ badOperand ∷ badThreshold ∷ tooManyTerms ∷ placeRefusals
+    badSheet ∷ tooManyRecords ∷ badRecord ∷ badCode ∷ notANumber ∷ badChildCount ∷ badOperand ∷ badThreshold ∷ tooManyTerms ∷ placeRefusals
 
 -- On the plain machine, the number and the record of a refusal: 1 at 0 for bytes that are no sheet, 3 at record 1,024, 2 at an earlier one, or
 -- what the call of an earlier record answers.
@@ -93,12 +93,10 @@ ListingsSay = (bytes before after : List ℕ) (r : ℕ) → Listed bytes before 
 
 -- ---- one sheet on one memory
 
--- two runs have one outcome, the same words and the same counts; where no node was added the slots are the same too, and else only their choice
--- is left open
+-- two runs have one outcome and leave one memory, sound or not
 pub record OneRun (o o′ : Outcome) (m′ m″ : Memory) : Type 0 where
   pub outcome : o ≡ o′
-  pub words : m′ .words ≡ m″ .words
-  pub arena : m′ .arena ≡ m″ .arena
+  pub memory : m′ ≡ m″
 
 abbrev pub RunsOneWay : Type 0
 RunsOneWay = (bytes : List ℕ) (m m′ m″ : Memory) (o o′ : Outcome) → Runs bytes m o m′ → Runs bytes m o′ m″ → OneRun o o′ m′ m″
