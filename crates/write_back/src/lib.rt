@@ -1,4 +1,5 @@
-// What the program `formula` does with a text: it is read into a fresh store, simplified, pruned by a setting if one is given, and written back.
+// What the program `formula` does with a text: it is read into a fresh store, simplified, pruned by a setting if one is given, and written
+// back.
 ghost use mathlib.Core.Path.{_≡_};
 ghost use Rattle.store.specs.Memory.{memory};
 ghost use Rattle.text.specs.Memory.{controllerMemory};
@@ -7,7 +8,8 @@ ghost use Rattle.write_back.specs.Answers.{Pruned, Finishes, Simplifies,
 use arena::DagArena;
 use writer::Answer;
 
-// 01's greatest depth limit, and a budget; a walk that uses it up says so. A second walk would seldom go deeper: what the first finished is marked.
+// 01's greatest depth limit, and a budget; a walk that uses it up says so. A second walk would seldom go deeper: what the first finished is
+// marked.
 pub const DEPTH: u32 = 255;
 
 const BUDGET: u64 = 100_000_000;
@@ -18,8 +20,8 @@ pub enum Pruning {
     BySetting(u32),
 }
 
-// The length of the text that was written, the walk's steps, whether its budget was used up, whether the formula may be deeper than it went, and
-// the terms kept and dropped; or a refusal.
+// The length of the text that was written, the walk's steps, whether its budget was used up, whether the formula may be deeper than it went,
+// and the terms kept and dropped; or a refusal.
 pub enum Outcome {
     Written {
         length: usize,
@@ -54,7 +56,8 @@ fn prune(
     id: u64,
     pruning: Pruning,
 ) -> pruner::Outcome
-    ensures { λ r. ⌜ Pruned pruning (memory (now (nodes .entry)) (now (slots .entry)) arena) id (r .answer) (memory (now (nodes .exit)) (now (slots .exit)) (r .arena)) ⌝ }
+    ensures { λ r. ⌜ Pruned pruning (memory (now (nodes .entry)) (now (slots .entry)) arena) id (r .answer)
+        (memory (now (nodes .exit)) (now (slots .exit)) (r .arena)) ⌝ }
 {
     match pruning {
         Pruning::Skipped => pruner::Outcome {
@@ -85,8 +88,9 @@ fn finish(
     deep: bool,
     text: &mut [u8],
 ) -> Answered
-    ensures { λ r. ⌜ Finishes pruning steps spent deep (controllerMemory (now (nodes .entry)) (now (slots .entry)) arena (now (entries .entry)) names) id
-        (now (text .entry)) (r .outcome) (controllerMemory (now (nodes .exit)) (now (slots .exit)) (r .arena) (now (entries .entry)) (r .names)) (now (text .exit)) ⌝ }
+    ensures { λ r. ⌜ Finishes pruning steps spent deep
+        (controllerMemory (now (nodes .entry)) (now (slots .entry)) arena (now (entries .entry)) names) id (now (text .entry)) (r .outcome)
+        (controllerMemory (now (nodes .exit)) (now (slots .exit)) (r .arena) (now (entries .entry)) (r .names)) (now (text .exit)) ⌝ }
 {
     let pruned = prune(nodes, slots, arena, id, pruning);
     let after = pruned.arena;
@@ -133,8 +137,9 @@ fn simplify(
     pruning: Pruning,
     text: &mut [u8],
 ) -> Answered
-    ensures { λ r. ⌜ Simplifies pruning (controllerMemory (now (nodes .entry)) (now (slots .entry)) arena (now (entries .entry)) names) id
-        (now (text .entry)) (r .outcome) (controllerMemory (now (nodes .exit)) (now (slots .exit)) (r .arena) (now (entries .entry)) (r .names)) (now (text .exit)) ⌝ }
+    ensures { λ r. ⌜ Simplifies pruning
+        (controllerMemory (now (nodes .entry)) (now (slots .entry)) arena (now (entries .entry)) names) id (now (text .entry)) (r .outcome)
+        (controllerMemory (now (nodes .exit)) (now (slots .exit)) (r .arena) (now (entries .entry)) (r .names)) (now (text .exit)) ⌝ }
 {
     let root = id_of(id);
     let deep = DEPTH < root;
@@ -187,8 +192,9 @@ pub fn answer(
     names: usize,
     text: &mut [u8],
 ) -> Answered
-    ensures { λ r. ⌜ Answers (now (typed .entry)) pruning (controllerMemory (now (nodes .entry)) (now (slots .entry)) arena (now (entries .entry)) names)
-        (now (text .entry)) (r .outcome) (controllerMemory (now (nodes .exit)) (now (slots .exit)) (r .arena) (now (entries .exit)) (r .names)) (now (text .exit)) ⌝ }
+    ensures { λ r. ⌜ Answers (now (typed .entry)) pruning
+        (controllerMemory (now (nodes .entry)) (now (slots .entry)) arena (now (entries .entry)) names) (now (text .entry)) (r .outcome)
+        (controllerMemory (now (nodes .exit)) (now (slots .exit)) (r .arena) (now (entries .exit)) (r .names)) (now (text .exit)) ⌝ }
 {
     let made = text::read(typed, nodes, slots, arena, entries, names);
     let after = made.arena;
