@@ -26,5 +26,6 @@ pub record ShallowText (typed : List ℕ) (m : ControllerMemory) : Type 0 where
   pub shallow : levels (formula (controllerOf after .nodes) id) ≤ depthLimit
 
 abbrev pub Shallow : Type 0
-Shallow = (typed : List ℕ) (pruning : Pruning) (m m′ : ControllerMemory) (buffer buffer′ : List ℕ) (size steps kept dropped : ℕ) (spent : Bool)
+Shallow = (typed : List ℕ) (pruning : Pruning) (m m′ : ControllerMemory) (buffer buffer′ : List ℕ)
+    (size steps kept dropped : ℕ) (spent : Bool)
     → BothSound m → Answers typed pruning m buffer (Written size steps spent false kept dropped) m′ buffer′ → ShallowText typed m

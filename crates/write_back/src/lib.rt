@@ -1,4 +1,5 @@
-// What the program `formula` does with a text: it is read into a fresh store, simplified, pruned by a setting if one is given, and written back.
+// What the program `formula` does with a text: it is read into a fresh store, simplified, pruned by a setting if one is given, and written
+// back.
 ghost use mathlib.Core.Path.{_≡_};
 ghost use Rattle.store.specs.Memory.{memory};
 ghost use Rattle.text.specs.Memory.{controllerMemory};
@@ -8,7 +9,8 @@ use arena::DagArena;
 use definitions::mode::Mode;
 use writer::Answer;
 
-// 01's greatest depth limit, and a budget; a walk that uses it up says so. A second walk would seldom go deeper: what the first finished is marked.
+// 01's greatest depth limit, and a budget; a walk that uses it up says so. A second walk would seldom go deeper: what the first finished is
+// marked.
 pub const DEPTH: u32 = 255;
 
 const BUDGET: u64 = 100_000_000;
@@ -19,8 +21,8 @@ pub enum Pruning {
     BySetting(u32),
 }
 
-// The length of the text that was written, the walk's steps, whether its budget was used up, whether the formula may be deeper than it went, and
-// the terms kept and dropped; or a refusal.
+// The length of the text that was written, the walk's steps, whether its budget was used up, whether the formula may be deeper than it went,
+// and the terms kept and dropped; or a refusal.
 pub enum Outcome {
     Written {
         length: usize,
@@ -55,7 +57,8 @@ fn prune(
     id: u64,
     pruning: Pruning,
 ) -> pruner::Outcome
-    ensures { λ r. ⌜ Pruned pruning (memory (now (nodes .entry)) (now (slots .entry)) arena) id (r .answer) (memory (now (nodes .exit)) (now (slots .exit)) (r .arena)) ⌝ }
+    ensures { λ r. ⌜ Pruned pruning (memory (now (nodes .entry)) (now (slots .entry)) arena) id (r .answer)
+        (memory (now (nodes .exit)) (now (slots .exit)) (r .arena)) ⌝ }
 {
     match pruning {
         Pruning::Skipped => pruner::Outcome {
@@ -86,8 +89,9 @@ fn finish(
     deep: bool,
     text: &mut [u8],
 ) -> Answered
-    ensures { λ r. ⌜ Finishes pruning steps spent deep (controllerMemory (now (nodes .entry)) (now (slots .entry)) arena (now (entries .entry)) names) id
-        (now (text .entry)) (r .outcome) (controllerMemory (now (nodes .exit)) (now (slots .exit)) (r .arena) (now (entries .entry)) (r .names)) (now (text .exit)) ⌝ }
+    ensures { λ r. ⌜ Finishes pruning steps spent deep
+        (controllerMemory (now (nodes .entry)) (now (slots .entry)) arena (now (entries .entry)) names) id (now (text .entry)) (r .outcome)
+        (controllerMemory (now (nodes .exit)) (now (slots .exit)) (r .arena) (now (entries .entry)) (r .names)) (now (text .exit)) ⌝ }
 {
     let pruned = prune(nodes, slots, arena, id, pruning);
     let after = pruned.arena;
@@ -134,8 +138,9 @@ fn simplify(
     pruning: Pruning,
     text: &mut [u8],
 ) -> Answered
-    ensures { λ r. ⌜ Simplifies pruning (controllerMemory (now (nodes .entry)) (now (slots .entry)) arena (now (entries .entry)) names) id
-        (now (text .entry)) (r .outcome) (controllerMemory (now (nodes .exit)) (now (slots .exit)) (r .arena) (now (entries .entry)) (r .names)) (now (text .exit)) ⌝ }
+    ensures { λ r. ⌜ Simplifies pruning
+        (controllerMemory (now (nodes .entry)) (now (slots .entry)) arena (now (entries .entry)) names) id (now (text .entry)) (r .outcome)
+        (controllerMemory (now (nodes .exit)) (now (slots .exit)) (r .arena) (now (entries .entry)) (r .names)) (now (text .exit)) ⌝ }
 {
     let root = id_of(id);
     let deep = DEPTH < root;
@@ -188,8 +193,9 @@ pub fn answer(
     names: usize,
     text: &mut [u8],
 ) -> Answered
-    ensures { λ r. ⌜ Answers (now (typed .entry)) pruning (controllerMemory (now (nodes .entry)) (now (slots .entry)) arena (now (entries .entry)) names)
-        (now (text .entry)) (r .outcome) (controllerMemory (now (nodes .exit)) (now (slots .exit)) (r .arena) (now (entries .exit)) (r .names)) (now (text .exit)) ⌝ }
+    ensures { λ r. ⌜ Answers (now (typed .entry)) pruning
+        (controllerMemory (now (nodes .entry)) (now (slots .entry)) arena (now (entries .entry)) names) (now (text .entry)) (r .outcome)
+        (controllerMemory (now (nodes .exit)) (now (slots .exit)) (r .arena) (now (entries .exit)) (r .names)) (now (text .exit)) ⌝ }
 {
     let made = text::read(typed, nodes, slots, arena, entries, names);
     let after = made.arena;
