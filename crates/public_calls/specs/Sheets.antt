@@ -93,8 +93,7 @@ ListingsSay = (bytes before after : List ℕ) (r : ℕ) → Listed bytes before 
 
 -- ---- one sheet on one memory
 
--- two runs have one outcome, the same words and the same counts; where no node was added the slots are the same too, and else only their choice
--- is left open
+-- two runs have one outcome, the same words and the same counts; which slots new nodes take is left open by the contract
 pub record OneRun (o o′ : Outcome) (m′ m″ : Memory) : Type 0 where
   pub outcome : o ≡ o′
   pub words : m′ .words ≡ m″ .words
