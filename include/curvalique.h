@@ -290,6 +290,22 @@ uint64_t curvalique_simplify(
     uint64_t *id, uint64_t *spent, uint64_t *steps);
 
 /*
+ * The same strictly: the result has the bits of the root's formula for all values
+ * of its variables in binary64, all NaNs counted as one, with several operands
+ * taken left to right. Only x + (-0.0), (-0.0) + x, x - (+0.0), 1 * x, x * 1,
+ * x / 1, double Neg, and the sum, difference, product or quotient of two
+ * constants (if it is no NaN and not by a zero) are rewritten. It sets no mark and
+ * takes no child unwalked for its mark, so that a shared child is walked each time
+ * it is met, changed or not. Refusals: 20, 5 (depth), 4; nothing is changed. 21,
+ * 22: the walk stops, and keeps what it built before.
+ */
+uint64_t curvalique_simplify_strictly(
+    uint64_t *nodes, size_t node_words, uint32_t *slots, size_t slot_count,
+    uint64_t *count, size_t *size,
+    uint32_t root, uint32_t depth, uint64_t budget,
+    uint64_t *id, uint64_t *spent, uint64_t *steps);
+
+/*
  * Prunes the sum under a node at a threshold, by the bits of its binary64
  * value: a term is kept if its magnitude is at least the threshold (a
  * constant's is its absolute value, any other term's 1.0), and the kept terms

@@ -273,6 +273,16 @@ static inline uint64_t curvalique_store_simplify(
     return curvalique_answered_(refusal, id, &answer->id);
 }
 
+/* The same strictly. */
+static inline uint64_t curvalique_store_simplify_strictly(
+    struct curvalique_store *store, uint32_t root, uint32_t depth, uint64_t budget,
+    struct curvalique_simplified *answer) {
+    uint64_t id = 0;
+    uint64_t refusal = curvalique_simplify_strictly(
+        CURVALIQUE_STORE_(store), root, depth, budget, &id, &answer->spent, &answer->steps);
+    return curvalique_answered_(refusal, id, &answer->id);
+}
+
 /* Prunes the sum under a node at a threshold, by the bits of its binary64 value. */
 static inline uint64_t curvalique_store_prune(
     struct curvalique_store *store, uint32_t root, uint64_t threshold, struct curvalique_pruned *answer) {

@@ -1,8 +1,8 @@
 /*
  * Builds the dosing formula of samples/dosing.txt by calls of the library,
- * simplifies it, prunes it with the knob fully down and then at a threshold, and
- * reads its nodes back. Standard output gets the listing, which the loader reads;
- * standard error gets what simplify and both prunes report.
+ * simplifies it, prunes it with the knob fully down and then at a threshold, walks
+ * the answer strictly, and reads its nodes back. Standard output gets the listing,
+ * which the loader reads; standard error gets what the walks and prunes report.
  */
 #include "curvalique_store.h"
 
@@ -109,10 +109,19 @@ static void print_node(uint32_t id) {
     printf("\n");
 }
 
+/* The answer is as the laboratory evaluates it: a strict walk finds nothing to do. */
+static uint32_t simplify_strictly(uint32_t root) {
+    struct curvalique_simplified answer;
+    answered("simplify strictly", curvalique_store_simplify_strictly(&store, root, DEPTH, BUDGET, &answer));
+    fprintf(stderr, "simplified %" PRIu32 " strictly to %" PRIu32, root, answer.id);
+    fprintf(stderr, ": spent %" PRIu64 ", steps %" PRIu64 "\n", answer.spent, answer.steps);
+    return answer.id;
+}
+
 int main(void) {
     store = curvalique_store_in(nodes, NODES * CURVALIQUE_NODE_WORDS, slots, SLOTS);
     answered("fresh", curvalique_store_fresh(&store));
-    uint32_t answer = prune(prune_knob_down(simplify(formula())));
+    uint32_t answer = simplify_strictly(prune(prune_knob_down(simplify(formula()))));
     printf("ok %" PRIu32 "\n", answer);
     for (uint32_t id = 0; id < store.count; id++) {
         print_node(id);

@@ -1,6 +1,6 @@
 //! Builds the dosing formula of samples/dosing.txt by calls of the library, simplifies it, prunes it with the knob fully
-//! down and then at a threshold, and reads its nodes back. Standard output gets the listing, which the loader reads;
-//! standard error gets what simplify and both prunes report.
+//! down and then at a threshold, walks the answer strictly, and reads its nodes back. Standard output gets the listing,
+//! which the loader reads; standard error gets what the walks and prunes report.
 
 use std::process::ExitCode;
 
@@ -50,6 +50,14 @@ fn prune(store: &mut Store, root: u32) -> Result<u32, Refusal> {
     store.prune(root, THRESHOLD).map(|pruned| report(root, pruned))
 }
 
+/// The answer is as the laboratory evaluates it: a strict walk finds nothing to do.
+fn simplify_strictly(store: &mut Store, root: u32) -> Result<u32, Refusal> {
+    let simplified = store.simplify_strictly(root, DEPTH, BUDGET)?;
+    let spent = u64::from(simplified.spent);
+    eprintln!("simplified {root} strictly to {}: spent {spent}, steps {}", simplified.id, simplified.steps);
+    Ok(simplified.id)
+}
+
 fn print_node(store: &Store, id: u32) -> Result<(), Refusal> {
     let node = store.node(id)?;
     let children: String = node.children().iter().map(|child| format!(" {child}")).collect();
@@ -63,7 +71,8 @@ fn run() -> Result<(), Refusal> {
     let root = formula(&mut store)?;
     let simplified = simplify(&mut store, root)?;
     let untouched = prune_knob_down(&mut store, simplified)?;
-    println!("ok {}", prune(&mut store, untouched)?);
+    let pruned = prune(&mut store, untouched)?;
+    println!("ok {}", simplify_strictly(&mut store, pruned)?);
     (0..store.count as u32).try_for_each(|id| print_node(&store, id))
 }
 

@@ -12,7 +12,7 @@ use Rattle.definitions.specs.Limits.{mostDepth, mostTerms, infinityBits}
 use Rattle.definitions.specs.Refusals.{notSound, badOperand, badCode, notANumber, badChildCount, badThreshold, badSetting, tooManyTerms}
 use Rattle.definitions.specs.Node.{Node, at, addKind, nanConstant, childCountListed}
 use Rattle.definitions.specs.Intern.{Lent, Built, built, stopped, intern}
-use Rattle.definitions.specs.Walk.{standard, walkRoot}
+use Rattle.definitions.specs.Walk.{Mode, walkRoot}
 use Rattle.definitions.specs.Prune.{chain, keeps, filter, sumOfKept}
 use Rattle.definitions.specs.Threshold.{Threshold, bits, untouched, refusing, given}
 use Rattle.definitions.specs.Settings.{setting, threshold, firstPruningSetting, lastSetting}
@@ -61,12 +61,12 @@ full-numbered (simplified id spent steps) f = tt
 full-numbered (pruned id kept dropped) f = tt
 full-numbered (refused number) f = place-numbered number (f number refl)
 
-simplifies-numbered : (l : Lent) (ns : List Node) (i depth budget : ℕ) → Numbered (simplifyCall standard l ns i depth budget .answer)
+simplifies-numbered : (m : Mode) (l : Lent) (ns : List Node) (i depth budget : ℕ) → Numbered (simplifyCall m l ns i depth budget .answer)
 unfolding simplifyCall
-simplifies-numbered l ns i depth budget = by (leb depth mostDepth) (ltb i (length ns))
+simplifies-numbered m l ns i depth budget = by (leb depth mostDepth) (ltb i (length ns))
   where
-    by : (a b : Bool) → Numbered (cond a (cond b (walkedAs i (walkRoot standard l depth budget ns i)) (outcome (refused badOperand) ns)) (outcome (refused badCode) ns) .answer)
-    by true true = full-numbered (walkedAs i (walkRoot standard l depth budget ns i) .answer) (λ number. refused-full l depth budget ns i number)
+    by : (a b : Bool) → Numbered (cond a (cond b (walkedAs i (walkRoot m l depth budget ns i)) (outcome (refused badOperand) ns)) (outcome (refused badCode) ns) .answer)
+    by true true = full-numbered (walkedAs i (walkRoot m l depth budget ns i) .answer) (λ number. refused-full l m depth budget ns i number)
     by true false = λ z. omega arith
     by false b = λ z. omega arith
 
@@ -128,7 +128,7 @@ setting-numbered n = by (ltb n firstPruningSetting) (leb n lastSetting)
 pub plain-numbered : (l : Lent) (s : State) (c : Call) → Numbered (call l s c .answer)
 unfolding call
 plain-numbered l s (M.store c) = stores-numbered l (s .nodes) (M.requested c)
-plain-numbered l s (M.simplify i depth budget) = simplifies-numbered l (s .nodes) i depth budget
+plain-numbered l s (M.simplify m i depth budget) = simplifies-numbered m l (s .nodes) i depth budget
 plain-numbered l s (M.prune i t) = prunes-numbered l (s .nodes) i (given t) (given-numbered t)
 plain-numbered l s (M.pruneBySetting i n) = prunes-numbered l (s .nodes) i (setting n) (setting-numbered n)
 

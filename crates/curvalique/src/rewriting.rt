@@ -1,9 +1,11 @@
-// Simplify and the two prunes.
+// Simplify, strictly too, and the two prunes.
 ghost use mathlib.Core.List.{[], _∷_};
 ghost use Rattle.definitions.specs.Machine as M;
+ghost use Rattle.definitions.specs.Walk.{standard, strict};
 ghost use Rattle.store.specs.Memory.{Leaves};
 ghost use Rattle.outputs.specs.Calls.{lentMemory, unlessRefused, isSpent, OutputsStay, SpentOrNot};
 use arena::DagArena;
+use definitions::mode::Mode;
 use outputs::leaving::leave_pruned;
 use outputs::leaving::leave_simplified;
 
@@ -21,7 +23,7 @@ pub extern "C" fn curvalique_simplify(
     spent: &mut u64,
     steps: &mut u64,
 ) -> u64
-    ensures { λ r. ⌜ Leaves (M.simplify root depth budget) (lentMemory (now (nodes .entry)) (now (slots .entry)) (now (count .entry)) (now (size .entry))) (unlessRefused r (M.simplified (now (id .exit)) (isSpent (now (spent .exit))) (now (steps .exit)))) (lentMemory (now (nodes .exit)) (now (slots .exit)) (now (count .exit)) (now (size .exit))) ⌝ }
+    ensures { λ r. ⌜ Leaves (M.simplify standard root depth budget) (lentMemory (now (nodes .entry)) (now (slots .entry)) (now (count .entry)) (now (size .entry))) (unlessRefused r (M.simplified (now (id .exit)) (isSpent (now (spent .exit))) (now (steps .exit)))) (lentMemory (now (nodes .exit)) (now (slots .exit)) (now (count .exit)) (now (size .exit))) ⌝ }
     ensures { λ r. ⌜ OutputsStay r (now (id .entry) ∷ now (spent .entry) ∷ now (steps .entry) ∷ []) (now (id .exit) ∷ now (spent .exit) ∷ now (steps .exit) ∷ []) ⌝ }
     ensures { λ r. ⌜ SpentOrNot r (now (spent .exit)) ⌝ }
 {
@@ -29,7 +31,33 @@ pub extern "C" fn curvalique_simplify(
         count: *count,
         size: *size,
     };
-    let outcome = walk::simplify(nodes, slots, arena, root, depth, budget);
+    let outcome = walk::simplify(nodes, slots, arena, Mode::Standard, root, depth, budget);
+    leave_simplified(outcome, count, size, id, spent, steps)
+}
+
+// A strict walk of a root (02 i), with a depth limit and a budget of steps.
+#[no_mangle]
+pub extern "C" fn curvalique_simplify_strictly(
+    nodes: &mut [u64],
+    slots: &mut [u32],
+    count: &mut u64,
+    size: &mut usize,
+    root: u32,
+    depth: u32,
+    budget: u64,
+    id: &mut u64,
+    spent: &mut u64,
+    steps: &mut u64,
+) -> u64
+    ensures { λ r. ⌜ Leaves (M.simplify strict root depth budget) (lentMemory (now (nodes .entry)) (now (slots .entry)) (now (count .entry)) (now (size .entry))) (unlessRefused r (M.simplified (now (id .exit)) (isSpent (now (spent .exit))) (now (steps .exit)))) (lentMemory (now (nodes .exit)) (now (slots .exit)) (now (count .exit)) (now (size .exit))) ⌝ }
+    ensures { λ r. ⌜ OutputsStay r (now (id .entry) ∷ now (spent .entry) ∷ now (steps .entry) ∷ []) (now (id .exit) ∷ now (spent .exit) ∷ now (steps .exit) ∷ []) ⌝ }
+    ensures { λ r. ⌜ SpentOrNot r (now (spent .exit)) ⌝ }
+{
+    let arena = DagArena {
+        count: *count,
+        size: *size,
+    };
+    let outcome = walk::simplify(nodes, slots, arena, Mode::Strict, root, depth, budget);
     leave_simplified(outcome, count, size, id, spent, steps)
 }
 

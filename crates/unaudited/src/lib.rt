@@ -7,12 +7,14 @@ ghost use mathlib.Core.List.{[], _∷_};
 ghost use Rattle.hash.specs.Fnv.{nodeHashOf};
 ghost use Rattle.definitions.specs.Says.{Says};
 ghost use Rattle.definitions.specs.Machine as M;
+ghost use Rattle.definitions.specs.Walk.{standard};
 ghost use Rattle.store.specs.Sound.{Sound};
 ghost use Rattle.store.specs.Memory.{Leaves};
 ghost use Rattle.builder.specs.Stores.{Asked};
 ghost use Rattle.outputs.specs.Calls.{arenaOf, lentMemory, unlessRefused, isSpent, OutputsStay};
 ghost use Rattle.unaudited.specs.Building.{BuildsNode};
 use arena::DagArena;
+use definitions::mode::Mode;
 use outputs::leaving::leave_built;
 use outputs::leaving::leave_pruned;
 use outputs::leaving::leave_simplified;
@@ -72,14 +74,14 @@ pub extern "C" fn curvalique_simplify_sound(
     steps: &mut u64,
 ) -> u64
     requires { ⌜ Sound (now nodes) (now slots) (arenaOf (now count) (now size)) ⌝ }
-    ensures { λ r. ⌜ Leaves (M.simplify root depth budget) (lentMemory (now (nodes .entry)) (now (slots .entry)) (now (count .entry)) (now (size .entry))) (unlessRefused r (M.simplified (now (id .exit)) (isSpent (now (spent .exit))) (now (steps .exit)))) (lentMemory (now (nodes .exit)) (now (slots .exit)) (now (count .exit)) (now (size .exit))) ⌝ }
+    ensures { λ r. ⌜ Leaves (M.simplify standard root depth budget) (lentMemory (now (nodes .entry)) (now (slots .entry)) (now (count .entry)) (now (size .entry))) (unlessRefused r (M.simplified (now (id .exit)) (isSpent (now (spent .exit))) (now (steps .exit)))) (lentMemory (now (nodes .exit)) (now (slots .exit)) (now (count .exit)) (now (size .exit))) ⌝ }
     ensures { λ r. ⌜ OutputsStay r (now (id .entry) ∷ now (spent .entry) ∷ now (steps .entry) ∷ []) (now (id .exit) ∷ now (spent .exit) ∷ now (steps .exit) ∷ []) ⌝ }
 {
     let arena = DagArena {
         count: *count,
         size: *size,
     };
-    let outcome = walk::simplify_sound(nodes, slots, arena, root, depth, budget);
+    let outcome = walk::simplify_sound(nodes, slots, arena, Mode::Standard, root, depth, budget);
     leave_simplified(outcome, count, size, id, spent, steps)
 }
 

@@ -205,6 +205,20 @@ unsafe extern "C" {
         spent: *mut u64,
         steps: *mut u64,
     ) -> u64;
+    pub fn curvalique_simplify_strictly(
+        nodes: *mut u64,
+        node_words: usize,
+        slots: *mut u32,
+        slot_count: usize,
+        count: *mut u64,
+        size: *mut usize,
+        root: u32,
+        depth: u32,
+        budget: u64,
+        id: *mut u64,
+        spent: *mut u64,
+        steps: *mut u64,
+    ) -> u64;
     pub fn curvalique_prune(
         nodes: *mut u64,
         node_words: usize,

@@ -187,6 +187,12 @@ impl<'lent> Store<'lent> {
         answered(returned, Simplified { id: id as u32, spent: spent != 0, steps })
     }
 
+    pub fn simplify_strictly(&mut self, root: u32, depth: u32, budget: u64) -> Result<Simplified, Refusal> {
+        let (mut id, mut spent, mut steps) = (0, 0, 0);
+        let returned = call!(self, curvalique_simplify_strictly, root, depth, budget, &mut id, &mut spent, &mut steps);
+        answered(returned, Simplified { id: id as u32, spent: spent != 0, steps })
+    }
+
     pub fn prune(&mut self, root: u32, threshold: f64) -> Result<Pruned, Refusal> {
         let (mut id, mut kept, mut dropped) = (0, 0, 0);
         let returned = call!(self, curvalique_prune, root, threshold.to_bits(), &mut id, &mut kept, &mut dropped);
