@@ -32,7 +32,7 @@ use Rattle.names.specs.Entry.{entryAt, SoundEntry}
 use Rattle.names.specs.Sound.{Sound as NamesSound, namesOf}
 use Rattle.names.proofs.Modelled.{no-names}
 use Rattle.text.specs.Memory.{ControllerMemory, lentController}
-use Rattle.lent_instance.specs.Memory.{lentHere, wordsFor, bytesFor, memoryFor}
+use Rattle.lent_instance.specs.Memory.{lentNodes, lentNames, lentHere, wordsFor, bytesFor, memoryFor}
 use Rattle.lent_instance.proofs.Checking.{every-below, storeSound, store-sound}
 use Rattle.lent_instance.proofs.Histories.{Held, history-held}
 
@@ -75,7 +75,11 @@ stateAfter n = getD (emptyController ∷ controllers lentHere emptyController ca
 
 held-empty : Held emptyController
 unfolding storeSound nodesIn namesOf
-held-empty = record { sound = sounds; view = refl; lent = refl }
+held-empty = record {
+  sound = sounds;
+  view = refl;
+  lent = ap (λ (b : ℕ). record { store = record { nodes = lentNodes; slots = b }; names = lentNames }) (inserted-length (hashAt (wordsFor [])) firstTableSize 0);
+}
   where
     sounds : (p : Part) → lentController .Sound (memoryFor emptyController) p
     sounds storePart = store-sound (wordsFor []) 0 tt
