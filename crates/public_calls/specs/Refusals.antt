@@ -1,5 +1,5 @@
--- Demand 1 over the contracts of the code: every call, "for every content of the lent buffers", answers a result or one of the refusals that
--- are listed for it, and 20 exactly if a list that it is lent is not sound.
+-- Demand 1 over the contracts of the code: every call, "for every content of the lent buffers", answers a result or one of the refusals
+-- that are listed for it, and 20 exactly if a list that it is lent is not sound.
 use Prim.Native.Nat.{ℕ}
 use mathlib.Core.Path.{_≡_}
 use mathlib.Core.List.{List, [], _∷_}
