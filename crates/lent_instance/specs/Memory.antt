@@ -32,7 +32,8 @@ padded n l = take n (l ++ replicate n 0)
 -- the ten words of a node
 abbrev pub nodeInWords : Node → List ℕ
 nodeInWords n =
-    wordsOf (newNode (n .kind) (n .payload) (cond (n .canonical) (n .flags + canonical) (n .flags)) (length (n .children)) (padded mostChildren (n .children)))
+    let flags = cond (n .canonical) (n .flags + canonical) (n .flags) in
+    wordsOf (newNode (n .kind) (n .payload) flags (length (n .children)) (padded mostChildren (n .children)))
 
 abbrev pub nodesInWords : List Node → List ℕ
 nodesInWords [] = []

@@ -1,5 +1,5 @@
--- Demand 1 over the contracts of the code: every call, "for every content of the lent buffers", answers a result or one of the refusals that are
--- listed for it, and 20 exactly if a list that it is lent is not sound.
+-- Demand 1 over the contracts of the code: every call, "for every content of the lent buffers", answers a result or one of the refusals
+-- that are listed for it, and 20 exactly if a list that it is lent is not sound.
 use Prim.Native.Nat.{ℕ}
 use mathlib.Core.Path.{_≡_}
 use mathlib.Core.List.{List, [], _∷_}
@@ -25,7 +25,8 @@ use Rattle.refusals_listed.specs.Called.{AnswersOn}
 
 -- the store, simplify, prune and name calls and readings
 abbrev pub PublicCallsAnswerListed : Type 0
-PublicCallsAnswerListed = (c : ControllerCall) (m m′ : ControllerMemory) (a : ControllerAnswer) → CallLeaves c m a m′ → AnswersOn lentController c m a
+PublicCallsAnswerListed = (c : ControllerCall) (m m′ : ControllerMemory) (a : ControllerAnswer)
+    → CallLeaves c m a m′ → AnswersOn lentController c m a
 
 -- ---- a fresh store
 
@@ -50,7 +51,8 @@ pub record ReadsNodeListed (words slots : List ℕ) (arena : DagArena) (r : Node
   pub sound : Sound words slots arena → r .answer ≡ found.Refused notSound → ⊥
 
 abbrev pub NodesReadListed : Type 0
-NodesReadListed = (words slots : List ℕ) (arena : DagArena) (id : ℕ) (r : NodeRead) → Reads words slots arena id r → ReadsNodeListed words slots arena r
+NodesReadListed = (words slots : List ℕ) (arena : DagArena) (id : ℕ) (r : NodeRead)
+    → Reads words slots arena id r → ReadsNodeListed words slots arena r
 
 -- ---- a node's text
 

@@ -32,8 +32,8 @@ abbrev pub sheetRefusals : List ℕ
 sheetRefusals =
     badSheet ∷ tooManyRecords ∷ badRecord ∷ badCode ∷ notANumber ∷ badChildCount ∷ badOperand ∷ badThreshold ∷ tooManyTerms ∷ placeRefusals
 
--- On the plain machine, the number and the record of a refusal: 1 at 0 for bytes that are no sheet, 3 at record 1,024, 2 at an earlier one, or
--- what the call of an earlier record answers.
+-- On the plain machine, the number and the record of a refusal: 1 at 0 for bytes that are no sheet, 3 at record 1,024, 2 at an earlier one,
+-- or what the call of an earlier record answers.
 pub data RefusesAt (l : Lent) (s : State) (bytes : List ℕ) : ℕ → ℕ → Type 0 where
   noSheet : isSheet bytes ≡ false → RefusesAt l s bytes badSheet 0
   tooMany : RefusesAt l s bytes tooManyRecords mostRecords
@@ -75,8 +75,8 @@ pub record FreshListed (bytes words slots : List ℕ) (o : Outcome) : Type 0 whe
   pub never-20 : (at : ℕ) → o ≡ Refused notSound at → ⊥
 
 abbrev pub FreshSheetsListed : Type 0
-FreshSheetsListed = (bytes words slots words′ slots′ : List ℕ) (before : DagArena) (r : Ran) → RunsFresh bytes words slots before r words′ slots′
-    → FreshListed bytes words slots (r .outcome)
+FreshSheetsListed = (bytes words slots words′ slots′ : List ℕ) (before : DagArena) (r : Ran)
+    → RunsFresh bytes words slots before r words′ slots′ → FreshListed bytes words slots (r .outcome)
 
 -- ---- the listing
 

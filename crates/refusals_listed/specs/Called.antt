@@ -15,4 +15,5 @@ pub record AnswersOn (M : ControllerModel) (c : ControllerCall) (m : M .Memory) 
 
 -- every call that meets its contract, on every memory
 abbrev pub CallsAnswerListed : Type 1
-CallsAnswerListed = (M : ControllerModel) (c : ControllerCall) (m m′ : M .Memory) (a : ControllerAnswer) → ControllerCalled M c m a m′ → AnswersOn M c m a
+CallsAnswerListed = (M : ControllerModel) (c : ControllerCall) (m m′ : M .Memory) (a : ControllerAnswer)
+    → ControllerCalled M c m a m′ → AnswersOn M c m a

@@ -1,6 +1,7 @@
--- Demand 1: "The answer to every sheet and every call .. is a result or one of document 01's numbered refusals". Which refusals each call may
--- answer, in the order in which they are checked, 20 aside: "Order: 20, 1, then per record 3, 2, 5, 6, 4, 7, 23, 21, 22; a call alone is checked
--- as its record would be, 20 first, and 8 stands in 7's place; for names 20, 9, 24", and 10 "right after 5" (02 b).
+-- Demand 1: "The answer to every sheet and every call .. is a result or one of document 01's numbered refusals". Which refusals each call
+-- may answer, in the order in which they are checked, 20 aside: "Order: 20, 1, then per record 3, 2, 5, 6, 4, 7, 23, 21, 22; a call alone
+-- is checked as its record would be, 20 first, and 8 stands in 7's place; for names 20, 9, 24", and 10
+-- "right after 5" (02 b).
 use Prim.Native.Nat.{ℕ}
 use mathlib.Core.Bool.{Bool, false, _||_}
 use mathlib.Core.List.{List, [], _∷_}
