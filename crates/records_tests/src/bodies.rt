@@ -1,4 +1,5 @@
 // What a record's body is printed as.
+use definitions::mode::Mode;
 use libc::STDOUT_FILENO;
 use records::Body;
 
@@ -31,6 +32,17 @@ fn print_operands(sheet: &[u8], first: usize, count: usize) {
     }
     for k in 0..count {
         print_operand(sheet, first, k);
+    }
+}
+
+fn print_mode(mode: Mode) {
+    match mode {
+        Mode::Standard => {
+            io::write_all(STDOUT_FILENO, b"simplify");
+        }
+        Mode::Strict => {
+            io::write_all(STDOUT_FILENO, b"simplify strictly");
+        }
     }
 }
 
@@ -70,11 +82,12 @@ pub(crate) fn print_body(sheet: &[u8], body: Body) {
             print_operands(sheet, first, count);
         }
         Body::Simplify {
+            mode,
             operand,
             depth,
             budget,
         } => {
-            io::write_all(STDOUT_FILENO, b"simplify");
+            print_mode(mode);
             print_number(operand as u64);
             print_number(depth as u64);
             print_number(budget as u64);
@@ -111,6 +124,7 @@ pub(crate) fn is_malformed(body: Body) -> bool {
             count: _,
         } => false,
         Body::Simplify {
+            mode: _,
             operand: _,
             depth: _,
             budget: _,

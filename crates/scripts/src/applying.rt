@@ -9,6 +9,7 @@ use crate::printing::refused;
 use crate::printing::text;
 use arena::DagArena;
 use arena::MOST_CHILDREN;
+use definitions::mode::Mode;
 use patterns::Matched;
 
 // Whether the store is sound and two ids are below its count.
@@ -53,7 +54,15 @@ pub fn apply(
         text(b" too many");
         return arena;
     }
-    let applied = patterns::try_apply(nodes, slots, arena, kind, [lhs, rhs, rhs, rhs], arity);
+    let applied = patterns::try_apply(
+        nodes,
+        slots,
+        arena,
+        Mode::Standard,
+        kind,
+        [lhs, rhs, rhs, rhs],
+        arity,
+    );
     let matched = applied.matched;
     let left = applied.arena;
     show(matched);

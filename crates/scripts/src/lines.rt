@@ -6,36 +6,36 @@ use crate::tokens;
 pub const BLANK: u8 = 32;
 
 // The first commands are the calls, by their codes.
-pub const REPEAT: u32 = 22;
+pub const REPEAT: u32 = 23;
 
-pub const FRESH: u32 = 23;
+pub const FRESH: u32 = 24;
 
-pub const APPLY: u32 = 24;
+pub const APPLY: u32 = 25;
 
-pub const REPLAY: u32 = 25;
+pub const REPLAY: u32 = 26;
 
-pub const LEND: u32 = 26;
+pub const LEND: u32 = 27;
 
-pub const COUNTS: u32 = 27;
+pub const COUNTS: u32 = 28;
 
-pub const LIST: u32 = 28;
+pub const LIST: u32 = 29;
 
-pub const SET_WORD: u32 = 29;
+pub const SET_WORD: u32 = 30;
 
-pub const SET_SLOT: u32 = 30;
+pub const SET_SLOT: u32 = 31;
 
-pub const SET_BYTE: u32 = 31;
+pub const SET_BYTE: u32 = 32;
 
-pub const FILL: u32 = 32;
+pub const FILL: u32 = 33;
 
-pub const REHASH: u32 = 33;
+pub const REHASH: u32 = 34;
 
-pub const REFILL: u32 = 34;
+pub const REFILL: u32 = 35;
 
-pub const WORD: u32 = 35;
+pub const WORD: u32 = 36;
 
 // What is no command.
-pub const UNKNOWN: u32 = 37;
+pub const UNKNOWN: u32 = 38;
 
 // The numbers of a line at most, or the bytes of a text: one more than a text may have, and what stands before it.
 pub const MOST_VALUES: usize = 8_194;
@@ -105,7 +105,7 @@ fn word_number(text: &[u8], line: &[u8]) -> u32 {
 // The command of a line.
 pub fn command(line: &[u8]) -> u32 {
     word_number(
-        b" variable constant add sub mul div pow modulo neg operator function select if_else for_loop control simplify prune prune_by_setting intern lookup name_of read repeat fresh apply replay lend counts list set_word set_slot set_byte fill rehash refill word slot ",
+        b" variable constant add sub mul div pow modulo neg operator function select if_else for_loop control simplify prune prune_by_setting simplify_strictly intern lookup name_of read repeat fresh apply replay lend counts list set_word set_slot set_byte fill rehash refill word slot ",
         line,
     )
 }
