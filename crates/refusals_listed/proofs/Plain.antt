@@ -1,16 +1,18 @@
 -- Each call of the plain machine answers a result or a refusal that is listed for it.
-use Prim.Native.Nat.{ℕ, _-_, min}
+use Prim.Native.Nat.{ℕ, _+_, _-_, min}
 use mathlib.Core.Path.{_≡_, refl, sym, ap, subst}
-use mathlib.Core.Bool.{Bool, true, false, cond, true≢false}
+use mathlib.Core.Bool.{Bool, true, false, _&&_, cond, true≢false}
 use mathlib.Core.List.{List, [], _∷_, _++_}
 use mathlib.Core.Logic.{⊎-elim}
 use mathlib.Core.Option.{Option, none, some}
 use lib.ListN.{length, getD}
 use lib.Dec.{eqb, leb, ltb, T}
 use lib.Ieee.{Float, binary64, ofBits, nanBits}
+use native.Mathlib.Omega.{arith}
+use borrow.Author.Tests.{ne-eqb}
 use Rattle.definitions.specs.Limits.{mostDepth, mostTerms, infinityBits}
 use Rattle.definitions.specs.Refusals.{badOperand, badCode, badChildCount, badThreshold, badSetting, badNameLength, noNodePlace, noSlotPlace, tooManyTerms, noNamePlace, notANumber}
-use Rattle.definitions.specs.Node.{Node, at, addKind, nanConstant, childCountListed}
+use Rattle.definitions.specs.Node.{Node, at, constantKind, addKind, nanConstant, childCountListed}
 use Rattle.definitions.specs.Intern.{Lent, Built, built, stopped, intern}
 use Rattle.definitions.specs.Walk.{Mode, Walked, finished, spent, halted, walkRoot}
 use Rattle.definitions.specs.Prune.{chain, keeps, filter, sumOfKept}
@@ -105,6 +107,10 @@ operands-listed : (l : Lent) (ns : List Node) (r : Request) → r .listed ≡ tr
     → nanConstant (r .node .kind) (r .node .payload) ≡ false → ResultOr (badOperand ∷ placeRefusals) (fromStore (storeCall l ns r .answer))
 operands-listed l ns r p q n = store-listed l ns r false false true (passes p) (passes q) may-fail n
 
+-- an operator is no constant
+operator-number : (o p : ℕ) → nanConstant (addKind + o) p ≡ false
+operator-number o p = ap (λ (t : Bool). t && nanBits binary64 p) (ne-eqb (addKind + o) constantKind (λ q. absurd (omega arith)))
+
 -- a constant: 10, or no place
 constant-listed : (l : Lent) (ns : List Node) (b : ℕ) → ResultOr (notANumber ∷ placeRefusals) (fromStore (storeCall l ns (requested (M.constant b)) .answer))
 unfolding storeCall childCountListed
@@ -130,7 +136,7 @@ builds-listed l ns (M.div a b) = operands-listed l ns (requested (M.div a b)) re
 builds-listed l ns (M.pow a b) = operands-listed l ns (requested (M.pow a b)) refl refl refl
 builds-listed l ns (M.modulo a b) = operands-listed l ns (requested (M.modulo a b)) refl refl refl
 builds-listed l ns (M.neg a) = operands-listed l ns (requested (M.neg a)) refl refl refl
-builds-listed l ns (M.operator o f c) = store-listed l ns (requested (M.operator o f c)) true true true may-fail may-fail may-fail refl
+builds-listed l ns (M.operator o f c) = store-listed l ns (requested (M.operator o f c)) true true true may-fail may-fail may-fail (operator-number o 0)
 builds-listed l ns (M.function f c) = store-listed l ns (requested (M.function f c)) false true true (passes refl) may-fail may-fail refl
 builds-listed l ns (M.select a b c) = operands-listed l ns (requested (M.select a b c)) refl refl refl
 builds-listed l ns (M.ifElse a b c) = operands-listed l ns (requested (M.ifElse a b c)) refl refl refl
