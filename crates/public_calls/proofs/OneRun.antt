@@ -1,24 +1,15 @@
 -- One sheet on one memory has one outcome, and leaves one memory.
-use Prim.Native.Nat.{ℕ, _+_, _*_}
+use Prim.Native.Nat.{ℕ}
 use mathlib.Core.Path.{_≡_, refl, sym, ap, ap₂, subst, _∙_}
 use mathlib.Core.Bool.{Bool, true, false, cond}
 use mathlib.Core.Option.{Option, none, some}
 use mathlib.Core.List.{List, [], _∷_, List-discrete}
-use lib.ListN.{length, drop}
 use lib.Dec.{eqb}
 use native.Mathlib.Decide.{ℕ-discrete}
 use Rattle.arena.specs.declared.DagArena.{DagArena}
-use Rattle.arena.specs.Layout.{nodeWords}
-use Rattle.definitions.specs.Limits.{mostDoublings}
-use Rattle.definitions.specs.Refusals.{badSheet, noSlotPlace}
-use Rattle.definitions.specs.Intern.{tableSizeFrom}
-use Rattle.definitions.specs.Machine.{State, freshRefused}
-use Rattle.store.specs.View.{nodesIn, lent}
+use Rattle.store.specs.View.{lent}
 use Rattle.store.specs.Memory.{Memory, memory, model}
-use Rattle.store.proofs.Viewing.{plain-length}
-use Rattle.store.proofs.Determined.{words-same}
 use Rattle.builder.specs.Opens.{freshMemory}
-use Rattle.records.specs.Reading.{isSheet}
 use Rattle.listing_lines.specs.declared.Outcome.{Outcome}
 use Rattle.listing_lines.specs.declared.Outcome.the-variants.{Ok, Empty, Spent, Refused}
 use Rattle.sheet.specs.declared.Ran.{Ran}
@@ -64,7 +55,7 @@ module _ (bytes : List ℕ) (m m′ m″ : Memory) (o o′ : Outcome) (f : Runs 
   both : (read : Ended → List ℕ) → read (ended o m′) ≡ read (ended o′ m″)
   both read = either (read (ended o m′)) (read (ended o′ m″)) (λ h. ap read (same (yes h))) (λ n. ap read (same (no n)))
 
-  arenaFrom : List ℕ → DagArena
+  abbrev arenaFrom : List ℕ → DagArena
   arenaFrom [] = m .arena
   arenaFrom (x ∷ []) = m .arena
   arenaFrom (x ∷ y ∷ r) = record { count = x; size = y }

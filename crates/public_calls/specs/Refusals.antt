@@ -15,11 +15,11 @@ use Rattle.builder.specs.Reads.{Reads}
 use Rattle.builder.specs.declared.opening.FreshStore.{FreshStore}
 use Rattle.builder.specs.declared.opening.FreshStore.the-variants.{Store, Refused as NotOpened}
 use Rattle.builder.specs.Opens.{Opens}
-use Rattle.text.specs.Memory.{ControllerMemory, lentController}
+use Rattle.text.specs.Memory.{ControllerMemory, lentController, BothSound}
 use Rattle.calls.specs.Memory.{CallLeaves}
 use Rattle.writer.specs.declared.Answer.{Answer}
 use Rattle.writer.specs.declared.Answer.the-variants.{Length, Refused}
-use Rattle.writer.specs.Writing.{Lists, SoundLists, Writes}
+use Rattle.writer.specs.Writing.{Writes}
 use Rattle.refusals_listed.specs.Listed.{among}
 use Rattle.refusals_listed.specs.Called.{AnswersOn}
 
@@ -61,10 +61,10 @@ TextOr numbers (Length size) = Unit {0}
 TextOr numbers (Refused number) = T (among number numbers)
 
 -- 02 (d): 13 and 14 "in this order after 4"
-pub record WritesListed (m : Lists) (r : Answer) : Type 0 where
+pub record WritesListed (m : ControllerMemory) (r : Answer) : Type 0 where
   pub listed : TextOr (notSound ∷ badOperand ∷ noText ∷ textTooLong ∷ []) r
-  pub unsound : (SoundLists m → ⊥) → r ≡ Refused notSound
-  pub sound : SoundLists m → r ≡ Refused notSound → ⊥
+  pub unsound : (BothSound m → ⊥) → r ≡ Refused notSound
+  pub sound : BothSound m → r ≡ Refused notSound → ⊥
 
 abbrev pub WritesAnswerListed : Type 0
-WritesAnswerListed = (m : Lists) (id : ℕ) (buffer buffer′ : List ℕ) (r : Answer) → Writes m id buffer r buffer′ → WritesListed m r
+WritesAnswerListed = (m : ControllerMemory) (id : ℕ) (buffer buffer′ : List ℕ) (r : Answer) → Writes m id buffer r buffer′ → WritesListed m r
