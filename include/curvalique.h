@@ -20,14 +20,15 @@
  * copied or kept on disk as it is: every call looks it over first, in time that
  * grows with its nodes and its table. The table is what putting the ids in by
  * rising id gives, each at the first empty slot from its node's hash; in another
- * order it is not sound. Words past the last whole node are unused and stay. Ids are answered in 64 bits and taken in 32; those that calls and
- * sheets answer are below 65,536.
+ * order it is not sound. Words past the last whole node are unused and stay. Ids
+ * are answered in 64 bits and taken in 32; those that calls and sheets answer are
+ * below 65,536.
  *
  * A CALL RETURNS 0 if it is answered, and its answer then stands behind the
  * pointers at the end of its list of arguments. Else it returns the number of a
  * refusal, and leaves what is behind those pointers as it was. The numbers are
- * below. Of several that apply the first in this order is returned: 20, 5, 6,
- * 4, 7 or 8, 23, 21, 22; for names 20, 9, 24; for texts 20, 1, 11, 12, 10, and
+ * below. Of several that apply the first in this order is returned: 20, 5, 10,
+ * 6, 4, 7 or 8, 23, 21, 22; for names 20, 9, 24; for texts 20, 1, 11, 12, 10, and
  * then the first of 24, 21, 22 that is met; for a text that is written 20, 4, 13,
  * 14. What a refusal leaves in the store is said at each function. Of sheets and
  * listings, what is returned and what stays is said there.
@@ -435,8 +436,8 @@ uint64_t curvalique_write_text(
  * `id` the root of the last record, or CURVALIQUE_FORM_EMPTY if there are no
  * records, and `id` stays as it was; `record` stays. Else `record` is the number
  * of the refused record, and `form` and `id` stay. Refusals: 20, then 1, both at
- * record 0; nothing else is changed. For each record 3, 2, 5, 6, 4, 7, 23, 21,
- * 22: the sheet ends, what earlier records built and marked stays, and the
+ * record 0; nothing else is changed. For each record 3, 2, 5, 10, 6, 4, 7, 23,
+ * 21, 22: the sheet ends, what earlier records built and marked stays, and the
  * refused record leaves what its call would.
  */
 uint64_t curvalique_run_sheet(
