@@ -241,8 +241,8 @@ pub identity-cases : map (λ (cs : List Call). answers lent empty cs) identityCa
 unfolding answers
 identity-cases = refl
 
--- 02 (b), "A fold to NaN is now declined and the node is rebuilt plainly": the simplify answers its root, and the next new node has the next id,
--- so that nothing was interned
+-- 02 (b), "A fold to NaN is now declined and the node is rebuilt plainly": the simplify answers its root, and the next new node has the next
+-- id, so that nothing was interned
 abbrev declinedFold : ℕ → ℕ → ℕ → List Call
 declinedFold code a b = number a ∷ number b ∷ store (operator code 0 (0 ∷ 1 ∷ [])) ∷ simplify 2 255 100 ∷ number five ∷ []
 
@@ -255,8 +255,8 @@ pub declined-folds :
 unfolding answers
 declined-folds = refl
 
--- "merging then does not fire": (inf * x) * 0, 0 * (x * inf), (x + inf) + -inf; and (inf * 0) * 0, where the second constant of the product is not
--- tried after the first
+-- "merging then does not fire": (inf * x) * 0, 0 * (x * inf), (x + inf) + -inf; and (inf * 0) * 0, where the second constant of the product
+-- is not tried after the first
 pub declined-merges :
     map (λ (cs : List Call). answers lent empty cs)
     ((x ∷ number infinity ∷ number plusZero ∷ times 1 0 ∷ times 3 2 ∷ simplify 4 255 100 ∷ number five ∷ [])
@@ -268,7 +268,8 @@ pub declined-merges :
 unfolding answers
 declined-merges = refl
 
--- "10, a constant whose bits are a NaN", quiet or signalling, of either sign; the infinities are numbers. Where no place is left it is 10 too.
+-- "10, a constant whose bits are a NaN", quiet or signalling, of either sign; the infinities are numbers. Where no place is left it is 10
+-- too.
 pub nan-refused :
     map (λ (e : Example). answers (e .given) empty (e .calls))
     (example (number quietNaN ∷ number signallingNaN ∷ number minusNaN ∷ number greatestNaN ∷ number infinity ∷ number minusInfinity ∷ []) []

@@ -1,5 +1,5 @@
--- 02 (b), "No NaN in the store": what is proved of folding, merging, rebuilding, store calls and sheets (proofs NoNaN). That no list of calls leaves a
--- NaN among the nodes is `numbers` of the promise.
+-- 02 (b), "No NaN in the store": what is proved of folding, merging, rebuilding, store calls and sheets (proofs NoNaN). That no list of calls
+-- leaves a NaN among the nodes is `numbers` of the promise.
 use Prim.Native.Nat.{ℕ, suc}
 use mathlib.Core.Path.{_≡_}
 use mathlib.Core.Bool.{true, false}
@@ -31,10 +31,11 @@ firstConstant (some x) y = some x
 abbrev pub coefficientOf : List Node → ℕ × ℕ → Option Float
 coefficientOf ns pq = firstConstant (constantValue (at ns (pq .0))) (constantValue (at ns (pq .1)))
 
--- IEEE's result is a NaN for what an operator of kind k over a and b would fold, or for its constant and that of an operator of the same kind on its
--- left or right, as a merge would fold them
+-- IEEE's result is a NaN for what an operator of kind k over a and b would fold, or for its constant and that of an operator of the same
+-- kind on its left or right, as a merge would fold them
 pub data GivesNaN (ns : List Node) (k a b : ℕ) : Type 0 where
-  folding : {x y : Float} → constantValue (at ns a) ≡ some x → constantValue (at ns b) ≡ some y → binary64Result k x y ≡ some nan → GivesNaN ns k a b
+  folding : {x y : Float} → constantValue (at ns a) ≡ some x → constantValue (at ns b) ≡ some y
+      → binary64Result k x y ≡ some nan → GivesNaN ns k a b
   mergingLeft : {pq : ℕ × ℕ} {c d : Float} → pairOf k (at ns a) ≡ some pq → coefficientOf ns pq ≡ some d → constantValue (at ns b) ≡ some c
       → binary64Result k d c ≡ some nan → GivesNaN ns k a b
   mergingRight : {pq : ℕ × ℕ} {c d : Float} → pairOf k (at ns b) ≡ some pq → coefficientOf ns pq ≡ some d → constantValue (at ns a) ≡ some c
@@ -52,7 +53,8 @@ RebuildsPlainly =
 
 -- "10, a constant whose bits are a NaN": nothing is changed, also where the store is full
 abbrev pub RefusesNaN : Type 0
-RefusesNaN = (l : Lent) (ns : List Node) (b : ℕ) → nanBits binary64 b ≡ true → storeCall l ns (requested (constant b)) ≡ outcome (refused notANumber) ns
+RefusesNaN =
+    (l : Lent) (ns : List Node) (b : ℕ) → nanBits binary64 b ≡ true → storeCall l ns (requested (constant b)) ≡ outcome (refused notANumber) ns
 
 -- and a sheet ends with 10 at such a record, and keeps what the earlier ones left
 abbrev pub RecordRefusesNaN : Type 0

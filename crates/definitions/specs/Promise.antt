@@ -181,10 +181,11 @@ pub record Promise (l : LentLists) (cs : List ControllerCall) (al : List Control
   -- 02 (b), "No NaN in the store": no constant of any node is one
   pub numbers : (i id : ℕ) (s : Controller) → nth ss i ≡ some s → id < length (s .nodes)
       → nanConstant (at (s .nodes) id .kind) (at (s .nodes) id .payload) ≡ false
-  -- an answered simplify at i, strict or not, of a formula of the exact kind, and a later answered prune of its answer at j, at a threshold from 0
-  -- to 1: the simplified formula is of the exact kind too; each of the three ids is that of a node, so that none of the three formulas is what
-  -- stands for an id without one (`noFormula` of Formula.antt)
-  pub balance : (m : Mode) (i j root depth budget id steps t answer keptCount droppedCount : ℕ) (spent : Bool) (p : ControllerCall) (s0 s1 s3 : Controller) → i < j
+  -- an answered simplify at i, strict or not, of a formula of the exact kind, and a later answered prune of its answer at j, at a threshold
+  -- from 0 to 1: the simplified formula is of the exact kind too; each of the three ids is that of a node, so that none of the three formulas
+  -- is what stands for an id without one (`noFormula` of Formula.antt)
+  pub balance : (m : Mode) (i j root depth budget id steps t answer keptCount droppedCount : ℕ) (spent : Bool) (p : ControllerCall)
+      (s0 s1 s3 : Controller) → i < j
       → nth cs i ≡ some (simplifying m root depth budget) → nth al i ≡ some (simplified id spent steps)
       → nth cs j ≡ some p → prunes p ≡ some (id, bits t) → nth al j ≡ some (pruned answer keptCount droppedCount)
       → nth (emptyController ∷ ss) i ≡ some s0 → nth ss i ≡ some s1 → nth ss j ≡ some s3
