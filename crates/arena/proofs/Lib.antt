@@ -1,5 +1,6 @@
 pub mod Listing
 pub mod Words
+pub mod Places
 pub mod OneNode
 pub mod Putting
 pub mod Adding
