@@ -4,10 +4,10 @@ ghost use Rattle.definitions.specs.Names.{internName, lookupName, nameOf, numbe
 ghost use Rattle.names.specs.Calls.{Called};
 ghost use Rattle.outputs.specs.Calls.{OutputsStay};
 ghost use Rattle.outputs.specs.NameCalls.{nameUnlessRefused, numberIfKnown, nameIfKnown, Known, Padded};
+use names::Answer;
 use outputs::leaving::ANSWERED;
 use outputs::naming::LONGEST_NAME;
 use outputs::naming::leave_name;
-use names::Answer;
 
 // The number of a name, which becomes known if it is not.
 #[no_mangle]

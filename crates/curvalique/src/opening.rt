@@ -3,9 +3,9 @@ ghost use mathlib.Core.List.{[], _∷_};
 ghost use Rattle.builder.specs.Opens.{Opens};
 ghost use Rattle.outputs.specs.Calls.{OutputsStay};
 ghost use Rattle.curvalique.specs.Opening.{freshUnlessRefused};
+use builder::FreshStore;
 use outputs::leaving::ANSWERED;
 use outputs::leaving::leave_arena;
-use builder::FreshStore;
 
 // A store without nodes, with the first slots empty.
 #[no_mangle]

@@ -3,11 +3,11 @@ ghost use mathlib.Core.Path.{_≡_};
 ghost use Rattle.arena.specs.Node.{wordsOf};
 ghost use Rattle.outputs.specs.Calls.{arenaOf};
 ghost use Rattle.curvalique.specs.Reading.{ReadsWords};
-use outputs::leaving::ANSWERED;
 use arena::DagArena;
 use arena::DagNode;
 use arena::NODE_WORDS;
 use builder::Found;
+use outputs::leaving::ANSWERED;
 
 // A node as its ten words.
 fn words_of(node: DagNode) -> [u64; NODE_WORDS]

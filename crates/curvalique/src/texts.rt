@@ -4,8 +4,8 @@ ghost use Rattle.text.specs.Memory.{controllerMemory};
 ghost use Rattle.text.specs.Reading.{Reads};
 ghost use Rattle.outputs.specs.Calls.{arenaOf, OutputsStay};
 ghost use Rattle.curvalique.specs.TextCalls.{idUnlessRefused};
-use outputs::leaving::leave_built;
 use arena::DagArena;
+use outputs::leaving::leave_built;
 use store::Built;
 
 // The node of a text, with the names and nodes that it needs.

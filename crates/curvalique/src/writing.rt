@@ -4,8 +4,8 @@ ghost use Rattle.writer.specs.Writing.{Writes};
 ghost use Rattle.outputs.specs.Calls.{arenaOf, OutputsStay};
 ghost use Rattle.curvalique.specs.Writing.{lengthUnlessRefused};
 ghost use Rattle.text.specs.Memory.{controllerMemory};
-use outputs::leaving::ANSWERED;
 use arena::DagArena;
+use outputs::leaving::ANSWERED;
 use writer::Answer;
 
 // The text of a node, and its length.

@@ -27,14 +27,14 @@ fn is_taken_unwalked(nodes: &[u64], count: u64, id: u64) -> bool
 }
 
 // The values from a place on, as the places of so many children.
-fn gather(values: &[u64; MOST_VALUES], from: usize, arity: usize) -> [u64; MOST_CHILDREN]
+fn gather(values: &[u64; MOST_VALUES], from: usize, arity: usize) -> [u32; MOST_CHILDREN]
     requires { ⌜ Gatherable from arity ⌝ }
     ensures { λ r. ⌜ Gathered (now (values .entry)) from arity r ⌝ }
 {
-    let mut children = [0u64; MOST_CHILDREN];
+    let mut children = [0u32; MOST_CHILDREN];
     let mut place: usize = 0;
     while place < arity {
-        children[place] = values[from + place];
+        children[place] = values[from + place] as u32;
         place += 1;
     }
     children
@@ -108,7 +108,7 @@ pub(crate) fn turn(
         return descend(nodes, ids, cursors, values, progress);
     }
     let children = gather(values, base, cursor);
-    let built = rebuild::finish(nodes, slots, arena, id, children);
+    let built = rebuild::finish(nodes, slots, arena, id, &children[..cursor]);
     let after = built.arena;
     let answer = built.answer;
     match answer {

@@ -19,7 +19,7 @@ returns : tie.Need-returns
 returns c =
     let args = c .before .before .before .before .before .before .before .before .args in
     read-same _ _ _ _ _ _ _ (args .count .now) (args .form .now) (args .id .now) (args .number .now) (args .«record» .now) (args .line .now)
-        (c .before .before .before .before .before .before .answer .given .1) (c .leave-first-line .ensures)
+    (c .before .before .before .before .before .before .answer .given .1) (c .leave-first-line .ensures)
 
 returns-2 : tie.Need-returns-2
 returns-2 c =
