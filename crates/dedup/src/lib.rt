@@ -3,6 +3,7 @@ ghost use Rattle.arena.specs.Layout.{arenaOf};
 ghost use Rattle.arena.specs.Node.{nodeOf, Key};
 ghost use Rattle.arena.specs.Nodes.{WellFormed, Nodes};
 ghost use Rattle.dedup.specs.Table.{Table, hashAt};
+ghost use Rattle.dedup.specs.Insert.{FirstFree};
 ghost use Rattle.dedup.specs.Intern.{answered, Interns, Absent, Full};
 
 pub mod auditing;
@@ -70,7 +71,7 @@ fn insert(
     children: &[u32],
     free: usize,
 ) -> Answer
-    requires { ⌜ Absent (now nodes) (now slots) (arenaOf (now count) (now size)) (nodeOf kind payload flags (now children)) free × Key kind payload hash (now children) ⌝ }
+    requires { ⌜ Absent (now nodes) (now slots) (arenaOf (now count) (now size)) (nodeOf kind payload flags (now children)) × FirstFree (now slots) (now size) hash free × Key kind payload hash (now children) ⌝ }
     ensures { λ r. ⌜ Interns (now (nodes .entry)) (now (slots .entry)) (arenaOf (now (count .entry)) (now (size .entry))) (nodeOf kind payload flags (now (children .entry))) (answered r (now (count .exit)) (now (size .exit))) (now (nodes .exit)) (now (slots .exit)) ⌝ }
 {
     let id = *count;

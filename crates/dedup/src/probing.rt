@@ -1,6 +1,6 @@
 // The search for a key: where its node is, or where a new one goes.
 ghost use mathlib.Core.Path.{_≡_};
-ghost use Prim.Native.Nat.{_-_, _<_};
+ghost use Prim.Native.Nat.{_-_, _^_, _<_};
 ghost use Rattle.definitions.specs.Says.{Says};
 ghost use Rattle.arena.specs.Node.{nodeOf, Key};
 ghost use Rattle.arena.specs.Nodes.{AllWellFormed};
@@ -29,7 +29,7 @@ pub(crate) fn slot_id(slot: u32) -> u64
 
 // The greatest of a key's children, 0 if it has none.
 fn greatest_child(children: &[u32]) -> u64
-    ensures { λ r. ⌜ r ≡ greatestChild (now (children .entry)) ⌝ }
+    ensures { λ r. ⌜ (r ≡ greatestChild (now (children .entry))) × (r < 2 ^ 32) ⌝ }
 {
     let mut greatest: u64 = 0;
     let mut j: usize = 0;

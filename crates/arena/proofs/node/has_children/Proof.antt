@@ -39,7 +39,7 @@ cast-if1 : tie.Need-cast-if1 Inv-loop μ-loop
 cast-if1 c = omega (arith, c .shared-slice-known2 .given (c .before .before .before .loop .j))
 
 returns : tie.Need-returns Inv-loop μ-loop
-returns c = 
+returns c =
     let a = c .before .before .before .before .before .args in
     let l = c .before .before .before .loop-test .taken in
     children-differ (wordsFrom (length (a .children .now)) (a .nodes .now) (a .at)) (a .children .now) (c .before .before .before .before .loop .j) (λ e. c .if1 .taken (sym (words-at (length (a .children .now)) (a .nodes .now) (a .at) _ l) ∙ e))
@@ -54,7 +54,7 @@ loop-again : tie.Need-loop-again Inv-loop μ-loop
 loop-again c = (search needs, below-more _ _ (c .before .before .before .before .loop .inv .1) (c .if1 .left))
 
 returns-2 : tie.Need-returns-2 Inv-loop μ-loop
-returns-2 c = 
+returns-2 c =
     let a = c .before .before .args in
     let len = words-length (length (a .children .now)) (a .nodes .now) (a .at) in
     children-agree (wordsFrom (length (a .children .now)) (a .nodes .now) (a .at)) (a .children .now) len (λ j l. let m : j < length (a .children .now) = rw len at l in words-at (length (a .children .now)) (a .nodes .now) (a .at) j m ∙ c .before .loop .inv .1 j (omega arith))

@@ -71,7 +71,7 @@ has-children-requires c κs = let p = c .before .before .before .before .before 
 
 returns-5 : tie.Need-returns-5
 unfolding nodeAt nodeOf
-returns-5 c = 
+returns-5 c =
     let s = c .before .before .before .before .before .before .before .before .before .before .before in
     c .has-children .ensures ∙ used-compared (s .args .nodes .now) (s .args .id) (s .args .children .now) (s .pre .2) (c .before .if4 .left) (s .pre .1) ∙ one-children _ _ (c .before .before .before .before .before .before .before .if1 .left) (c .before .before .before .before .before .if2 .left) (c .before .before .before .if3 .left) (c .before .if4 .left)
 

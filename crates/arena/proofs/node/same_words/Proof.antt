@@ -39,7 +39,7 @@ shared-slice-read-if1-2 : tie.Need-shared-slice-read-if1-2 Inv-loop μ-loop
 shared-slice-read-if1-2 c = search needs
 
 returns : tie.Need-returns Inv-loop μ-loop
-returns c = 
+returns c =
     let s = c .before .before .before .before .before .args in
     let l = c .before .before .before .loop-test .taken in
     children-differ (wordsFrom (s .count) (s .nodes .now) (s .a)) (wordsFrom (s .count) (s .nodes .now) (s .b)) (c .before .before .before .before .loop .j) (λ e. c .if1 .taken (sym (words-at (s .count) (s .nodes .now) (s .a) _ l) ∙ e ∙ words-at (s .count) (s .nodes .now) (s .b) _ l))
@@ -54,7 +54,7 @@ loop-again : tie.Need-loop-again Inv-loop μ-loop
 loop-again c = (search needs, below-more _ _ (c .before .before .before .before .loop .inv .1) (c .if1 .left))
 
 returns-2 : tie.Need-returns-2 Inv-loop μ-loop
-returns-2 c = 
+returns-2 c =
     let s = c .before .before .args in
     let first = words-length (s .count) (s .nodes .now) (s .a) in
     let second = words-length (s .count) (s .nodes .now) (s .b) in

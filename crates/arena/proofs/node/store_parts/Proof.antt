@@ -77,7 +77,7 @@ same-length : tie.Need-same-length
 same-length c = c .before .before .store-ids .kept .0 ∙ simp length-set
 
 returns : tie.Need-returns
-returns c = 
+returns c =
     let s = c .before .before .before .before .before .before .before in
     c .before .before .store-ids .ensures ∙ stored-parts _ _ _ _ _ _ _ _ (s .pre .0) (s .pre .1 .few) (s .pre .1 .hashed) (c .before .before .before .before .coefficient-of .ensures)
 
