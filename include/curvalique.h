@@ -18,8 +18,9 @@
  * the table; calls read and write both. An id is a node's number, from 0. Up to
  * 65,536 nodes are used, and 131,072 slots are enough for them. A store may be
  * copied or kept on disk as it is: every call looks it over first, in time that
- * grows with its nodes and its table. Words past the last whole node are unused
- * and stay. Ids are answered in 64 bits and taken in 32; those that calls and
+ * grows with its nodes and its table. The table is what putting the ids in by
+ * rising id gives, each at the first empty slot from its node's hash; in another
+ * order it is not sound. Words past the last whole node are unused and stay. Ids are answered in 64 bits and taken in 32; those that calls and
  * sheets answer are below 65,536.
  *
  * A CALL RETURNS 0 if it is answered, and its answer then stands behind the
@@ -136,7 +137,7 @@ uint64_t curvalique_variable(
 
 /*
  * A constant, by the bits of its binary64 value: kind 1, flags 0. 0.0 and -0.0
- * are two nodes, and so are NaNs with other bits. Refusals: 20, 21, 22.
+ * are two nodes; infinities are numbers, NaNs are not. Refusals: 20, 10, 21, 22.
  */
 uint64_t curvalique_constant(
     uint64_t *nodes, size_t node_words, uint32_t *slots, size_t slot_count,
@@ -389,7 +390,7 @@ uint64_t curvalique_read_text(
  * fewer bracket pairs. Whole constants from 0 to 999,999,999 are in fewest digits
  * (not -0.0), others are # and 16 hex digits of their bits, A to F in capitals. Reading it
  * with the same store and names gives the same id and adds nothing. It covers
- * variables, constants (a NaN has no text), Neg and operators of two operands but
+ * variables, constants, Neg and operators of two operands but
  * Mod, with the flags that the constructors give; marks do not matter. Each node
  * under the id is looked at once for 13, and no more nodes are visited than the
  * text has bytes.

@@ -8,7 +8,7 @@ use lib.Ieee.{binary64, nanBits}
 use native.Mathlib.Omega.{arith}
 use borrow.Author.Tests.{eq-eqb, ne-eqb, le-leb, lt-leb, lt-ltb, le-ltb, eqb-true, leb-true}
 use Rattle.arena.specs.Layout.{mostChildren}
-use Rattle.arena.specs.Kind.{operatorArity, controlArity, listed, isNumber}
+use Rattle.arena.specs.Kind.{operatorArity, controlArity, listed, isSymbolNumber}
 use Rattle.definitions.specs.Node.{nanConstant}
 use Rattle.definitions.proofs.Deciding.{both, same-test}
 
@@ -85,7 +85,7 @@ no-constant-tested kind payload n = rw (ne-eqb kind 1 n) refl
 -- a variable or a constant
 pub leaf-children : (kind payload arity : ℕ) → kind ≤ 1 → (arity ≡ 0 → ⊥) → false ≡ listed kind payload arity
 unfolding listed
-leaf-children zero payload arity l n = rw (ne-eqb arity 0 n) (and-false (isNumber payload))
+leaf-children zero payload arity l n = rw (ne-eqb arity 0 n) (and-false (isSymbolNumber payload))
 leaf-children (suc zero) payload arity l n = rw (ne-eqb arity 0 n) (and-false (not (nanBits binary64 payload)))
 leaf-children (suc (suc kind)) payload arity l n = absurd (omega arith)
 
@@ -95,7 +95,7 @@ leaf-constant kind payload arity e n = rw (e, n) (and-true (not (nanBits binary6
 
 pub leaf-variable : (kind payload arity : ℕ) → kind ≤ 1 → (kind ≡ 1 → ⊥) → arity ≡ 0 → ltb payload 4294967296 ≡ listed kind payload arity
 unfolding listed
-leaf-variable zero payload arity l c n = rw n (and-true (isNumber payload))
+leaf-variable zero payload arity l c n = rw n (and-true (isSymbolNumber payload))
 leaf-variable (suc zero) payload arity l c n = absurd (c refl)
 leaf-variable (suc (suc kind)) payload arity l c n = absurd (omega arith)
 
@@ -156,15 +156,15 @@ few-control payload arity h = ⊎-elim
 pub listed-few : (kind payload arity : ℕ) → listed kind payload arity ≡ true → arity ≤ mostChildren
 unfolding listed
 listed-few kind payload arity h = ⊎-elim
-    (λ v. none (both (isNumber payload) (eqb arity 0) v .1))
+    (λ v. none (both (isSymbolNumber payload) (eqb arity 0) v .1))
     (λ r1. ⊎-elim (λ c. none (both (not (nanBits binary64 payload)) (eqb arity 0) c .1))
     (λ r2. ⊎-elim (λ o. few-operator kind arity (both (eqb payload 0) (operatorArity kind arity) o .1))
-    (λ r3. ⊎-elim (λ f. leb-true arity mostChildren (both (isNumber payload) (leb arity mostChildren) f .1))
+    (λ r3. ⊎-elim (λ f. leb-true arity mostChildren (both (isSymbolNumber payload) (leb arity mostChildren) f .1))
     (λ r4. ⊎-elim (few-control payload arity) (λ e. absurd (false≢true e)) (choice (eqb kind 32) (controlArity payload arity) false r4))
-    (choice (eqb kind 16) (isNumber payload && leb arity mostChildren) (cond (eqb kind 32) (controlArity payload arity) false) r3))
+    (choice (eqb kind 16) (isSymbolNumber payload && leb arity mostChildren) (cond (eqb kind 32) (controlArity payload arity) false) r3))
     (choice (leb 2 kind && leb kind 8) (eqb payload 0 && operatorArity kind arity) _ r2))
     (choice (eqb kind 1) (not (nanBits binary64 payload) && eqb arity 0) _ r1))
-    (choice (eqb kind 0) (isNumber payload && eqb arity 0) _ h)
+    (choice (eqb kind 0) (isSymbolNumber payload && eqb arity 0) _ h)
   where
     none : eqb arity 0 ≡ true → arity ≤ mostChildren
     none e = let z = eqb-true arity 0 e in omega arith

@@ -7,8 +7,8 @@ use Rattle.definitions.specs.Limits.{mostChildren}
 use Rattle.definitions.specs.Node.{variableKind, constantKind, addKind, negKind, functionKind, controlKind, forLoopControl, operatorChildren, controlChildren}
 
 -- 01: "symbols and function numbers below 2^32"
-abbrev pub isNumber : ℕ → Bool
-isNumber payload = ltb payload (2 ^ 32)
+abbrev pub isSymbolNumber : ℕ → Bool
+isSymbolNumber payload = ltb payload (2 ^ 32)
 
 -- 01: "Add and Mul one to four, Neg one, other operators two"
 unfoldable pub operatorArity : ℕ → ℕ → Bool
@@ -22,9 +22,9 @@ controlArity payload arity = leb payload forLoopControl && controlChildren paylo
 -- back a store that holds a NaN"
 unfoldable pub listed : ℕ → ℕ → ℕ → Bool
 listed kind payload arity =
-    cond (eqb kind variableKind) (isNumber payload && eqb arity 0)
+    cond (eqb kind variableKind) (isSymbolNumber payload && eqb arity 0)
     (cond (eqb kind constantKind) (not (nanBits binary64 payload) && eqb arity 0)
     (cond (leb addKind kind && leb kind negKind) (eqb payload 0 && operatorArity kind arity)
-    (cond (eqb kind functionKind) (isNumber payload && leb arity mostChildren)
+    (cond (eqb kind functionKind) (isSymbolNumber payload && leb arity mostChildren)
     (cond (eqb kind controlKind) (controlArity payload arity)
     false))))

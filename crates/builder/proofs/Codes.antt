@@ -28,31 +28,31 @@ control-counts (suc (suc (suc payload))) n l = absurd (omega arith)
 
 pub asked-variable : (symbol : ℕ) → symbol < 4294967296 → Asked true variableKind symbol 0
 unfolding childCountListed
-asked-variable symbol l = record { counts = λ _ n. L.variable-low variableKind symbol n refl l; unmarked = λ _. omega arith }
+asked-variable symbol l = record { counts = λ _ _ n. L.variable-low variableKind symbol n refl l; unmarked = λ _. omega arith }
 
 pub asked-constant : (bits : ℕ) → Asked true constantKind bits 0
 unfolding childCountListed
-asked-constant bits = record { counts = λ _ n. L.constant constantKind bits n refl; unmarked = λ _. omega arith }
+asked-constant bits = record { counts = λ _ v n. L.constant constantKind bits n refl v; unmarked = λ _. omega arith }
 
 pub asked-function : (number : ℕ) → number < 4294967296 → Asked true functionKind number 0
 unfolding childCountListed
-asked-function number l = record { counts = λ _ n. L.function-low functionKind number n refl l; unmarked = λ _. omega arith }
+asked-function number l = record { counts = λ _ _ n. L.function-low functionKind number n refl l; unmarked = λ _. omega arith }
 
 pub asked-operator : (kind flags : ℕ) → addKind ≤ kind → kind ≤ negKind → flags < canonical → Asked true kind 0 flags
-asked-operator kind flags a b f = record { counts = λ _ n. operator-counts kind n a b; unmarked = λ _. f }
+asked-operator kind flags a b f = record { counts = λ _ _ n. operator-counts kind n a b; unmarked = λ _. f }
 
 pub asked-control : (payload : ℕ) → payload ≤ forLoopControl → Asked true controlKind payload 0
-asked-control payload l = record { counts = λ _ n. control-counts payload n l; unmarked = λ _. omega arith }
+asked-control payload l = record { counts = λ _ _ n. control-counts payload n l; unmarked = λ _. omega arith }
 
 -- a control by its code
 pub asked-control-code : (code : ℕ) → Asked (leb code forLoopControl) controlKind code 0
-asked-control-code code = record { counts = λ t n. control-counts code n (leb-true code forLoopControl t); unmarked = λ _. omega arith }
+asked-control-code code = record { counts = λ t _ n. control-counts code n (leb-true code forLoopControl t); unmarked = λ _. omega arith }
 
 -- an operator by its code
 module _ (listed : Bool) (code flags : ℕ) (e : listed ≡ (leb code lastOperator && leb flags bothFlags)) where
   pub asked-operator-code : Asked listed (addKind + code) 0 flags
   asked-operator-code = record {
-    counts = λ t n. let l = leb-true code lastOperator (both (leb code lastOperator) (leb flags bothFlags) (sym e ∙ t) .0) in operator-counts (addKind + code) n (omega arith) (omega arith);
+    counts = λ t _ n. let l = leb-true code lastOperator (both (leb code lastOperator) (leb flags bothFlags) (sym e ∙ t) .0) in operator-counts (addKind + code) n (omega arith) (omega arith);
     unmarked = λ t. let l = leb-true flags bothFlags (both (leb code lastOperator) (leb flags bothFlags) (sym e ∙ t) .1) in omega arith;
   }
 

@@ -1,15 +1,15 @@
 -- A fresh store, and its refusal.
-use Prim.Native.Nat.{ℕ, _+_, _*_, _≤_, _<_}
+use Prim.Native.Nat.{ℕ, _≤_, _<_}
 use mathlib.Core.Path.{_≡_, refl, sym, ap, _∙_, subst}
 use mathlib.Core.List.{List, _++_}
-use lib.ListN.{length, getD, take, drop, replicate, take-append-drop, length-replicate, getD-replicate}
-use lib.Seq.{ext-getD, getD-take, length-take-le}
+use lib.ListN.{length, take, drop, replicate, take-append-drop}
 use native.Mathlib.Omega.{arith}
 use borrow.Author.Tests.{lt-ltb, le-ltb}
 use Rattle.arena.specs.declared.DagArena.{DagArena}
-use Rattle.arena.specs.Nodes.{AllWellFormed, Nodes}
+use Rattle.arena.specs.Nodes.{AllWellFormed}
 use Rattle.dedup.specs.Table.{hashAt}
 use Rattle.dedup.specs.Insert.{Fits, Rehashed}
+use Rattle.dedup.proofs.Inserting.{inserted-none}
 use Rattle.definitions.specs.Limits.{firstTableSize}
 use Rattle.definitions.specs.Refusals.{noSlotPlace}
 use Rattle.definitions.specs.Promise.{Fresh}
@@ -38,11 +38,7 @@ first = record { count = 0; size = firstTableSize }
 module _ (w slots slots′ : List ℕ) (l : firstTableSize ≤ length slots) (long : length slots′ ≡ length slots) (r : Rehashed (hashAt w) 0 slots firstTableSize slots′) where
   -- no slot of the table is in use
   empty : take firstTableSize slots′ ≡ replicate firstTableSize 0
-  empty =
-      let n : length (take firstTableSize slots′) ≡ firstTableSize = length-take-le firstTableSize slots′ (omega arith) in
-      ext-getD 0 (take firstTableSize slots′) (replicate firstTableSize 0) (n ∙ sym (length-replicate {A = ℕ} firstTableSize 0)) (λ p b.
-      let q : p < firstTableSize = rw n at b in
-      getD-take firstTableSize slots′ p 0 q ∙ (let only = r .table .only p q in let z : getD slots′ p 0 ≡ 0 = omega arith in z) ∙ sym (getD-replicate firstTableSize p 0 0 q))
+  empty = r .table .filled ∙ inserted-none (hashAt w) firstTableSize
 
   fresh-first : Fresh model (memory w slots′ first)
   unfolding nodesIn

@@ -11,7 +11,7 @@ use Rattle.arena.specs.Kind as Kind
 use Rattle.arena.specs.Node.{newNode}
 use Rattle.definitions.specs.Node as N
 use Rattle.definitions.specs.Intern as I
-use Rattle.definitions.specs.Refusals.{badOperand, badCode, badChildCount}
+use Rattle.definitions.specs.Refusals.{badOperand, badCode, notANumber, badChildCount}
 use Rattle.definitions.specs.Machine as M
 use Rattle.definitions.specs.Machine.{call, storeCall, storedAs, requested, request, allBelow, onNodes, outcome, refused}
 use Rattle.store.specs.declared.Built.{Built}
@@ -71,35 +71,41 @@ module _ (listed : Bool) (kind payload flags : ℕ) (operands w slots : List ℕ
   refuse-code l = refuses badCode (rw l refl)
 
   module _ (l : listed ≡ true) where
-    -- 6
-    pub refuse-count : (r : Bool) → r ≡ Kind.listed kind payload (length operands) → r ≡ false → Refuses badChildCount
+    -- 10
+    pub refuse-nan : (r : Bool) → r ≡ N.nanConstant kind payload → r ≡ true → Refuses notANumber
     unfolding storeCall
-    refuse-count r k f = refuses badChildCount (rw (l, asked .counts l (length operands), ← k, f) refl)
+    refuse-nan r e t = refuses notANumber (rw (l, ← e, t) refl)
 
-    module _ (k : Kind.listed kind payload (length operands) ≡ true) where
-      -- 4
-      pub refuse-operand : (r : Bool) → r ≡ allBelow (s .count) operands → r ≡ false → Refuses badOperand
+    module _ (v : N.nanConstant kind payload ≡ false) where
+      -- 6
+      pub refuse-count : (r : Bool) → r ≡ Kind.listed kind payload (length operands) → r ≡ false → Refuses badChildCount
       unfolding storeCall
-      refuse-operand r b f = refuses badOperand (rw (l, asked .counts l (length operands), k, plain-length w (s .count), ← b, f) refl)
+      refuse-count r k f = refuses badChildCount (rw (l, v, asked .counts l v (length operands), ← k, f) refl)
 
-      module _ (b : allBelow (s .count) operands ≡ true) (places : List ℕ) (p : Places places operands) where
-        pub fits : Fits (s .count) kind payload flags (length operands) places
-        fits = record {
-          listing = k;
-          unmarked = asked .unmarked l;
-          few = p .few;
-          lower = λ j m. rw (place-at places operands p j m) (below-each (s .count) operands b j m);
-          unused = p .unused;
-        }
-
-        passed : storeCall (lent w slots) ns wanted ≡ storedAs (I.intern (lent w slots) ns (N.node kind payload flags operands))
+      module _ (k : Kind.listed kind payload (length operands) ≡ true) where
+        -- 4
+        pub refuse-operand : (r : Bool) → r ≡ allBelow (s .count) operands → r ≡ false → Refuses badOperand
         unfolding storeCall
-        passed = rw (l, asked .counts l (length operands), k, plain-length w (s .count), b) refl
+        refuse-operand r b f = refuses badOperand (rw (l, v, asked .counts l v (length operands), k, plain-length w (s .count), ← b, f) refl)
 
-        -- the id of the node, 21 or 22
-        pub interned : (key : DagNode) → key ≡ newNode kind payload flags (length operands) places → (w′ slots′ : List ℕ) (r : Built) → Interns w slots s (plainNode key) w′ slots′ r → BuildsSound wanted (memory w slots s) (answerOf (r .answer)) (memory w′ slots′ (r .arena))
-        interned key q w′ slots′ r i =
-            let plain : plainNode key ≡ N.node kind payload flags operands = ap plainNode q ∙ new-plain (s .count) kind payload flags (length operands) places fits ∙ ap (N.node kind payload flags) (p .taken) in
-            let o : storedAs (I.intern (lent w slots) ns (N.node kind payload flags operands)) ≡ outcome (answerOf (r .answer)) (nodesIn w′ (r .arena .count)) =
-            ap (λ (n : N.Node). storedAs (I.intern (lent w slots) ns n)) (sym plain) ∙ ap storedAs (sym (i .builds .answer)) ∙ answered (r .answer) (nodesIn w′ (r .arena .count)) in
-            record { outcome = sym (passed ∙ o); kept = i .builds .kept; unchanged = λ number a. i .unchanged number (refused-is (r .answer) number a) }
+        module _ (b : allBelow (s .count) operands ≡ true) (places : List ℕ) (p : Places places operands) where
+          pub fits : Fits (s .count) kind payload flags (length operands) places
+          fits = record {
+            listing = k;
+            unmarked = asked .unmarked l;
+            few = p .few;
+            lower = λ j m. rw (place-at places operands p j m) (below-each (s .count) operands b j m);
+            unused = p .unused;
+          }
+
+          passed : storeCall (lent w slots) ns wanted ≡ storedAs (I.intern (lent w slots) ns (N.node kind payload flags operands))
+          unfolding storeCall
+          passed = rw (l, v, asked .counts l v (length operands), k, plain-length w (s .count), b) refl
+
+          -- the id of the node, 21 or 22
+          pub interned : (key : DagNode) → key ≡ newNode kind payload flags (length operands) places → (w′ slots′ : List ℕ) (r : Built) → Interns w slots s (plainNode key) w′ slots′ r → BuildsSound wanted (memory w slots s) (answerOf (r .answer)) (memory w′ slots′ (r .arena))
+          interned key q w′ slots′ r i =
+              let plain : plainNode key ≡ N.node kind payload flags operands = ap plainNode q ∙ new-plain (s .count) kind payload flags (length operands) places fits ∙ ap (N.node kind payload flags) (p .taken) in
+              let o : storedAs (I.intern (lent w slots) ns (N.node kind payload flags operands)) ≡ outcome (answerOf (r .answer)) (nodesIn w′ (r .arena .count)) =
+              ap (λ (n : N.Node). storedAs (I.intern (lent w slots) ns n)) (sym plain) ∙ ap storedAs (sym (i .builds .answer)) ∙ answered (r .answer) (nodesIn w′ (r .arena .count)) in
+              record { outcome = sym (passed ∙ o); kept = i .builds .kept; unchanged = λ number a. i .unchanged number (refused-is (r .answer) number a) }

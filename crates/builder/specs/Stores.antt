@@ -1,7 +1,7 @@
 -- What the builder's calls say.
 use Prim.Native.Nat.{ℕ, _<_}
 use mathlib.Core.Path.{_≡_}
-use mathlib.Core.Bool.{Bool, true}
+use mathlib.Core.Bool.{Bool, true, false}
 use mathlib.Core.List.{List}
 use Rattle.arena.specs.declared.DagArena.{DagArena}
 use Rattle.arena.specs.Kind as Kind
@@ -28,8 +28,15 @@ pub data BuildsAudited (q : M.Request) (m : Memory) : M.Answer → Memory → Ty
   unsound : (model .Sound m → ⊥) → BuildsAudited q m (M.refused notSound) m
   sound : {a : M.Answer} {m′ : Memory} → model .Sound m → BuildsSound q m a m′ → BuildsAudited q m a m′
 
--- A kind, payload and flags that unmarked nodes have, unless they are not listed: a sound store's nodes have the child counts that the plain
--- machine lists.
+-- and of the lent lists
+abbrev pub StoresSound : M.Request → List ℕ → List ℕ → DagArena → List ℕ → List ℕ → Built → Type 0
+StoresSound q words slots arena words′ slots′ r = BuildsSound q (memory words slots arena) (answerOf (r .answer)) (memory words′ slots′ (r .arena))
+
+abbrev pub StoresAudited : M.Request → List ℕ → List ℕ → DagArena → List ℕ → List ℕ → Built → Type 0
+StoresAudited q words slots arena words′ slots′ r = BuildsAudited q (memory words slots arena) (answerOf (r .answer)) (memory words′ slots′ (r .arena))
+
+-- A kind, payload and flags that unmarked nodes have, unless they are not listed or a NaN: a sound store's nodes have the child counts that the
+-- plain machine lists.
 pub record Asked (listed : Bool) (kind payload flags : ℕ) : Type 0 where
-  pub counts : listed ≡ true → (n : ℕ) → N.childCountListed kind payload n ≡ Kind.listed kind payload n
+  pub counts : listed ≡ true → N.nanConstant kind payload ≡ false → (n : ℕ) → N.childCountListed kind payload n ≡ Kind.listed kind payload n
   pub unmarked : listed ≡ true → flags < canonical

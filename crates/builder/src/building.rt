@@ -3,10 +3,10 @@ ghost use mathlib.Core.Path.{_≡_};
 ghost use Rattle.definitions.specs.Node as N;
 ghost use Rattle.definitions.specs.Machine as M;
 ghost use Rattle.store.specs.Sound.{Sound};
-ghost use Rattle.store.specs.Memory.{memory, answerOf};
-ghost use Rattle.builder.specs.Stores.{BuildsSound, BuildsAudited, Asked};
+ghost use Rattle.builder.specs.Stores.{StoresSound, StoresAudited, Asked};
 use arena::DagArena;
 use arena::kind::is_listed;
+use arena::kind::is_nan_constant;
 use definitions::refusals::BAD_CHILD_COUNT;
 use definitions::refusals::BAD_CODE;
 use definitions::refusals::BAD_OPERAND;
@@ -15,6 +15,7 @@ use store::Answer;
 use store::Built;
 use store::audit;
 use store::intern;
+use text_language::NOT_A_NUMBER;
 
 // Whether all operands are ids below the count.
 fn all_below(operands: &[u32], count: u64) -> bool
@@ -30,7 +31,7 @@ fn all_below(operands: &[u32], count: u64) -> bool
     true
 }
 
-// The id of a node over these operands, or 5, 6, 4, 21 or 22, on a store that is known to be sound.
+// The id of a node over these operands, or 5, 10, 6, 4, 21 or 22, on a store that is known to be sound.
 pub fn build_sound(
     nodes: &mut [u64],
     slots: &mut [u32],
@@ -42,11 +43,18 @@ pub fn build_sound(
     operands: &[u32],
 ) -> Built
     requires { ⌜ Asked listed kind payload flags × Sound (now nodes) (now slots) arena ⌝ }
-    ensures { λ r. ⌜ BuildsSound (M.request listed (N.node kind payload flags (now (operands .entry)))) (memory (now (nodes .entry)) (now (slots .entry)) arena) (answerOf (r .answer)) (memory (now (nodes .exit)) (now (slots .exit)) (r .arena)) ⌝ }
+    ensures { λ r. ⌜ StoresSound (M.request listed (N.node kind payload flags (now (operands .entry))))
+        (now (nodes .entry)) (now (slots .entry)) arena (now (nodes .exit)) (now (slots .exit)) r ⌝ }
 {
     if !listed {
         return Built {
             answer: Answer::Refused(BAD_CODE),
+            arena,
+        };
+    }
+    if is_nan_constant(kind, payload) {
+        return Built {
+            answer: Answer::Refused(NOT_A_NUMBER),
             arena,
         };
     }
@@ -78,7 +86,8 @@ pub(crate) fn build(
     operands: &[u32],
 ) -> Built
     requires { ⌜ Asked listed kind payload flags ⌝ }
-    ensures { λ r. ⌜ BuildsAudited (M.request listed (N.node kind payload flags (now (operands .entry)))) (memory (now (nodes .entry)) (now (slots .entry)) arena) (answerOf (r .answer)) (memory (now (nodes .exit)) (now (slots .exit)) (r .arena)) ⌝ }
+    ensures { λ r. ⌜ StoresAudited (M.request listed (N.node kind payload flags (now (operands .entry))))
+        (now (nodes .entry)) (now (slots .entry)) arena (now (nodes .exit)) (now (slots .exit)) r ⌝ }
 {
     if !audit(nodes, slots, arena) {
         return Built {

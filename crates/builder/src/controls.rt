@@ -18,7 +18,8 @@ pub fn select(
     b: u32,
     c: u32,
 ) -> Built
-    ensures { λ r. ⌜ Stores (M.select a b c) (now (nodes .entry)) (now (slots .entry)) arena (now (nodes .exit)) (now (slots .exit)) r ⌝ }
+    ensures { λ r. ⌜ Stores (M.select a b c)
+        (now (nodes .entry)) (now (slots .entry)) arena (now (nodes .exit)) (now (slots .exit)) r ⌝ }
 {
     let operands = [a, b, c];
     build(nodes, slots, arena, true, CONTROL, SELECT, 0, &operands)
@@ -33,7 +34,8 @@ pub fn if_else(
     b: u32,
     c: u32,
 ) -> Built
-    ensures { λ r. ⌜ Stores (M.ifElse a b c) (now (nodes .entry)) (now (slots .entry)) arena (now (nodes .exit)) (now (slots .exit)) r ⌝ }
+    ensures { λ r. ⌜ Stores (M.ifElse a b c)
+        (now (nodes .entry)) (now (slots .entry)) arena (now (nodes .exit)) (now (slots .exit)) r ⌝ }
 {
     let operands = [a, b, c];
     build(nodes, slots, arena, true, CONTROL, IF_ELSE, 0, &operands)
@@ -49,7 +51,8 @@ pub fn for_loop(
     c: u32,
     d: u32,
 ) -> Built
-    ensures { λ r. ⌜ Stores (M.forLoop a b c d) (now (nodes .entry)) (now (slots .entry)) arena (now (nodes .exit)) (now (slots .exit)) r ⌝ }
+    ensures { λ r. ⌜ Stores (M.forLoop a b c d)
+        (now (nodes .entry)) (now (slots .entry)) arena (now (nodes .exit)) (now (slots .exit)) r ⌝ }
 {
     let operands = [a, b, c, d];
     build(nodes, slots, arena, true, CONTROL, FOR_LOOP, 0, &operands)
@@ -63,7 +66,8 @@ pub fn control(
     code: u32,
     operands: &[u32],
 ) -> Built
-    ensures { λ r. ⌜ Stores (M.control code (now (operands .entry))) (now (nodes .entry)) (now (slots .entry)) arena (now (nodes .exit)) (now (slots .exit)) r ⌝ }
+    ensures { λ r. ⌜ Stores (M.control code (now (operands .entry)))
+        (now (nodes .entry)) (now (slots .entry)) arena (now (nodes .exit)) (now (slots .exit)) r ⌝ }
 {
     let payload = code as u64;
     build(

@@ -1,11 +1,11 @@
 // A call, by its line.
 ghost use Prim.Native.Nat.{_≤_};
-ghost use Rattle.calls.specs.Encoding.{lastCode};
+ghost use Rattle.encoding.specs.Encoding.{lastCode};
 use crate::showing;
 use crate::state::Now;
 use arena::DagArena;
 use calls::CallResult;
-use calls::codes;
+use encoding::codes;
 use scripts::lines;
 use scripts::lines::MOST_VALUES;
 use scripts::lines::Values;

@@ -1,4 +1,3 @@
 pub mod CodeCalls
-pub mod Spelling
 pub mod SpelledNames
 pub mod TypedTexts

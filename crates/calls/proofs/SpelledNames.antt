@@ -17,8 +17,9 @@ use Rattle.names.specs.declared.Answer.the-variants.{Numbered, Unknown, Named, 
 use Rattle.names.specs.Sound.{namesOf, lentEntries}
 use Rattle.names.specs.Calls.{answerOf, Called, plainly}
 use Rattle.calls.specs.declared.handing.LastReply.the-variants as Last
-use Rattle.calls.specs.Encoding.{bytesOf}
-use Rattle.calls.specs.Calling.{mostNameBytes, NameBeside}
+use Rattle.encoding.specs.Encoding.{bytesOf}
+use Rattle.encoding.specs.Spelling.{mostNameBytes}
+use Rattle.calls.specs.Calling.{NameBeside}
 
 -- ---- a name that is longer than 32 bytes is refused by its first 33
 

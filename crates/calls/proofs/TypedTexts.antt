@@ -11,8 +11,8 @@ use Rattle.text_language.specs.Reading.{mostBytes, Refuses, long}
 use Rattle.text_language.proofs.Reading.{one-refusal, not-both}
 use Rattle.text.specs.Memory.{ControllerMemory}
 use Rattle.text.specs.Reading.{Reads, unsound, refused, read}
-use Rattle.calls.specs.Encoding.{bytesOf}
-use Rattle.calls.specs.Calling.{mostTextBytes}
+use Rattle.encoding.specs.Encoding.{bytesOf}
+use Rattle.encoding.specs.Spelling.{mostTextBytes}
 
 -- a longer text is refused whatever stands past its first bytes
 both-long : (s t : List ℕ) (d d′ : ControllerMemory) (a : Answer) → mostBytes < length s → mostBytes < length t → Reads s d a d′ → Reads t d a d′

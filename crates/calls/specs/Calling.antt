@@ -1,29 +1,26 @@
 -- What a reply is in the plain machine's terms, and what running one encoded call says.
-use Prim.Native.Nat.{ℕ, suc, _≤_}
+use Prim.Native.Nat.{ℕ}
 use mathlib.Core.Path.{_≡_}
 use mathlib.Core.Bool.{true, false}
 use mathlib.Core.Option.{Option, none, some}
 use mathlib.Core.List.{List}
-use lib.ListN.{length, take, replicate}
+use lib.ListN.{replicate}
 use Rattle.definitions.specs.Machine as M
 use Rattle.definitions.specs.Names.{NameCall, longestName}
 use Rattle.definitions.specs.Controller.{ControllerCall, naming, ControllerAnswer, fromStore, fromNames, asked}
 use Rattle.store.specs.Memory as Store
 use Rattle.store.specs.Memory.{Leaves}
 use Rattle.names.specs.Calls.{answerOf, Called, bytesBeside, Fits}
-use Rattle.text_language.specs.Reading.{mostBytes}
 use Rattle.calls.specs.declared.reply.Reply.{Reply}
 use Rattle.calls.specs.declared.reply.Reply.the-variants.{Stored, Simplified, Spent, Pruned, Refused, Nothing}
 use Rattle.calls.specs.declared.reply.Answered.{Answered}
 use Rattle.calls.specs.declared.handing.LastReply.{LastReply}
 use Rattle.calls.specs.declared.handing.LastReply.the-variants as Last
 use Rattle.calls.specs.declared.handing.CallResult.{CallResult}
-use Rattle.calls.specs.declared.naming.NameArgument.{NameArgument}
 use Rattle.calls.specs.declared.naming.Named.{Named}
-use Rattle.calls.specs.declared.reading.TextBytes.{TextBytes}
 use Rattle.text.specs.Memory.{ControllerMemory}
 use Rattle.calls.specs.Memory.{CallLeaves}
-use Rattle.calls.specs.Encoding.{bytesOf, callOfCode}
+use Rattle.encoding.specs.Encoding.{callOfCode}
 
 -- an answer of the plain machine, or none where no call was run
 abbrev pub replyOf : Reply → Option M.Answer
@@ -76,24 +73,3 @@ pub record RunsCall (call : Option ControllerCall) (m : ControllerMemory) (r : C
   pub reply : lastReplyOf (r .reply) (r .name) ≡ some answer
   pub name : NameBeside (r .reply) (r .name)
   pub left : CallLeaves ran m answer m′
-
--- how many bytes of a name are looked at, and of a text: one more than there are at most
-abbrev pub mostNameBytes : ℕ
-mostNameBytes = suc longestName
-
-abbrev pub mostTextBytes : ℕ
-mostTextBytes = suc mostBytes
-
--- the bytes that operands spell, as far as they are looked at
-pub record SpellsUpTo (most : ℕ) (operands bytes : List ℕ) (long : ℕ) : Type 0 where
-  pub few : long ≤ most
-  pub size : length bytes ≡ most
-  pub is : take long bytes ≡ take most (bytesOf operands)
-
--- a name
-abbrev pub IsName : List ℕ → NameArgument → Type 0
-IsName operands r = SpellsUpTo mostNameBytes operands (r .bytes) (r .length)
-
--- a text
-abbrev pub IsText : List ℕ → TextBytes → Type 0
-IsText operands r = SpellsUpTo mostTextBytes operands (r .bytes) (r .length)

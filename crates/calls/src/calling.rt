@@ -3,10 +3,9 @@ ghost use mathlib.Core.Path.{_≡_};
 ghost use Prim.Native.Nat.{_≤_, _<_};
 ghost use Rattle.store.specs.Memory.{memory};
 ghost use Rattle.text.specs.Memory.{controllerMemory};
-ghost use Rattle.calls.specs.Encoding as Encoding;
-ghost use Rattle.calls.specs.Encoding.{firstWithOperands, firstRewriting, firstNaming, lastCode, callOfCode};
+ghost use Rattle.encoding.specs.Encoding as Encoding;
+ghost use Rattle.encoding.specs.Encoding.{firstWithOperands, firstRewriting, firstNaming, lastCode, callOfCode};
 ghost use Rattle.calls.specs.Calling.{RunsStoreCall, RunsCall};
-use crate::codes;
 use crate::handing::CallResult;
 use crate::handing::of_names;
 use crate::handing::of_reading;
@@ -18,6 +17,7 @@ use crate::reply::pruned;
 use crate::reply::simplified;
 use crate::reply::stored;
 use arena::DagArena;
+use encoding::codes;
 
 // Codes below this one are calls over at most two arguments.
 const FIRST_WITH_OPERANDS: u32 = codes::OPERATOR;

@@ -7,12 +7,12 @@ ghost use Rattle.text.specs.Calling as Text;
 ghost use Rattle.calls.specs.Calling.{lastReplyOf, NameBeside};
 ghost use Rattle.calls.specs.declared.handing.LastReply.the-variants as Last;
 ghost use Rattle.calls.specs.declared.reply.Reply.the-variants.{Nothing};
-use crate::naming::LONGEST_NAME;
 use crate::naming::Named;
 use crate::reply::Answered;
 use crate::reply::Reply;
 use crate::reply::stored;
 use arena::DagArena;
+use encoding::spelling::LONGEST_NAME;
 use store::Built;
 use text::ReadOutcome;
 

@@ -9,8 +9,8 @@ use lib.ListN.{length}
 use lib.Dec.{leb, ltb, eqb}
 use lib.Ieee.{Float, binary64, ofBits}
 use Rattle.definitions.specs.Limits.{mostDepth, mostTerms, infinityBits}
-use Rattle.definitions.specs.Refusals.{notSound, badOperand, badCode, badChildCount, badThreshold, badSetting, tooManyTerms}
-use Rattle.definitions.specs.Node.{Node, at, addKind, childCountListed}
+use Rattle.definitions.specs.Refusals.{notSound, badOperand, badCode, notANumber, badChildCount, badThreshold, badSetting, tooManyTerms}
+use Rattle.definitions.specs.Node.{Node, at, addKind, nanConstant, childCountListed}
 use Rattle.definitions.specs.Intern.{Lent, Built, built, stopped, intern}
 use Rattle.definitions.specs.Walk.{standard, walkRoot}
 use Rattle.definitions.specs.Prune.{chain, keeps, filter, sumOfKept}
@@ -43,13 +43,14 @@ stored-numbered (stopped ns number) s = place-numbered number s
 
 stores-numbered : (l : Lent) (ns : List Node) (r : Request) → Numbered (storeCall l ns r .answer)
 unfolding storeCall
-stores-numbered l ns r = by (r .listed) (childCountListed (r .node .kind) (r .node .payload) (length (r .node .children))) (allBelow (length ns) (r .node .children))
+stores-numbered l ns r = by (r .listed) (nanConstant (r .node .kind) (r .node .payload)) (childCountListed (r .node .kind) (r .node .payload) (length (r .node .children))) (allBelow (length ns) (r .node .children))
   where
-    by : (a b c : Bool) → Numbered (cond a (cond b (cond c (storedAs (intern l ns (r .node))) (outcome (refused badOperand) ns)) (outcome (refused badChildCount) ns)) (outcome (refused badCode) ns) .answer)
-    by true true true = stored-numbered (intern l ns (r .node)) (intern-stops l ns (r .node))
-    by true true false = λ z. omega arith
-    by true false c = λ z. omega arith
-    by false b c = λ z. omega arith
+    by : (a n b c : Bool) → Numbered (cond a (cond n (outcome (refused notANumber) ns) (cond b (cond c (storedAs (intern l ns (r .node))) (outcome (refused badOperand) ns)) (outcome (refused badChildCount) ns))) (outcome (refused badCode) ns) .answer)
+    by true true b c = λ z. omega arith
+    by true false true true = stored-numbered (intern l ns (r .node)) (intern-stops l ns (r .node))
+    by true false true false = λ z. omega arith
+    by true false false c = λ z. omega arith
+    by false n b c = λ z. omega arith
 
 -- ---- simplify
 

@@ -22,7 +22,7 @@ use Rattle.listing_lines.specs.declared.Outcome.the-variants.{Ok, Empty, Spent,
 use Rattle.listing_lines.specs.Outcome.{answeredAs, outcomeOf}
 use Rattle.sheet.specs.declared.Ran.{Ran}
 use Rattle.records.specs.Reading.{isSheet}
-use Rattle.sheet.specs.Sheets.{Runs, notOpened, RunsFresh}
+use Rattle.sheet.specs.Sheets.{Ended, Runs, notOpened, RunsFresh}
 use Rattle.curvalique.proofs.Refusals.{Numbered, plain-numbered}
 
 -- ---- the plain machine's sheet
@@ -99,8 +99,8 @@ pub runs-never-0 : (s : List ℕ) (m : Memory) (o : Outcome) (m′ : Memory) →
 runs-never-0 s m o m′ h at e =
     let ran = Sheet.sheet (model .lent m) (model .view m) s in
     let not-sound : model .Sound m → ⊥ =
-    λ sound. subst OutcomeNumbered (sym (h .outcome sound) ∙ e) (outcome-numbered (ran .refusal) (ran .answers) (sheet-numbered (model .lent m) (model .view m) s)) refl in
-    numbers-differ at (sym e ∙ h .unsound not-sound .0)
+    λ sound. subst OutcomeNumbered (sym (ap (λ (x : Ended). x .outcome) (h .equation (yes sound))) ∙ e) (outcome-numbered (ran .refusal) (ran .answers) (sheet-numbered (model .lent m) (model .view m) s)) refl in
+    numbers-differ at (sym e ∙ ap (λ (x : Ended). x .outcome) (h .equation (no not-sound)))
 
 -- a sheet on a fresh store: where none is opened, the number is 1 or 22
 pub fresh-never-0 : (s words slots : List ℕ) (before : DagArena) (r : Ran) (words′ slots′ : List ℕ) → RunsFresh s words slots before r words′ slots′ → (at : ℕ) → r .outcome ≡ Refused 0 at → ⊥

@@ -1,13 +1,13 @@
 -- Slots in order are those of one table.
-use Prim.Native.Nat.{ℕ, zero, suc, _+_, _-_, _%_, _≤_, _<_}
-use mathlib.Core.Path.{_≡_, refl, sym, ap, _∙_, subst}
+use Prim.Native.Nat.{ℕ, zero, suc, _+_, _-_, _%_, _<_}
+use mathlib.Core.Path.{_≡_, sym, ap, _∙_, subst}
 use mathlib.Core.List.{List}
 use lib.ListN.{length, getD}
 use lib.Seq.{ext-getD}
 use native.Mathlib.Omega.{arith}
 use native.Mathlib.Nat.{mod-lt}
 use native.Mathlib.Decide.{decLt, ℕ-discrete}
-use Rattle.dedup.specs.Table.{slotFrom, Placed, InOrder}
+use Rattle.dedup.specs.Table.{slotFrom, InOrder}
 
 -- slots that agree with slots in order
 pub order-same : (hash : ℕ → ℕ) (count : ℕ) (a b : List ℕ) (size : ℕ) → ((p : ℕ) → p < size → getD b p 0 ≡ getD a p 0) → InOrder hash count a size → InOrder hash count b size

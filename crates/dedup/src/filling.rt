@@ -78,9 +78,10 @@ pub fn rehash(nodes: &[u64], slots: &mut [u32], size: usize, count: u64)
     ensures { λ r. ⌜ Rehashed (hashAt (now (nodes .entry))) count (now (slots .entry)) size (now (slots .exit)) ⌝ }
 {
     clear(slots, size);
-    let mut i: u64 = 0;
-    while i < count {
-        place(slots, size, node_hash_at(nodes, i), i);
-        i += 1;
+    let mut left = count;
+    while 0 < left {
+        let id = count - left;
+        place(slots, size, node_hash_at(nodes, id), id);
+        left -= 1;
     }
 }

@@ -38,3 +38,4 @@ pub mod OneNumber
 pub mod SheetCalls
 pub mod Listing
 pub mod NoNaN
+pub mod StrictFits

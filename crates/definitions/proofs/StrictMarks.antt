@@ -140,7 +140,7 @@ module _ (l : Lent) (ns : List Node) where
 -- ---- the walk
 
 -- a strict walk's mark is none
-unmarked-set : (ns : List Node) (i : ℕ) → set ns i (marked strict (at ns i)) ≡ ns
+pub unmarked-set : (ns : List Node) (i : ℕ) → set ns i (marked strict (at ns i)) ≡ ns
 unmarked-set [] i = refl
 unmarked-set (n ∷ ns) zero = refl
 unmarked-set (n ∷ ns) (suc i) = ap (λ (x : List Node). n ∷ x) (unmarked-set ns i)

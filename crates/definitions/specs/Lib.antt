@@ -6,6 +6,7 @@ pub mod Intern
 pub mod Patterns
 pub mod Strict
 pub mod Walk
+pub mod Modes
 pub mod Prune
 pub mod Threshold
 pub mod Settings
@@ -31,3 +32,4 @@ pub mod Listing
 pub mod NoNaN
 pub mod Examples
 pub mod StrictExamples
+pub mod StrictFits

@@ -15,7 +15,7 @@ use Rattle.definitions.specs.Walk.{rebuilt, rebuildOrMatch}
 use Rattle.definitions.specs.Machine.{Answer, State, constant, store, requested, refused, outcome, storeCall}
 use Rattle.definitions.specs.Sheet.{ran, cut, recordCall, records}
 
--- What folding, and merging by it, answers is IEEE's result and never a NaN: "A fold to NaN is now declined".
+-- What folding answers, which merging takes its constant from, is IEEE's result and never a NaN: "A fold to NaN is now declined".
 abbrev pub FoldsToNumbers : Type 0
 FoldsToNumbers = (k : ℕ) (x y z : Float) → fold k x y ≡ some z → (isNan z ≡ false) × (binary64Result k x y ≡ some z)
 
@@ -31,7 +31,8 @@ firstConstant (some x) y = some x
 abbrev pub coefficientOf : List Node → ℕ × ℕ → Option Float
 coefficientOf ns pq = firstConstant (constantValue (at ns (pq .0))) (constantValue (at ns (pq .1)))
 
--- IEEE's result is a NaN for what an operator of kind k over a and b would fold, or merge with the constant of the sum or product on its left or right
+-- IEEE's result is a NaN for what an operator of kind k over a and b would fold, or for its constant and that of an operator of the same kind on its
+-- left or right, as a merge would fold them
 pub data GivesNaN (ns : List Node) (k a b : ℕ) : Type 0 where
   folding : {x y : Float} → constantValue (at ns a) ≡ some x → constantValue (at ns b) ≡ some y → binary64Result k x y ≡ some nan → GivesNaN ns k a b
   mergingLeft : {pq : ℕ × ℕ} {c d : Float} → pairOf k (at ns a) ≡ some pq → coefficientOf ns pq ≡ some d → constantValue (at ns b) ≡ some c

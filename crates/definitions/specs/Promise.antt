@@ -105,7 +105,7 @@ prunes (pruningBySetting i n) = some (i, setting n)
 prunes (naming c) = none
 prunes (reading text) = none
 
--- nodes go on by unmarked ones alone
+-- `ms` has the nodes `ns` as they are, then unmarked ones
 pub record AddsUnmarked (ns ms : List Node) : Type 0 where
   pub new : List Node
   pub is : ms ≡ ns ++ new

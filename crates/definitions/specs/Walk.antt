@@ -83,7 +83,7 @@ abbrev pub reverseOnto : List ℕ → List ℕ → List ℕ
 reverseOnto [] acc = acc
 reverseOnto (x ∷ xs) acc = reverseOnto xs (x ∷ acc)
 
--- the result is marked, and is the frame's value
+-- the result is marked, but by a strict walk, and is the frame's value
 abbrev pub finish : Mode → List Frame → List ℕ → Built → Turn
 finish m fs vs (built ns i) = go (set ns i (marked m (at ns i))) fs (i ∷ vs)
 finish m fs vs (stopped ns r) = stop ns r

@@ -1,5 +1,6 @@
-// The crate holds definitions (specs/), the proof of the promise over them (proofs/) and the numbers of the refusals.
+// The crate holds definitions (specs/), the proof of the promise over them (proofs/), the numbers of the refusals and the modes of a walk.
 // A crate has at least one function: this one says how many children a node has at most.
+pub mod mode;
 pub mod refusals;
 
 ghost use mathlib.Core.Path.{_≡_};

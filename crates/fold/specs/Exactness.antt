@@ -1,10 +1,11 @@
 -- Where folding is exact (01, "The shape of some places": "with exact results proved under the W·2^P condition").
 use Prim.Native.Nat.{ℕ}
 use mathlib.Core.Path.{_≡_}
-use mathlib.Core.Bool.{cond}
+use mathlib.Core.Bool.{false, cond}
 use mathlib.Core.List.{[], _∷_}
 use mathlib.Core.Logic.{_⊎_}
 use lib.Dec.{T, eqb}
+use lib.Ieee.{binary64, nanBits}
 use Rattle.definitions.specs.Node.{addKind, subKind, mulKind}
 use Rattle.definitions.specs.Patterns as Patterns
 use Rattle.definitions.specs.Dyadic.{Dyadic, plus, times, opposite}
@@ -35,7 +36,13 @@ abbrev pub ExactAnswer : ℕ → ℕ → ℕ → Folded → Type 0
 ExactAnswer k a b (Bits r) = Exactly k a b r
 ExactAnswer k a b Declined = ⊥
 
+-- 02 (b): what folding answers is never a NaN
+abbrev pub NumberAnswer : Folded → Type 0
+NumberAnswer (Bits r) = nanBits binary64 r ≡ false
+NumberAnswer Declined = Unit {0}
+
 -- the answer of folding two patterns under a kind
 pub record Folds (k a b : ℕ) (r : Folded) : Type 0 where
   pub is : r ≡ stored (Patterns.fold k (valueOf a) (valueOf b))
+  pub number : NumberAnswer r
   pub exact : Small k a b → ExactAnswer k a b r

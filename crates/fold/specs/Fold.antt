@@ -12,11 +12,11 @@ use Rattle.fold.specs.declared.Folded.the-variants.{Bits, Declined}
 abbrev pub valueOf : ℕ → Float
 valueOf b = ofBits binary64 b
 
--- the pattern of a value: that of `nan` is 7FF8000000000000
+-- the pattern of a value
 abbrev pub patternOf : Float → ℕ
 patternOf x = toBits binary64 x
 
--- the answer that stands for a result of folding: "A fold or merge to NaN stores 7FF8000000000000 (hex)."
+-- the answer that stands for a result of folding
 abbrev pub stored : Option Float → Folded
 stored none = Declined
 stored (some z) = Bits (patternOf z)

@@ -3,22 +3,22 @@ ghost use mathlib.Core.Path.{_≡_};
 ghost use lib.Ieee as Ieee;
 ghost use lib.Ieee.{binary64};
 ghost use Rattle.fold.specs.Exactness.{Folds};
-ghost use Rattle.fold.specs.Fold.{valueOf, patternOf, zero, one, finite, magnitude};
+ghost use Rattle.fold.specs.Fold.{valueOf, stored, zero, one, finite, magnitude};
+ghost use Rattle.definitions.specs.Patterns.{unlessNaN};
+ghost use mathlib.Core.Option.{some};
 use arena::kind::ADD;
 use arena::kind::DIV;
 use arena::kind::MUL;
 use arena::kind::SUB;
+use text_language::BITS_OF_INFINITY;
+use text_language::SIGN_BIT;
+use text_language::is_nan;
 
 // The bits of 0.0.
 pub const BITS_OF_ZERO: u64 = 0;
-// With the sign's bit off, the patterns above the infinity's are those of NaN.
-pub const BITS_OF_INFINITY: u64 = 0x7ff0_0000_0000_0000;
-// 01: "A fold or merge to NaN stores 7FF8000000000000 (hex)."
-const BITS_OF_NAN: u64 = 0x7ff8_0000_0000_0000;
-// 2^63: the weight of the sign's bit.
-const SIGN_BIT: u64 = 0x8000_0000_0000_0000;
 
-// What folding answers: the bits of the result, or that it does not fold.
+// What folding answers: the bits of the result, which are a number's, or that it is declined: the kind does not fold, the
+// divisor is zero, or the result is a NaN.
 pub enum Folded {
     Bits(u64),
     Declined,
@@ -28,18 +28,11 @@ pub enum Folded {
 fn value(bits: u64) -> f64
     ensures { λ r. ⌜ r ≡ valueOf bits ⌝ }
 {
-    if bits % SIGN_BIT > BITS_OF_INFINITY {
+    if is_nan(bits) {
         0.0 / 0.0
     } else {
         f64::from_bits(bits)
     }
-}
-
-// The pattern of a value.
-fn pattern(x: f64) -> u64
-    ensures { λ r. ⌜ r ≡ patternOf x ⌝ }
-{
-    if x != x { BITS_OF_NAN } else { f64::to_bits(x) }
 }
 
 // Whether a pattern is that of 0.0 or -0.0.
@@ -77,11 +70,15 @@ pub fn reaches(bits: u64, threshold: u64) -> bool
     value(threshold) <= value(bits % SIGN_BIT)
 }
 
-// The answer for a result that is stored.
+// The answer for a result. 02 (b): "A fold to NaN is now declined".
 fn bits_of(x: f64) -> Folded
-    ensures { λ r. ⌜ r ≡ Folded.Bits (patternOf x) ⌝ }
+    ensures { λ r. ⌜ r ≡ stored (unlessNaN (some x)) ⌝ }
 {
-    Folded::Bits(pattern(x))
+    if x != x {
+        return Folded::Declined;
+    }
+    let bits = f64::to_bits(x);
+    Folded::Bits(bits)
 }
 
 // 01: "Sums fold as binary64, each single addition rounded once, ties to even; likewise Sub, Mul, Div (not by zero)." Every

@@ -1,6 +1,8 @@
-// Simplifies a formula that is typed on standard input, 255 levels deep, prunes it by the setting that is its argument (without one it is not
-// pruned), and prints it as text, with the walk's steps, the terms kept and dropped and a bound on the dropped ones; or the refusal in words. A text
-// that could not be read to its end is not taken, since the part that was read could be a formula too.
+// Simplifies a formula that is typed on standard input, prunes it by the setting that is its argument (without one it is not pruned), and prints it
+// as text, with the walk's steps, the terms kept and dropped, the threshold and a bound on the dropped ones; or the refusal in words. A text that
+// could not be read to its end is not taken, since the part that was read could be a formula too.
+mod threshold;
+
 ghost use mathlib.Core.Path.{_≡_};
 ghost use Prim.Native.Nat.{_≤_};
 ghost use lib.ListN.{length};
@@ -19,6 +21,8 @@ use text_language::MOST_BYTES;
 use text_language::NESTED_TOO_DEEP;
 use text_language::NOT_A_NUMBER;
 use text_language::OUTSIDE_LANGUAGE;
+use threshold::say_threshold;
+use write_back::DEPTH;
 use write_back::Outcome;
 use write_back::Pruning;
 
@@ -47,7 +51,7 @@ fn say_number(n: u64) {
     io::print_decimal(STDOUT_FILENO, n);
 }
 
-// What a refusal's number says. From a typed text only a constant that is not a number makes a node without a text.
+// What a refusal's number says.
 fn words_of(number: u64) {
     match number {
         BAD_TEXT => say(b"there is no text, or it has over 8,192 bytes"),
@@ -57,7 +61,7 @@ fn words_of(number: u64) {
             b"this is not a formula: look for a sign, a name or a bracket that is missing or too much",
         ),
         NESTED_TOO_DEEP => say(b"brackets, minus signs and powers are nested over 64 deep"),
-        NO_TEXT => say(b"a constant came out that is not a number"),
+        NO_TEXT => say(b"the formula that came out has no text"),
         TEXT_TOO_LONG => say(b"the formula that came out is too long or too deep for a text"),
         TOO_MANY_TERMS => say(b"the sum has over 4,096 terms"),
         NO_NAME_PLACE => say(b"there are over 4,096 names"),
@@ -80,16 +84,22 @@ fn say_first(bytes: &[u8], count: usize) {
     }
 }
 
-fn say_steps(steps: u64, spent: bool) {
+// The walk's steps, and what may have stayed as it was typed.
+fn say_steps(steps: u64, spent: bool, deep: bool) {
     say(b"\nsteps ");
     say_number(steps);
     if spent {
         say(b", the budget is used up: not simplified");
     }
+    if deep {
+        say(b", ");
+        say_number(DEPTH as u64);
+        say(b" levels deep: what is deeper, if anything, stays as typed");
+    }
     say(b"\n");
 }
 
-// The terms kept and dropped, and a bound on what was dropped: each dropped term is a constant below the threshold of the setting, or a NaN. For a
+// The terms kept and dropped, and a bound on what was dropped: each dropped term is a constant below the threshold of the setting. For a
 // formula of the exact kind (01) the value has moved by less than that.
 fn say_pruned(setting: u32, kept: u64, dropped: u64) {
     say(b"kept ");
@@ -100,11 +110,11 @@ fn say_pruned(setting: u32, kept: u64, dropped: u64) {
         say(b"\nno term was dropped\n");
         return;
     }
-    say(b"\nthe dropped terms that are numbers are together below ");
-    say_number(dropped);
-    say(b" times the threshold of setting ");
-    say_number(setting as u64);
     say(b"\n");
+    say_threshold(setting);
+    say(b"the dropped terms are together below ");
+    say_number(dropped);
+    say(b" times the threshold\n");
 }
 
 fn show(outcome: Outcome, pruning: Pruning, text: &[u8]) {
@@ -113,11 +123,12 @@ fn show(outcome: Outcome, pruning: Pruning, text: &[u8]) {
             length,
             steps,
             spent,
+            deep,
             kept,
             dropped,
         } => {
             say_first(text, length);
-            say_steps(steps, spent);
+            say_steps(steps, spent, deep);
             match pruning {
                 Pruning::Skipped => {}
                 Pruning::BySetting(setting) => say_pruned(setting, kept, dropped),
@@ -136,7 +147,7 @@ fn run(typed: &[u8], pruning: Pruning) {
     let fresh = builder::fresh(&nodes, &mut slots);
     match fresh {
         FreshStore::Store(arena) => {
-            let outcome = write_back::answer(
+            let answered = write_back::answer(
                 typed,
                 pruning,
                 &mut nodes,
@@ -146,6 +157,7 @@ fn run(typed: &[u8], pruning: Pruning) {
                 0,
                 &mut text,
             );
+            let outcome = answered.outcome;
             show(outcome, pruning, &text);
         }
         FreshStore::Refused(number) => refuse(number),

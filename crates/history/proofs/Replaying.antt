@@ -4,23 +4,23 @@ use mathlib.Core.Path.{_≡_, refl, sym, ap, _∙_, subst}
 use mathlib.Core.Bool.{Bool, true, false}
 use mathlib.Core.Option.{none, some}
 use mathlib.Core.List.{List, [], _∷_, _++_, append-assoc, append-nil, map}
-use lib.ListN.{length, drop, length-append, length-drop, drop-of-length-le, replicate, length-replicate}
-use lib.Seq.{drop-at}
+use lib.ListN.{length, drop, length-append, length-drop, drop-of-length-le, replicate}
 use native.Mathlib.Omega.{arith}
 use Rattle.arena.specs.declared.DagArena.{DagArena}
 use Rattle.definitions.specs.Machine as M
 use Rattle.definitions.specs.Limits.{firstTableSize}
 use Rattle.definitions.specs.Names.{longestName}
 use Rattle.definitions.specs.Refusals.{noSlotPlace}
-use Rattle.definitions.specs.Controller.{ControllerCall}
+use Rattle.definitions.specs.Listing.{lastOf}
+use Rattle.definitions.specs.Lists.{Controller}
+use Rattle.definitions.specs.Controller.{ControllerCall, emptyController, controllers}
 use Rattle.definitions.specs.Promise.{Fresh, Promise}
 use Rattle.definitions.proofs.Histories.{demand3}
 use Rattle.definitions.proofs.Lifting.{fresh-beside}
 use Rattle.definitions.proofs.Listing.{last-more}
 use Rattle.store.specs.View.{lent}
-use Rattle.store.specs.Memory.{memory, model, Stays}
-use Rattle.store.proofs.Keeping.{later}
-use Rattle.store.proofs.Staying.{grown-up, least-size}
+use Rattle.store.specs.Memory.{memory, model, memoryAfter, Stays}
+use Rattle.store.proofs.Staying.{stays-is}
 use Rattle.builder.specs.declared.opening.FreshStore.{FreshStore}
 use Rattle.builder.specs.declared.opening.FreshStore.the-variants as F
 use Rattle.builder.specs.Opens.{freshAnswer, freshSlots, freshMemory, Opens}
@@ -35,14 +35,14 @@ use Rattle.definitions.specs.Beside.{beside}
 use Rattle.calls.specs.Memory.{freshControllerMemory, CallLeaves, done}
 use Rattle.history.specs.declared.Run.{Run}
 use Rattle.history.specs.declared.Opening.the-variants.{Opened, Refused}
-use Rattle.calls.specs.Encoding.{firstCall, decode, unread, readWords}
+use Rattle.encoding.specs.Encoding.{firstCall, decode, unread, readWords}
 use Rattle.calls.specs.Calling.{lastReplyOf}
-use Rattle.history.specs.Finding.{RunsCallAt, WholeCall}
-use Rattle.history.specs.Replaying.{after, Continues, RunsAll, Promised, NothingRun, Replays}
+use Rattle.encoding.specs.Finding.{WholeCall}
+use Rattle.history.specs.Replaying.{RunsCallAt, after, Continues, RunsAll, lentIn, Promised, NothingRun, Replays}
 use Rattle.history.proofs.Keeping.{history-of}
 use Rattle.calls.proofs.CodeCalls.{store-beside}
 use Rattle.history.proofs.Turns.{turns-more, stays-in-turn, NamesStay, names-in-turn, last-is}
-use Rattle.history.proofs.Decoding.{decode-none, decode-some, unread-none, unread-some, none-in-nothing}
+use Rattle.encoding.proofs.Decoding.{decode-none, decode-some, unread-none, unread-some, none-in-nothing}
 
 -- the calls before a place were run, so many of them, and with those from there on they are all
 pub record RunTo (m : ControllerMemory) (calls : List ℕ) (at : ℕ) (r : CallResult) (many : ℕ) (m′ : ControllerMemory) : Type 0 where
@@ -120,9 +120,10 @@ pub from-first : (words slots bytes calls : List ℕ) (h : CallResult) (arena : 
     → RunsAll (after words slots bytes h) calls r m′ → RunsAll (controllerMemory words slots arena bytes 0) calls r m′
 from-first words slots bytes calls h arena r m′ (e, z, f, g) k = subst (λ m. RunsAll m calls r m′) (λ i. controllerMemory words slots (f i) bytes (g i)) k
 
--- past the first 64 slots a fresh store leaves all as it was
-fresh-slots-past : (slots : List ℕ) (size : ℕ) → firstTableSize ≤ size → drop size (freshSlots false slots) ≡ drop size slots
-fresh-slots-past slots size h = later (freshSlots false slots) slots firstTableSize size h (drop-at (replicate firstTableSize 0) (drop firstTableSize slots) firstTableSize (length-replicate {A = ℕ} firstTableSize 0))
+-- what stands in the last memory is the last of what stands in each
+view-last : (m : ControllerMemory) (ms : List ControllerMemory) → lentController .view (lastOf m ms) ≡ lastOf (lentController .view m) (map (lentController .view) ms)
+view-last m [] = refl
+view-last m (m′ ∷ ms) = view-last m′ ms
 
 -- the promise, by demand 3
 pub promised : (words slots bytes : List ℕ) (cs : List ControllerCall) (r : CallResult) (words′ slots′ bytes′ : List ℕ) → Fresh model (freshMemory words slots)
@@ -132,15 +133,17 @@ promised words slots bytes cs r words′ slots′ bytes′ f e h =
     let p = demand3 lentController (freshControllerMemory words slots bytes) cs (h .answers) (h .memories) fresh (history-of (h .left)) in
     let s : Stays (freshMemory words slots) (memory words′ slots′ (r .arena)) = subst (λ (m : ControllerMemory). Stays (freshMemory words slots) (m .store)) (h .last-memory) (stays-in-turn (h .left) (f .sound)) in
     let n = subst (λ (m : ControllerMemory). NamesStay (nameMemory bytes 0) (m .names)) (h .last-memory) (names-in-turn (h .left) (no-names bytes .sound)) in
+    let plain : Promise (lentIn words slots bytes) cs (h .answers) (map (lentController .view) (h .memories))
+    = subst (λ l. Promise (record { store = l; names = lentEntries bytes }) cs (h .answers) (map (lentController .view) (h .memories))) e (p .0) in
+    let nodes : lentController .view (after words′ slots′ bytes′ r) ≡ lastOf emptyController (controllers (lentIn words slots bytes) emptyController cs)
+    = ap (lentController .view) (sym (h .last-memory)) ∙ view-last (freshControllerMemory words slots bytes) (h .memories) ∙ ap (λ (c : Controller). lastOf c (map (lentController .view) (h .memories))) (fresh .view) ∙ ap (lastOf emptyController) (plain .plain-states) in
     record {
       fresh = fresh;
       run = h;
-      promise = subst (λ l. Promise (record { store = l; names = lentEntries bytes }) cs (h .answers) (map (lentController .view) (h .memories))) e (p .0);
+      promise = plain;
       sound = p .1;
-      words-past = s .words-past;
-      slots-past = s .slots-past ∙ fresh-slots-past slots (r .arena .size) (grown-up _ _ _ (s .grown));
+      store = stays-is (freshMemory words slots) (memory words′ slots′ (r .arena)) (f .sound) s ∙ ap (λ (c : Controller). memoryAfter (freshMemory words slots) (c .nodes)) nodes;
       bytes-past = n .past;
-      size = least-size (freshMemory words slots) (memory words′ slots′ (r .arena)) refl s;
     }
 
 -- ---- a store that is opened, or not

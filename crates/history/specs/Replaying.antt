@@ -5,15 +5,15 @@ use mathlib.Core.Bool.{true, false}
 use mathlib.Core.Option.{Option, none, some}
 use mathlib.Core.List.{List, [], _∷_, map}
 use lib.ListN.{length, drop, replicate}
-use Rattle.arena.specs.Layout.{nodeWords}
 use Rattle.definitions.specs.Refusals.{noSlotPlace}
-use Rattle.definitions.specs.Intern.{tableSize}
 use Rattle.definitions.specs.Machine as M
 use Rattle.definitions.specs.Names.{entryBytes, longestName}
 use Rattle.definitions.specs.Listing.{lastOf}
-use Rattle.definitions.specs.Controller.{ControllerCall, ControllerAnswer, Part}
+use Rattle.definitions.specs.Controller.{LentLists, ControllerCall, ControllerAnswer, emptyController, controllers, Part}
 use Rattle.definitions.specs.Promise.{FreshController, Promise, All}
 use Rattle.store.specs.View.{lent}
+use Rattle.store.specs.Memory.{memory, memoryAfter}
+use Rattle.builder.specs.Opens.{freshMemory}
 use Rattle.names.specs.Sound.{lentEntries}
 use Rattle.calls.specs.declared.handing.CallResult.{CallResult}
 use Rattle.calls.specs.declared.handing.LastReply.the-variants as Last
@@ -23,8 +23,9 @@ use Rattle.history.specs.declared.Replayed.{Replayed}
 use Rattle.history.specs.declared.Opening.the-variants.{Opened, Refused}
 use Rattle.text.specs.Memory.{ControllerMemory, controllerMemory, lentController}
 use Rattle.calls.specs.Memory.{freshControllerMemory, LeavesInTurn}
-use Rattle.calls.specs.Encoding.{firstCall, decode, readWords}
-use Rattle.calls.specs.Calling.{lastReplyOf, NameBeside}
+use Rattle.encoding.specs.Encoding.{firstCall, decode, readWords}
+use Rattle.encoding.specs.Finding.{callBetween}
+use Rattle.calls.specs.Calling.{lastReplyOf, NameBeside, RunsCall}
 
 -- the last of a list, if there is one
 abbrev pub last : {A : Type 0} → List A → Option A
@@ -34,6 +35,9 @@ last (x ∷ xs) = some (lastOf x xs)
 -- the memory that was lent, after a call
 abbrev pub after : List ℕ → List ℕ → List ℕ → CallResult → ControllerMemory
 after words slots bytes r = controllerMemory words slots (r .arena) bytes (r .names)
+
+abbrev pub RunsCallAt : List ℕ → ℕ → ℕ → ControllerMemory → CallResult → ControllerMemory → Type 0
+RunsCallAt calls at end m r m′ = RunsCall (callBetween calls at end) m r m′
 
 -- Calls on any memory: the answers, the memory after each, and the last of both.
 pub record Continues (m : ControllerMemory) (cs : List ControllerCall) (r : CallResult) (m′ : ControllerMemory) : Type 0 where
@@ -56,22 +60,23 @@ pub record RunsAll (m : ControllerMemory) (calls : List ℕ) (r : Run) (m′ : C
   pub continues : Continues m (decode calls) (r .last) m′
   pub counts : Counts calls r
 
+-- how much is lent
+abbrev pub lentIn : List ℕ → List ℕ → List ℕ → LentLists
+lentIn words slots bytes = record { store = lent words slots; names = lentEntries bytes }
+
 -- "the first gets a fresh store", and the names are "empty at first": the calls were run from there, and keep the promise of demand 3, with store
 -- and names sound on the way.
 pub record Promised (words slots bytes : List ℕ) (cs : List ControllerCall) (r : CallResult) (words′ slots′ bytes′ : List ℕ)
     : Type 0 where
   pub fresh : FreshController lentController (freshControllerMemory words slots bytes)
   pub run : Continues (freshControllerMemory words slots bytes) cs r (after words′ slots′ bytes′ r)
-  pub promise : Promise (record { store = lent words slots; names = lentEntries bytes }) cs (run .answers)
-      (map (lentController .view) (run .memories))
+  pub promise : Promise (lentIn words slots bytes) cs (run .answers) (map (lentController .view) (run .memories))
   pub sound : All (λ m. (p : Part) → lentController .Sound m p) (run .memories)
-  -- "Words and slots past the used ones stay."
-  pub words-past : drop (r .arena .count * nodeWords) words′ ≡ drop (r .arena .count * nodeWords) words
-  pub slots-past : drop (r .arena .size) slots′ ≡ drop (r .arena .size) slots
+  -- the store after the last is the memory that the plain machine's nodes give over the fresh one
+  pub store : memory words′ slots′ (r .arena) ≡ memoryAfter (freshMemory words slots)
+      (lastOf emptyController (controllers (lentIn words slots bytes) emptyController cs) .nodes)
   -- bytes past the used entries stay
   pub bytes-past : drop (r .names * entryBytes) bytes′ ≡ drop (r .names * entryBytes) bytes
-  -- the table is the least "of 64, 128, 256 and so on" that holds the nodes
-  pub size : r .arena .size ≡ tableSize (r .arena .count)
 
 -- no call was run: there is no reply, no store and no name
 pub record NothingRun (r : Run) : Type 0 where

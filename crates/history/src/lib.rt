@@ -1,22 +1,19 @@
 // A list of calls, run on one store and one name list: the request's demand 3 as the contract of code. Calls are words, as specs/Encoding.antt of
-// calls says.
-mod finding;
-
+// encoding says.
 ghost use Prim.Native.Nat.{_+_, _≤_};
 ghost use lib.ListN.{length, getD};
 ghost use Rattle.text.specs.Memory.{controllerMemory};
-ghost use Rattle.calls.specs.Encoding.{headerWords, lastCode};
-ghost use Rattle.history.specs.Finding.{RunsCallAt};
-ghost use Rattle.history.specs.Replaying.{after, RunsAll, Replays};
+ghost use Rattle.encoding.specs.Encoding.{headerWords, lastCode};
+ghost use Rattle.history.specs.Replaying.{RunsCallAt, after, RunsAll, Replays};
 use arena::DagArena;
 use builder::FreshStore;
 use builder::fresh;
 use calls::CallResult;
 use calls::at_first;
 use calls::call;
-use finding::HEADER_WORDS;
-use finding::Next;
-use finding::next_call;
+use encoding::finding::HEADER_WORDS;
+use encoding::finding::Next;
+use encoding::finding::next_call;
 
 pub struct Run {
     // The reply of the last call, and the store's count and size and the number of names after it.

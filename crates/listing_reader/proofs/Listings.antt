@@ -47,7 +47,7 @@ no-dash n r s h e =
     let d : decimal n ++ (lineFeed ∷ r) ≡ 45 ∷ lineFeed ∷ s = ap (drop 3) e in
     false≢true (ap (λ (l : List ℕ). isDigit (getD l 0 0)) (sym d) ∙ starts-with-digit n (lineFeed ∷ r) h)
 
-first-unique : (o p : Outcome) (r s : List ℕ) → SmallOutcome o → SmallOutcome p → firstLineOf o ++ lineFeed ∷ r ≡ firstLineOf p ++ lineFeed ∷ s → (o ≡ p) × (r ≡ s)
+pub first-unique : (o p : Outcome) (r s : List ℕ) → SmallOutcome o → SmallOutcome p → firstLineOf o ++ lineFeed ∷ r ≡ firstLineOf p ++ lineFeed ∷ s → (o ≡ p) × (r ≡ s)
 first-unique (O.Ok i) (O.Ok j) r s a b e = let u = line-behind-unique okWord i j r s a b (sym (ok-text i r) ∙ e ∙ ok-text j s) in (ap O.Ok (u .0), u .1)
 first-unique (O.Ok i) O.Empty r s a b e = absurd (no-dash i r s a (sym (ok-text i r) ∙ e ∙ empty-text s))
 first-unique (O.Ok i) (O.Spent j) r s a b e = absurd (differ 111 115 (λ z. omega arith) refl refl (sym (ok-text i r) ∙ e ∙ spent-text j s))
@@ -84,7 +84,7 @@ pub record Agrees (w w′ : List ℕ) (o o′ : Outcome) (c c′ : ℕ) (rest : 
   pub outcomes : o ≡ o′
   pub nodes : Longer w w′ c c′ 0 rest
 
-run-of : {bytes : List ℕ} {o : Outcome} {w : List ℕ} {c : ℕ} {rest : List ℕ} → Begins bytes o w c rest → Run w c 0
+pub run-of : {bytes : List ℕ} {o : Outcome} {w : List ℕ} {c : ℕ} {rest : List ℕ} → Begins bytes o w c rest → Run w c 0
 run-of {w = w} {c = c} b = record {
   each = λ k l.
       let z : k ≡ 0 + k = omega arith in

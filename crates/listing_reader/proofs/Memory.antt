@@ -104,20 +104,20 @@ lines-are w (suc count) =
 pub record Run (w : List ℕ) (j i : ℕ) : Type 0 where
   pub each : (k : ℕ) → k < j → WellFormed (i + k) (nodeAt w (i + k)) × (nodeAt w (i + k) .payload < wordEnd)
 
-run-next : {w : List ℕ} {j i : ℕ} → Run w (suc j) i → Run w j (suc i)
+pub run-next : {w : List ℕ} {j i : ℕ} → Run w (suc j) i → Run w j (suc i)
 run-next {w} {j} {i} h = record {
   each = λ k l.
       let z : i + suc k ≡ suc i + k = omega arith in
       subst (λ (x : ℕ). WellFormed x (nodeAt w x) × (nodeAt w x .payload < wordEnd)) z (h .each (suc k) (omega arith));
 }
 
-run-line : {w : List ℕ} {j i : ℕ} → Run w (suc j) i → (rest : List ℕ) → LineOf (nodeLine i (plainNode (nodeAt w i)) ++ lineFeed ∷ rest) i (nodeAt w i) rest
+pub run-line : {w : List ℕ} {j i : ℕ} → Run w (suc j) i → (rest : List ℕ) → LineOf (nodeLine i (plainNode (nodeAt w i)) ++ lineFeed ∷ rest) i (nodeAt w i) rest
 run-line {w} {j} {i} h rest =
     let z : i + 0 ≡ i = omega arith in
     let f = subst (λ (x : ℕ). WellFormed x (nodeAt w x) × (nodeAt w x .payload < wordEnd)) z (h .each 0 (omega arith)) in
     record { is = refl; formed = f .0; four = children-length w i; wide = f .1 }
 
-not-empty : (a : List ℕ) (b : ℕ) (c : List ℕ) → [] ≡ a ++ b ∷ c → ⊥
+pub not-empty : (a : List ℕ) (b : ℕ) (c : List ℕ) → [] ≡ a ++ b ∷ c → ⊥
 not-empty a b c e = let l : 0 ≡ length a + suc (length c) = ap length e ∙ length-append a (b ∷ c) in omega arith
 
 -- what is left of the longer one

@@ -10,8 +10,8 @@ use lib.Ieee.{binary64, ofBits}
 use native.Mathlib.Omega.{arith}
 use borrow.Author.Tests.{eqb-true, leb-true, ltb-true, ltb-false}
 use Rattle.definitions.specs.Limits.{mostTerms, mostDepth, mostChildren}
-use Rattle.definitions.specs.Refusals.{badOperand, badCode, badChildCount, tooManyTerms}
-use Rattle.definitions.specs.Node.{Node, at, addKind, subKind, childCountListed}
+use Rattle.definitions.specs.Refusals.{badOperand, badCode, notANumber, badChildCount, tooManyTerms}
+use Rattle.definitions.specs.Node.{Node, at, addKind, subKind, nanConstant, childCountListed}
 use Rattle.definitions.specs.Intern.{Lent, Built, built, stopped, intern}
 use Rattle.definitions.specs.Walk.{Walked, finished, spent, halted, walkRoot, standard}
 use Rattle.definitions.specs.Prune.{chain, keeps, filter, flatten, sumOfKept}
@@ -39,7 +39,7 @@ use Rattle.store.specs.Sound.{Sound as StoreSound}
 use Rattle.store.specs.View.{nodesIn}
 use Rattle.store.specs.Memory.{Memory, model}
 use Rattle.store.proofs.Viewing.{plain-length}
-use Rattle.store.proofs.Reading.{child-low, lookup-of, listed-at}
+use Rattle.store.proofs.Reading.{child-low, lookup-of, listed-at, number-at}
 use Rattle.listing_lines.specs.Outcome.{answeredAs, outcomeOf}
 use Rattle.listing_reader.specs.Listing.{AnswerListed}
 
@@ -58,17 +58,18 @@ IsNode o = Below (o .answer) (length (o .nodes))
 store-node : (l : Lent) (ns : List Node) (r : Request) → Sound ns → IsNode (storeCall l ns r)
 unfolding storeCall
 store-node l ns r s =
-    go (r .listed) (childCountListed (r .node .kind) (r .node .payload) (length (r .node .children))) (allBelow (length ns) (r .node .children)) (intern l ns (r .node)) (builds l ns r s .says)
+    go (r .listed) (nanConstant (r .node .kind) (r .node .payload)) (childCountListed (r .node .kind) (r .node .payload) (length (r .node .children))) (allBelow (length ns) (r .node .children)) (intern l ns (r .node)) (builds l ns r s .says)
   where
-    answered : Bool → Bool → Bool → Built → Outcome
-    answered a b c m = cond a (cond b (cond c (storedAs m) (outcome (refused badOperand) ns)) (outcome (refused badChildCount) ns)) (outcome (refused badCode) ns)
+    answered : Bool → Bool → Bool → Bool → Built → Outcome
+    answered a n b c m = cond a (cond n (outcome (refused notANumber) ns) (cond b (cond c (storedAs m) (outcome (refused badOperand) ns)) (outcome (refused badChildCount) ns))) (outcome (refused badCode) ns)
 
-    go : (a b c : Bool) (m : Built) → StoreSays ns (r .node) (answered a b c m .nodes) (answered a b c m .answer) → IsNode (answered a b c m)
-    go true true true (built ms i) h = h .0
-    go true true true (stopped ms k) h = tt
-    go true true false m h = tt
-    go true false c m h = tt
-    go false b c m h = tt
+    go : (a n b c : Bool) (m : Built) → StoreSays ns (r .node) (answered a n b c m .nodes) (answered a n b c m .answer) → IsNode (answered a n b c m)
+    go true true b c m h = tt
+    go true false true true (built ms i) h = h .0
+    go true false true true (stopped ms k) h = tt
+    go true false true false m h = tt
+    go true false false c m h = tt
+    go false n b c m h = tt
 
 simplify-node : (l : Lent) (ns : List Node) (i depth budget : ℕ) → Sound ns → IsNode (simplifyCall standard l ns i depth budget)
 unfolding simplifyCall
@@ -193,6 +194,7 @@ plain-sound words slots arena h i l =
     record {
       low = all-lower i (at (nodesIn words (arena .count)) i .children) (child-low words (arena .count) i (lookup-of words slots arena h i below));
       filled = filled _ _ _ (listed-at words slots arena h i below);
+      number = number-at words slots arena h i below;
     }
 
 -- Every sheet on every sound store: nodes that are those that the sheet leaves have the answer among them.

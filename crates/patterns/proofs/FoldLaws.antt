@@ -1,6 +1,6 @@
 -- Each way of folding two operands, as a decision.
 use Prim.Native.Nat.{ℕ}
-use mathlib.Core.Path.{_≡_, refl, ap, subst}
+use mathlib.Core.Path.{_≡_, refl, sym, ap, _∙_, subst}
 use mathlib.Core.List.{List, []}
 use mathlib.Core.Option.{Option, none, some}
 use lib.Ieee.{Float, binary64, toBits}
@@ -9,6 +9,8 @@ use Rattle.definitions.specs.Node.{Node, node, at, constantKind}
 use Rattle.definitions.specs.Intern.{Lent, Built, intern}
 use Rattle.definitions.specs.Patterns.{constantValue, internConstant, constantFold, foldBoth, folded, fold}
 use Rattle.fold.specs.Fold.{stored}
+use Rattle.fold.specs.Exactness.{NumberAnswer}
+use Rattle.fold.specs.declared.Folded.{Folded}
 use Rattle.fold.specs.declared.Folded.the-variants as F
 use Rattle.store.specs.View.{nodesIn}
 use Rattle.patterns.specs.Deciding.{Both, Decides}
@@ -52,8 +54,8 @@ module _ {w : List ℕ} {count a b : ℕ} (h : Both w count a b) (k : ℕ) where
       both l o e =
           subst (λ (t : Option Float). o ≡ foldBoth l (nodesIn w count) k t y) p (subst (λ (t : Option Float). o ≡ foldBoth l (nodesIn w count) k (some u) t) q e)
 
-      pub folds : (i : ℕ) → F.Bits i ≡ stored (fold k u v) → Decides w count folding (Fits (Constant i))
-      folds i e = record { is = λ l. both l _ (stored-built l (nodesIn w count) i (fold k u v) e); low = tt }
+      pub folds : (i : ℕ) (f : Folded) → f ≡ F.Bits i → f ≡ stored (fold k u v) → NumberAnswer f → Decides w count folding (Fits (Constant i))
+      folds i f e g n = record { is = λ l. both l _ (stored-built l (nodesIn w count) i (fold k u v) (sym e ∙ g)); low = subst NumberAnswer e n }
 
       pub fold-declined : F.Declined ≡ stored (fold k u v) → Decides w count folding Declined
       fold-declined e = record { is = λ l. both l _ (declined-built l (nodesIn w count) (fold k u v) e); low = tt }

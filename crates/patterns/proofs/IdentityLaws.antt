@@ -4,12 +4,13 @@ use mathlib.Core.Path.{_≡_, refl, ap}
 use mathlib.Core.Bool.{true, false, _&&_}
 use mathlib.Core.List.{List, []}
 use mathlib.Core.Option.{Option, none, some}
-use lib.Ieee.{Float, toBits}
+use lib.Ieee.{Float, toBits, nanBits}
 use borrow.Author.Tests.{eq-eqb, ne-eqb}
 use Rattle.definitions.specs.Node.{Node, node, at, constantKind}
 use Rattle.definitions.specs.Intern.{Lent, Built, intern}
 use Rattle.definitions.specs.Patterns.{constantValue, isZero, isOne, isFinite, isPositive, zero64, one64, internConstant, addZero, subIdentity, mulIdentity, divIdentity, powIdentity}
 use Rattle.store.specs.View.{nodesIn}
+use Rattle.patterns.specs.Carrying.{Number}
 use Rattle.patterns.specs.Deciding.{Both, Decides}
 use Rattle.patterns.specs.declared.PatternResult.the-variants.{Fits, Declined}
 use Rattle.patterns.specs.declared.Replacement.the-variants.{Id, Constant}
@@ -25,6 +26,14 @@ zero-built l ns = refl
 one-built : (l : Lent) (ns : List Node) → intern l ns (node constantKind oneBits 0 []) ≡ internConstant l ns one64
 unfolding internConstant toBits
 one-built l ns = refl
+
+zero-number : Number 0
+unfolding nanBits
+zero-number = refl
+
+one-number : Number oneBits
+unfolding nanBits
+one-number = refl
 
 module _ {w : List ℕ} {count a b : ℕ} (h : Both w count a b) where
   abbrev x : Option Float
@@ -77,7 +86,7 @@ module _ {w : List ℕ} {count a b : ℕ} (h : Both w count a b) where
   module _ (n : isZero (constantValue (at (nodesIn w count) b)) ≡ false) where
     pub minus-itself : a ≡ b → zeros difference
     unfolding subIdentity
-    minus-itself e = record { is = λ l. rw (n, eq-eqb a b e) (ap some (zero-built l (nodesIn w count))); low = tt }
+    minus-itself e = record { is = λ l. rw (n, eq-eqb a b e) (ap some (zero-built l (nodesIn w count))); low = zero-number }
 
     pub minus-declines : (a ≡ b → ⊥) → declines difference
     unfolding subIdentity
@@ -89,12 +98,12 @@ module _ {w : List ℕ} {count a b : ℕ} (h : Both w count a b) where
 
   pub zero-times : (isZero x && isFinite y) ≡ true → zeros product
   unfolding mulIdentity
-  zero-times e = record { is = λ l. rw e (ap some (zero-built l (nodesIn w count))); low = tt }
+  zero-times e = record { is = λ l. rw e (ap some (zero-built l (nodesIn w count))); low = zero-number }
 
   module _ (n : (isZero (constantValue (at (nodesIn w count) a)) && isFinite (constantValue (at (nodesIn w count) b))) ≡ false) where
     pub times-zero : (isZero y && isFinite x) ≡ true → zeros product
     unfolding mulIdentity
-    times-zero e = record { is = λ l. rw (n, e) (ap some (zero-built l (nodesIn w count))); low = tt }
+    times-zero e = record { is = λ l. rw (n, e) (ap some (zero-built l (nodesIn w count))); low = zero-number }
 
     module _ (m : (isZero (constantValue (at (nodesIn w count) b)) && isFinite (constantValue (at (nodesIn w count) a))) ≡ false) where
       pub one-times : isOne x ≡ true → rights product
@@ -120,7 +129,7 @@ module _ {w : List ℕ} {count a b : ℕ} (h : Both w count a b) where
   module _ (n : isOne (constantValue (at (nodesIn w count) b)) ≡ false) where
     pub zero-over : isZero x ≡ true → zeros quotient
     unfolding divIdentity
-    zero-over e = record { is = λ l. rw (n, e) (ap some (zero-built l (nodesIn w count))); low = tt }
+    zero-over e = record { is = λ l. rw (n, e) (ap some (zero-built l (nodesIn w count))); low = zero-number }
 
     module _ (m : isZero (constantValue (at (nodesIn w count) a)) ≡ false) where
       pub over-another : (a ≡ b → ⊥) → declines quotient
@@ -129,7 +138,7 @@ module _ {w : List ℕ} {count a b : ℕ} (h : Both w count a b) where
 
       pub over-itself : (v : Float) → a ≡ b → some v ≡ x → ones quotient
       unfolding divIdentity
-      over-itself v e c = record { is = λ l. rw (n, m, eq-eqb a b e, constant-kind (at (nodesIn w count) a) v c) (ap some (one-built l (nodesIn w count))); low = tt }
+      over-itself v e c = record { is = λ l. rw (n, m, eq-eqb a b e, constant-kind (at (nodesIn w count) a) v c) (ap some (one-built l (nodesIn w count))); low = one-number }
 
       pub over-declines : a ≡ b → none ≡ x → declines quotient
       unfolding divIdentity
@@ -141,7 +150,7 @@ module _ {w : List ℕ} {count a b : ℕ} (h : Both w count a b) where
 
   pub to-zero : isZero y ≡ true → ones power
   unfolding powIdentity
-  to-zero e = record { is = λ l. rw e (ap some (one-built l (nodesIn w count))); low = tt }
+  to-zero e = record { is = λ l. rw e (ap some (one-built l (nodesIn w count))); low = one-number }
 
   module _ (n : isZero (constantValue (at (nodesIn w count) b)) ≡ false) where
     pub to-one : isOne y ≡ true → lefts power
@@ -151,7 +160,7 @@ module _ {w : List ℕ} {count a b : ℕ} (h : Both w count a b) where
     module _ (m : isOne (constantValue (at (nodesIn w count) b)) ≡ false) where
       pub of-one : isOne x ≡ true → ones power
       unfolding powIdentity
-      of-one e = record { is = λ l. rw (n, m, e) (ap some (one-built l (nodesIn w count))); low = tt }
+      of-one e = record { is = λ l. rw (n, m, e) (ap some (one-built l (nodesIn w count))); low = one-number }
 
       module _ (o : isOne (constantValue (at (nodesIn w count) a)) ≡ false) where
         pub power-declines : isZero x ≡ false → declines power
@@ -160,7 +169,7 @@ module _ {w : List ℕ} {count a b : ℕ} (h : Both w count a b) where
 
         pub of-zero : isZero x ≡ true → isPositive y ≡ true → zeros power
         unfolding powIdentity
-        of-zero e f = record { is = λ l. rw (n, m, o, e, f) (ap some (zero-built l (nodesIn w count))); low = tt }
+        of-zero e f = record { is = λ l. rw (n, m, o, e, f) (ap some (zero-built l (nodesIn w count))); low = zero-number }
 
         pub of-zero-declines : isZero x ≡ true → isPositive y ≡ false → declines power
         unfolding powIdentity

@@ -13,9 +13,13 @@ use borrow.Author.Tests.{ne-eqb}
 use Rattle.definitions.specs.Limits.{mostChildren}
 use Rattle.definitions.specs.Node.{Node, at, addKind, subKind, mulKind, divKind, powKind, negKind}
 use Rattle.definitions.specs.Intern.{Lent, Built}
-use Rattle.definitions.specs.Patterns.{orElse, constantValue, addZero, subIdentity, mulIdentity, divIdentity, powIdentity, negDouble, identities, fold, foldBoth, constantFold, mulCoefMerge, addCoefMerge, merges, tryApply}
+use Rattle.definitions.specs.Walk.{Mode, standard, strict}
+use Rattle.definitions.specs.Strict.{strictIdentities, strictApply}
+use Rattle.definitions.specs.Patterns.{orElse, constantValue, addZero, subIdentity, mulIdentity, divIdentity, powIdentity, negDouble, identities, binary64Result, fold, foldBoth, constantFold, mulCoefMerge, addCoefMerge, merges, tryApply}
 use Rattle.store.specs.View.{nodesIn}
 use Rattle.patterns.specs.Deciding.{Decides, plainResult, declines}
+use Rattle.patterns.specs.Strictly.{applyAs}
+use Rattle.patterns.proofs.StrictLaws.{no-strict-identity}
 use Rattle.patterns.specs.declared.PatternResult.{PatternResult}
 use Rattle.patterns.specs.declared.PatternResult.the-variants.{Fits, Declined}
 
@@ -81,7 +85,7 @@ unfolding merges
 no-merge k a b x y l ns = rw (ne-eqb k mulKind x, ne-eqb k addKind y) refl
 
 no-fold : (k a b : ℕ) → (k ≡ addKind → ⊥) → (k ≡ subKind → ⊥) → (k ≡ mulKind → ⊥) → (k ≡ divKind → ⊥) → (l : Lent) (ns : List Node) → none ≡ constantFold l ns k a b
-unfolding constantFold fold
+unfolding constantFold fold binary64Result
 no-fold k a b x y z u l ns = go (constantValue (at ns a)) (constantValue (at ns b))
   where
     go : (s t : Option Float) → none ≡ foldBoth l ns k s t
@@ -102,12 +106,24 @@ no-binary l ns k a b h =
     let m = no-merge k a b (n 4 (omega arith) (omega arith)) (n 2 (omega arith) (omega arith)) l ns in
     rw (← i, ← f, ← m) refl
 
-no-pattern : (l : Lent) (ns : List Node) (k : ℕ) (c : List ℕ) → (length c ≡ 1 → k ≡ negKind → ⊥) → (length c ≡ 2 → (k < addKind) ⊎ (powKind < k)) → none ≡ tryApply l ns k c
-unfolding tryApply
-no-pattern l ns k [] u v = refl
-no-pattern l ns k (a ∷ []) u v = rw (ne-eqb k negKind (u refl)) refl
-no-pattern l ns k (a ∷ b ∷ []) u v = no-binary l ns k a b (v refl)
-no-pattern l ns k (a ∷ b ∷ c ∷ r) u v = refl
+no-strict-binary : (l : Lent) (ns : List Node) (k a b : ℕ) → (k < addKind) ⊎ (powKind < k) → none ≡ strictApply l ns k (a ∷ b ∷ [])
+unfolding strictApply
+no-strict-binary l ns k a b h =
+    let n : (j : ℕ) → addKind ≤ j → j ≤ powKind → k ≡ j → ⊥ = λ j p q e. elim h [ inl x ↦ omega arith | inr x ↦ omega arith ] in
+    let i = no-strict-identity k a b (n 2 (omega arith) (omega arith)) (n 3 (omega arith) (omega arith)) (n 4 (omega arith) (omega arith)) (n 5 (omega arith) (omega arith)) l ns in
+    let f = no-fold k a b (n 2 (omega arith) (omega arith)) (n 3 (omega arith) (omega arith)) (n 4 (omega arith) (omega arith)) (n 5 (omega arith) (omega arith)) l ns in
+    rw (← i, ← f) refl
+
+no-pattern : (m : Mode) (l : Lent) (ns : List Node) (k : ℕ) (c : List ℕ) → (length c ≡ 1 → k ≡ negKind → ⊥) → (length c ≡ 2 → (k < addKind) ⊎ (powKind < k)) → none ≡ applyAs m l ns k c
+unfolding applyAs tryApply strictApply
+no-pattern standard l ns k [] u v = refl
+no-pattern standard l ns k (a ∷ []) u v = rw (ne-eqb k negKind (u refl)) refl
+no-pattern standard l ns k (a ∷ b ∷ []) u v = no-binary l ns k a b (v refl)
+no-pattern standard l ns k (a ∷ b ∷ c ∷ r) u v = refl
+no-pattern strict l ns k [] u v = refl
+no-pattern strict l ns k (a ∷ []) u v = rw (ne-eqb k negKind (u refl)) refl
+no-pattern strict l ns k (a ∷ b ∷ []) u v = no-strict-binary l ns k a b (v refl)
+no-pattern strict l ns k (a ∷ b ∷ c ∷ r) u v = refl
 
 -- the four child places, written out
 pub four-places : (c : List ℕ) → length c ≡ mostChildren → c ≡ getD c 0 0 ∷ getD c 1 0 ∷ getD c 2 0 ∷ getD c 3 0 ∷ []
@@ -118,16 +134,29 @@ four-places (a ∷ b ∷ c ∷ []) e = absurd (omega arith)
 four-places (a ∷ b ∷ c ∷ d ∷ []) e = refl
 four-places (a ∷ b ∷ c ∷ d ∷ x ∷ l) e = absurd (omega arith)
 
-module _ (k n : ℕ) (c : List ℕ) (len : length c ≡ 4) where
-  pub one-child : n ≡ 1 → k ≡ negKind → (l : Lent) (ns : List Node) → negDouble ns (getD c 0 0) ≡ tryApply l ns k (take n c)
-  unfolding tryApply
-  one-child e h l ns = rw (e, h) (ap (λ (d : List ℕ). tryApply l ns negKind (take 1 d)) (sym (four-places c len)))
+-- an operator of two operands in a mode
+pub standard-applies : {m : Mode} → m ≡ standard → (k : ℕ) (c : List ℕ) (l : Lent) (ns : List Node) → tryApply l ns k c ≡ applyAs m l ns k c
+unfolding applyAs
+standard-applies e k c l ns = rw e refl
 
-  pub two-children : n ≡ 2 → (l : Lent) (ns : List Node) → tryApply l ns k (getD c 0 0 ∷ getD c 1 0 ∷ []) ≡ tryApply l ns k (take n c)
-  two-children e l ns = rw e (ap (λ (d : List ℕ). tryApply l ns k (take 2 d)) (sym (four-places c len)))
+pub strict-applies : {m : Mode} → m ≡ strict → (k : ℕ) (c : List ℕ) (l : Lent) (ns : List Node) → strictApply l ns k c ≡ applyAs m l ns k c
+unfolding applyAs
+strict-applies e k c l ns = rw e refl
+
+module _ (m : Mode) (k n : ℕ) (c : List ℕ) (len : length c ≡ 4) where
+  negated : (m : Mode) (l : Lent) (ns : List Node) (a : ℕ) → negDouble ns a ≡ applyAs m l ns negKind (a ∷ [])
+  unfolding applyAs tryApply strictApply
+  negated standard l ns a = refl
+  negated strict l ns a = refl
+
+  pub one-child : n ≡ 1 → k ≡ negKind → (l : Lent) (ns : List Node) → negDouble ns (getD c 0 0) ≡ applyAs m l ns k (take n c)
+  one-child e h l ns = rw (e, h) (negated m l ns (getD c 0 0) ∙ ap (λ (d : List ℕ). applyAs m l ns negKind (take 1 d)) (sym (four-places c len)))
+
+  pub two-children : n ≡ 2 → (l : Lent) (ns : List Node) → applyAs m l ns k (getD c 0 0 ∷ getD c 1 0 ∷ []) ≡ applyAs m l ns k (take n c)
+  two-children e l ns = rw e (ap (λ (d : List ℕ). applyAs m l ns k (take 2 d)) (sym (four-places c len)))
 
   -- no pattern for the number of children, or for the kind
-  pub nothing-fits : n ≤ 4 → (n ≡ 1 → k ≡ negKind → ⊥) → (n ≡ 2 → (k < addKind) ⊎ (powKind < k)) → (l : Lent) (ns : List Node) → none ≡ tryApply l ns k (take n c)
+  pub nothing-fits : n ≤ 4 → (n ≡ 1 → k ≡ negKind → ⊥) → (n ≡ 2 → (k < addKind) ⊎ (powKind < k)) → (l : Lent) (ns : List Node) → none ≡ applyAs m l ns k (take n c)
   nothing-fits h u v l ns =
       let e : length (take n c) ≡ n = length-take-le n c (omega arith) in
-      no-pattern l ns k (take n c) (λ x. u (sym e ∙ x)) (λ x. v (sym e ∙ x))
+      no-pattern m l ns k (take n c) (λ x. u (sym e ∙ x)) (λ x. v (sym e ∙ x))

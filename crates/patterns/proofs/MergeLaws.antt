@@ -8,6 +8,7 @@ use Rattle.definitions.specs.Node.{Node, at, addKind, mulKind}
 use Rattle.definitions.specs.Intern.{Lent, Built}
 use Rattle.definitions.specs.Patterns.{constantValue, pairOf, internConstant, internAdd, internMul, fold, mulLeft, mulRight, mulMerged, mulMerge, addRight, addMerged, addMerge, addCoefMerge}
 use Rattle.fold.specs.Fold.{stored}
+use Rattle.fold.specs.Exactness.{NumberAnswer}
 use Rattle.fold.specs.declared.Folded.{Folded}
 use Rattle.fold.specs.declared.Folded.the-variants as F
 use Rattle.arena.specs.Kind.{operatorArity}
@@ -71,13 +72,13 @@ add-operand : (count q : ℕ) → q < count → Operand count addKind q
 unfolding listed operatorArity
 add-operand count q h = record { below = h; listing = refl }
 
-left-low : (count k q : ℕ) (f : Folded) → Operand count k q → ResultLow count (leftOf k f q)
-left-low count k q (F.Bits b) h = h
-left-low count k q F.Declined h = tt
+left-low : (count k q : ℕ) (f : Folded) → Operand count k q → NumberAnswer f → ResultLow count (leftOf k f q)
+left-low count k q (F.Bits b) h n = (h, n)
+left-low count k q F.Declined h n = tt
 
-right-low : (count k q : ℕ) (f : Folded) → Operand count k q → ResultLow count (rightOf k f q)
-right-low count k q (F.Bits b) h = h
-right-low count k q F.Declined h = tt
+right-low : (count k q : ℕ) (f : Folded) → Operand count k q → NumberAnswer f → ResultLow count (rightOf k f q)
+right-low count k q (F.Bits b) h n = (h, n)
+right-low count k q F.Declined h n = tt
 
 -- ---- a constant a beside a product b
 module _ {w : List ℕ} {count a b : ℕ} (both : Both w count a b) where
@@ -96,20 +97,20 @@ module _ {w : List ℕ} {count a b : ℕ} (both : Both w count a b) where
     pub no-product : neither ≡ split (nodesIn w count) (pairOf mulKind (at (nodesIn w count) b)) → Decides w count product Declined
     no-product e = record { is = product-of neither e; low = tt }
 
-    pub left-factor : {d : Float} {q : ℕ} {f : Folded} {r : PatternResult} → left d q ≡ split (nodesIn w count) (pairOf mulKind (at (nodesIn w count) b)) → q < count → f ≡ stored (fold mulKind d c) → r ≡ leftOf mulKind f q → Decides w count product r
-    left-factor {d} {q} {f} {r} e h g i = record {
+    pub left-factor : {d : Float} {q : ℕ} {f : Folded} {r : PatternResult} → left d q ≡ split (nodesIn w count) (pairOf mulKind (at (nodesIn w count) b)) → q < count → f ≡ stored (fold mulKind d c) → NumberAnswer f → r ≡ leftOf mulKind f q → Decides w count product r
+    left-factor {d} {q} {f} {r} e h g n i = record {
       is = λ l.
           ap (plainResult l (nodesIn w count)) (i ∙ ap (λ (t : Folded). leftOf mulKind t q) g) ∙ left-product l (nodesIn w count) q (fold mulKind d c)
           ∙ product-of (left d q) e l;
-      low = subst (ResultLow count) (sym i) (left-low count mulKind q f (mul-operand count q h));
+      low = subst (ResultLow count) (sym i) (left-low count mulKind q f (mul-operand count q h) n);
     }
 
-    pub right-factor : {d : Float} {q : ℕ} {f : Folded} {r : PatternResult} → right d q ≡ split (nodesIn w count) (pairOf mulKind (at (nodesIn w count) b)) → q < count → f ≡ stored (fold mulKind d c) → r ≡ rightOf mulKind f q → Decides w count product r
-    right-factor {d} {q} {f} {r} e h g i = record {
+    pub right-factor : {d : Float} {q : ℕ} {f : Folded} {r : PatternResult} → right d q ≡ split (nodesIn w count) (pairOf mulKind (at (nodesIn w count) b)) → q < count → f ≡ stored (fold mulKind d c) → NumberAnswer f → r ≡ rightOf mulKind f q → Decides w count product r
+    right-factor {d} {q} {f} {r} e h g n i = record {
       is = λ l.
           ap (plainResult l (nodesIn w count)) (i ∙ ap (λ (t : Folded). rightOf mulKind t q) g) ∙ right-product l (nodesIn w count) q (fold mulKind d c)
           ∙ product-of (right d q) e l;
-      low = subst (ResultLow count) (sym i) (right-low count mulKind q f (mul-operand count q h));
+      low = subst (ResultLow count) (sym i) (right-low count mulKind q f (mul-operand count q h) n);
     }
 
 -- ---- a sum a beside a constant b
@@ -131,16 +132,16 @@ module _ {w : List ℕ} {count a b : ℕ} (both : Both w count a b) where
     pub no-sum : neither ≡ split (nodesIn w count) (pairOf addKind (at (nodesIn w count) a)) → Decides w count sum Declined
     no-sum e = record { is = sum-of neither e; low = tt }
 
-    term : (d : Float) {q : ℕ} {f : Folded} {r : PatternResult} (s : Split) → s ≡ split (nodesIn w count) (pairOf addKind (at (nodesIn w count) a)) → ((l : Lent) → addRight l (nodesIn w count) q (fold addKind d c) ≡ addSplit l (nodesIn w count) c s) → q < count → f ≡ stored (fold addKind d c) → r ≡ rightOf addKind f q → Decides w count sum r
-    term d {q} {f} {r} s e t h g i = record {
+    term : (d : Float) {q : ℕ} {f : Folded} {r : PatternResult} (s : Split) → s ≡ split (nodesIn w count) (pairOf addKind (at (nodesIn w count) a)) → ((l : Lent) → addRight l (nodesIn w count) q (fold addKind d c) ≡ addSplit l (nodesIn w count) c s) → q < count → f ≡ stored (fold addKind d c) → NumberAnswer f → r ≡ rightOf addKind f q → Decides w count sum r
+    term d {q} {f} {r} s e t h g n i = record {
       is = λ l.
           ap (plainResult l (nodesIn w count)) (i ∙ ap (λ (t : Folded). rightOf addKind t q) g) ∙ right-sum l (nodesIn w count) q (fold addKind d c)
           ∙ t l ∙ sum-of s e l;
-      low = subst (ResultLow count) (sym i) (right-low count addKind q f (add-operand count q h));
+      low = subst (ResultLow count) (sym i) (right-low count addKind q f (add-operand count q h) n);
     }
 
-    pub left-term : {d : Float} {q : ℕ} {f : Folded} {r : PatternResult} → left d q ≡ split (nodesIn w count) (pairOf addKind (at (nodesIn w count) a)) → q < count → f ≡ stored (fold addKind d c) → r ≡ rightOf addKind f q → Decides w count sum r
-    left-term {d} {q} e h g i = term d (left d q) e (λ l. refl) h g i
+    pub left-term : {d : Float} {q : ℕ} {f : Folded} {r : PatternResult} → left d q ≡ split (nodesIn w count) (pairOf addKind (at (nodesIn w count) a)) → q < count → f ≡ stored (fold addKind d c) → NumberAnswer f → r ≡ rightOf addKind f q → Decides w count sum r
+    left-term {d} {q} e h g n i = term d (left d q) e (λ l. refl) h g n i
 
-    pub right-term : {d : Float} {q : ℕ} {f : Folded} {r : PatternResult} → right d q ≡ split (nodesIn w count) (pairOf addKind (at (nodesIn w count) a)) → q < count → f ≡ stored (fold addKind d c) → r ≡ rightOf addKind f q → Decides w count sum r
-    right-term {d} {q} e h g i = term d (right d q) e (λ l. refl) h g i
+    pub right-term : {d : Float} {q : ℕ} {f : Folded} {r : PatternResult} → right d q ≡ split (nodesIn w count) (pairOf addKind (at (nodesIn w count) a)) → q < count → f ≡ stored (fold addKind d c) → NumberAnswer f → r ≡ rightOf addKind f q → Decides w count sum r
+    right-term {d} {q} e h g n i = term d (right d q) e (λ l. refl) h g n i

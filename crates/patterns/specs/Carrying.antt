@@ -3,6 +3,7 @@ use Prim.Native.Nat.{ℕ, _<_}
 use mathlib.Core.Path.{_≡_}
 use mathlib.Core.Bool.{Bool, true, false}
 use mathlib.Core.List.{List, [], _∷_}
+use lib.Ieee.{binary64, nanBits}
 use Rattle.arena.specs.declared.DagArena.{DagArena}
 use Rattle.definitions.specs.Node.{Node, node, constantKind}
 use Rattle.definitions.specs.Intern as I
@@ -47,9 +48,13 @@ pub record TwoOperands (count kind lhs rhs : ℕ) : Type 0 where
   pub right : rhs < count
   pub listing : listed kind 0 2 ≡ true
 
--- the ids of a replacement are those of the store
+-- the bits of a constant that may be built
+abbrev pub Number : ℕ → Type 0
+Number b = nanBits binary64 b ≡ false
+
+-- the ids of a replacement are those of the store, and its constant is no NaN
 abbrev pub ReplacementLow : ℕ → Replacement → Type 0
 ReplacementLow count (Id i) = i < count
-ReplacementLow count (Constant b) = Unit {0}
-ReplacementLow count (ConstantLeft k b other) = Operand count k other
-ReplacementLow count (ConstantRight k b other) = Operand count k other
+ReplacementLow count (Constant b) = Number b
+ReplacementLow count (ConstantLeft k b other) = Operand count k other × Number b
+ReplacementLow count (ConstantRight k b other) = Operand count k other × Number b

@@ -1,7 +1,7 @@
 // Carrying out a replacement through the store, which alone makes nodes.
 ghost use mathlib.Core.List.{[], _∷_};
 ghost use Rattle.store.specs.View.{Sound};
-ghost use Rattle.patterns.specs.Carrying.{BuildsBy, constantOf, operatorOf, besideConstant, carried, ReplacementLow, Operand, TwoOperands};
+ghost use Rattle.patterns.specs.Carrying.{BuildsBy, constantOf, operatorOf, besideConstant, carried, Number, ReplacementLow, Operand, TwoOperands};
 use crate::Replacement;
 use arena::DagArena;
 use arena::REORDERABLE;
@@ -10,7 +10,7 @@ use store::Answer;
 use store::Built;
 
 fn intern_constant(nodes: &mut [u64], slots: &mut [u32], arena: DagArena, bits: u64) -> Built
-    requires { ⌜ Sound (now nodes) (now slots) arena ⌝ }
+    requires { ⌜ Number bits × Sound (now nodes) (now slots) arena ⌝ }
     ensures { λ r. ⌜ BuildsBy (constantOf bits) (now (nodes .entry)) (now (slots .entry)) arena (now (nodes .exit)) (now (slots .exit)) r ⌝ }
 {
     store::intern(nodes, slots, arena, CONSTANT, bits, 0, &[])
@@ -43,7 +43,7 @@ fn beside_constant(
     other: u64,
     left: bool,
 ) -> Built
-    requires { ⌜ Operand (arena .count) kind other × Sound (now nodes) (now slots) arena ⌝ }
+    requires { ⌜ Operand (arena .count) kind other × Number bits × Sound (now nodes) (now slots) arena ⌝ }
     ensures { λ r. ⌜ BuildsBy (besideConstant left kind bits other) (now (nodes .entry)) (now (slots .entry)) arena (now (nodes .exit)) (now (slots .exit)) r ⌝ }
 {
     let constant = intern_constant(nodes, slots, arena, bits);

@@ -1,22 +1,26 @@
-// The patterns of patterns.rs over the store, first that fits: identities, then folding, then merging. Each pattern decides over the
-// nodes as they are what is to stand in an operator's place; `carry_out` then makes it.
+// The patterns of patterns.rs over the store, first that fits: identities, then folding, then merging; and the strict ones of 02 (i). Each pattern
+// decides over the nodes as they are what is to stand in an operator's place; `carry_out` then makes it.
 mod carrying;
 mod constants;
 mod folding;
 mod identities;
 mod merging;
+mod strict;
 
 ghost use mathlib.Core.Path.{_≡_};
 ghost use mathlib.Core.List.{[], _∷_};
 ghost use lib.ListN.{take};
+ghost use Rattle.definitions.specs.Modes.{modeOf};
 ghost use Rattle.definitions.specs.Patterns as P;
 ghost use Rattle.store.specs.View.{nodesIn, lent, Sound};
 ghost use Rattle.patterns.specs.Deciding.{Both, Decides, declines};
 ghost use Rattle.patterns.specs.Applied.{Operands, Ready, Applies, appliedOf};
+ghost use Rattle.patterns.specs.Strictly.{applyAs};
 use arena::DagArena;
 use arena::kind::ADD;
 use arena::kind::MOD;
 use arena::kind::NEG;
+use definitions::mode::Mode;
 use store::Answer;
 use store::Built;
 
@@ -72,10 +76,34 @@ fn binary_pattern(nodes: &[u64], count: u64, kind: u64, lhs: u64, rhs: u64) -> P
     merging::merge(nodes, count, kind, lhs, rhs)
 }
 
+// The first pattern of a mode that fits an operator of two operands.
+fn operator_pattern(
+    nodes: &[u64],
+    count: u64,
+    mode: Mode,
+    kind: u64,
+    lhs: u64,
+    rhs: u64,
+) -> PatternResult
+    requires { ⌜ Both (now nodes) count lhs rhs ⌝ }
+    ensures { λ r. ⌜ Decides (now (nodes .entry)) count (λ l ns. applyAs (modeOf mode) l ns kind (lhs ∷ rhs ∷ [])) r ⌝ }
+{
+    match mode {
+        Mode::Standard => binary_pattern(nodes, count, kind, lhs, rhs),
+        Mode::Strict => strict::strict_pattern(nodes, count, kind, lhs, rhs),
+    }
+}
+
 // The first pattern that fits a kind over its children. Only operators have patterns.
-fn pattern(nodes: &[u64], count: u64, kind: u64, children: &[u32]) -> PatternResult
+fn pattern(
+    nodes: &[u64],
+    count: u64,
+    mode: Mode,
+    kind: u64,
+    children: &[u32],
+) -> PatternResult
     requires { ⌜ Ready (now nodes) count (now children) ⌝ }
-    ensures { λ r. ⌜ Decides (now (nodes .entry)) count (λ l ns. P.tryApply l ns kind (now (children .entry))) r ⌝ }
+    ensures { λ r. ⌜ Decides (now (nodes .entry)) count (λ l ns. applyAs (modeOf mode) l ns kind (now (children .entry))) r ⌝ }
 {
     match kind {
         NEG => {
@@ -87,7 +115,14 @@ fn pattern(nodes: &[u64], count: u64, kind: u64, children: &[u32]) -> PatternRes
         }
         ADD..=MOD => {
             if children.len() == 2 {
-                binary_pattern(nodes, count, kind, children[0] as u64, children[1] as u64)
+                operator_pattern(
+                    nodes,
+                    count,
+                    mode,
+                    kind,
+                    children[0] as u64,
+                    children[1] as u64,
+                )
             } else {
                 PatternResult::Declined
             }
@@ -114,19 +149,20 @@ fn answered(built: Built) -> Applied
     }
 }
 
-// The first pattern that fits a kind over new children, carried out.
+// The first pattern of a mode that fits a kind over new children, carried out.
 pub fn try_apply(
     nodes: &mut [u64],
     slots: &mut [u32],
     arena: DagArena,
+    mode: Mode,
     kind: u64,
     children: &[u32],
 ) -> Applied
     requires { ⌜ Operands (arena .count) (now children) × Sound (now nodes) (now slots) arena ⌝ }
-    ensures { λ r. ⌜ Applies (now (nodes .entry)) (now (slots .entry)) arena (P.tryApply (lent (now (nodes .entry)) (now (slots .entry))) (nodesIn (now (nodes .entry)) (arena .count)) kind (now (children .entry))) (now (nodes .exit)) (now (slots .exit)) r ⌝ }
+    ensures { λ r. ⌜ Applies (now (nodes .entry)) (now (slots .entry)) arena (applyAs (modeOf mode) (lent (now (nodes .entry)) (now (slots .entry))) (nodesIn (now (nodes .entry)) (arena .count)) kind (now (children .entry))) (now (nodes .exit)) (now (slots .exit)) r ⌝ }
 {
     let count = arena.count;
-    let result = pattern(nodes, count, kind, children);
+    let result = pattern(nodes, count, mode, kind, children);
     match result {
         PatternResult::Fits(replacement) => answered(carrying::carry_out(
             nodes,

@@ -5,9 +5,9 @@ use mathlib.Core.Bool.{true, false, _||_, false≢true}
 use mathlib.Core.List.{List, [], _∷_}
 use lib.ListN.{length}
 use lib.Dec.{eqb}
-use lib.Ieee.{ofBits, lt}
+use lib.Ieee.{ofBits, nanBits, lt}
 use native.Mathlib.Omega.{arith}
-use Rattle.definitions.specs.Node.{Node, node, at, same, variableKind, constantKind, addKind, subKind, bothFlags}
+use Rattle.definitions.specs.Node.{nanConstant, Node, node, at, same, variableKind, constantKind, addKind, subKind, bothFlags}
 use Rattle.definitions.specs.Machine.{pruned, Outcome, outcome, allBelow, pruneCall}
 use Rattle.definitions.specs.Examples.{lent, hundredth, tenth, half, one, two}
 use Rattle.pruned_again.specs.Plain.{PlainlySound, NotFromOne, NotExchanged}
@@ -15,6 +15,7 @@ use Rattle.pruned_again.specs.Plain.{PlainlySound, NotFromOne, NotExchan
 -- two leaves and an Add over them are plainly sound
 module _ (a b c : Node) (la : a .children ≡ []) (lb : b .children ≡ []) (lc : allBelow 2 (c .children) ≡ true) (fc : 0 < length (c .children))
     (ka : (eqb (a .kind) addKind || eqb (a .kind) subKind) ≡ false) (kb : (eqb (b .kind) addKind || eqb (b .kind) subKind) ≡ false)
+    (na : nanConstant (a .kind) (a .payload) ≡ false) (nb : nanConstant (b .kind) (b .payload) ≡ false) (nc : nanConstant (c .kind) (c .payload) ≡ false)
     (ab : same a b ≡ false) (ac : same a c ≡ false) (bc : same b c ≡ false) (ba : same b a ≡ false) (ca : same c a ≡ false) (cb : same c b ≡ false) where
   three-lower : (i : ℕ) → i < 3 → allBelow i (at (a ∷ b ∷ c ∷ []) i .children) ≡ true
   three-lower zero h = ap (allBelow 0) la
@@ -44,29 +45,38 @@ module _ (a b c : Node) (la : a .children ≡ []) (lb : b .children ≡ []) (lc 
   three-apart (suc zero) (suc (suc (suc j))) h k e = absurd (omega arith)
   three-apart (suc (suc zero)) (suc (suc (suc j))) h k e = absurd (omega arith)
 
+  three-numbers : (i : ℕ) → i < 3 → nanConstant (at (a ∷ b ∷ c ∷ []) i .kind) (at (a ∷ b ∷ c ∷ []) i .payload) ≡ false
+  three-numbers zero h = na
+  three-numbers (suc zero) h = nb
+  three-numbers (suc (suc zero)) h = nc
+  three-numbers (suc (suc (suc i))) h = absurd (omega arith)
+
   three-sound : PlainlySound (a ∷ b ∷ c ∷ [])
-  three-sound = record { lower = three-lower; filled = three-filled; apart = three-apart }
+  three-sound = record { lower = three-lower; filled = three-filled; numbers = three-numbers; apart = three-apart }
 
 -- 0.5 + 0.01
 abbrev halfAndHundredth : List Node
 halfAndHundredth = node constantKind half 0 [] ∷ node constantKind hundredth 0 [] ∷ node addKind 0 bothFlags (0 ∷ 1 ∷ []) ∷ []
 
 halfAndHundredth-sound : PlainlySound halfAndHundredth
-halfAndHundredth-sound = three-sound _ _ _ refl refl refl (omega arith) refl refl refl refl refl refl refl refl
+unfolding nanBits
+halfAndHundredth-sound = three-sound _ _ _ refl refl refl (omega arith) refl refl refl refl refl refl refl refl refl refl refl
 
 -- x + 0.01
 abbrev variableAndHundredth : List Node
 variableAndHundredth = node variableKind 7 0 [] ∷ node constantKind hundredth 0 [] ∷ node addKind 0 bothFlags (0 ∷ 1 ∷ []) ∷ []
 
 variableAndHundredth-sound : PlainlySound variableAndHundredth
-variableAndHundredth-sound = three-sound _ _ _ refl refl refl (omega arith) refl refl refl refl refl refl refl refl
+unfolding nanBits
+variableAndHundredth-sound = three-sound _ _ _ refl refl refl (omega arith) refl refl refl refl refl refl refl refl refl refl refl
 
 -- x + x + 0.5
 abbrev variableTwiceAndHalf : List Node
 variableTwiceAndHalf = node variableKind 7 0 [] ∷ node constantKind half 0 [] ∷ node addKind 0 bothFlags (0 ∷ 0 ∷ 1 ∷ []) ∷ []
 
 variableTwiceAndHalf-sound : PlainlySound variableTwiceAndHalf
-variableTwiceAndHalf-sound = three-sound _ _ _ refl refl refl (omega arith) refl refl refl refl refl refl refl refl
+unfolding nanBits
+variableTwiceAndHalf-sound = three-sound _ _ _ refl refl refl (omega arith) refl refl refl refl refl refl refl refl refl refl refl
 
 other-id : (a b k k′ d d′ : ℕ) (ns : List Node) (o : Outcome) → o .answer ≡ pruned a k d → o ≡ outcome (pruned b k′ d′) ns → a ≡ b
 other-id a b k k′ d d′ ns o e f = let z : pruned a k d ≡ pruned b k′ d′ = sym e ∙ ap (λ (x : Outcome). x .answer) f in cc

@@ -24,6 +24,7 @@ pub fitting : (ns : List Node) → PlainlySound ns → Sound ns
 fitting ns s i h = record {
   low = lower-of i (at ns i .children) (s .lower i h);
   filled = λ t. s .filled i h (T-true (eqb (at ns i .kind) 2 || eqb (at ns i .kind) 3) t);
+  number = s .numbers i h;
 }
 
 -- by rising id: the children of two nodes of one formula lie below both

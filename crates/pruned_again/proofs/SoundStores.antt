@@ -1,7 +1,7 @@
 -- Every sound store is plainly sound, however its memory came about.
 use Prim.Native.Nat.{ℕ, zero, suc, _<_}
 use mathlib.Core.Path.{_≡_, refl, sym, _∙_, subst}
-use mathlib.Core.Bool.{true, _&&_, _||_, false≢true}
+use mathlib.Core.Bool.{true, false, _&&_, _||_, false≢true}
 use mathlib.Core.List.{List, [], _∷_}
 use lib.ListN.{length, getD, take}
 use lib.Seq.{length-take-le}
@@ -11,6 +11,7 @@ use borrow.Author.Tests.{lt-ltb, leb-true, eqb-true, ne-eqb}
 use Rattle.arena.specs.Kind.{listed, operatorArity}
 use Rattle.arena.specs.Node.{nodeAt}
 use Rattle.arena.specs.Nodes.{Nodes}
+use Rattle.arena.proofs.Listing.{listed-number}
 use Rattle.definitions.specs.Node as N
 use Rattle.definitions.specs.Machine.{allBelow}
 use Rattle.definitions.proofs.Deciding.{both}
@@ -53,6 +54,9 @@ module _ (w : List ℕ) (count : ℕ) (s : Nodes w count) where
         let few = neat .few in
         let long = length-take-le (nodeAt w i .arity) (nodeAt w i .children) (omega arith) in
         omega arith);
+    numbers = λ i l.
+        subst (λ (n : N.Node). N.nanConstant (n .kind) (n .payload) ≡ false) (sym (at-plain w count i (here i l)))
+        (listed-number (nodeAt w i .kind) (nodeAt w i .payload) (nodeAt w i .arity) (s .formed .each i (here i l) .kinds));
     apart = λ i j l k e.
         s .apart i j (here i l) (here j k)
         (sym (same-one (nodeAt w i) (nodeAt w j) (neat-at w count i s (here i l)) (neat-at w count j s (here j k)))

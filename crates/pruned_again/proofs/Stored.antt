@@ -1,19 +1,13 @@
 -- Pruning again over memory: each prune is the plain machine's, and one that leaves the nodes leaves the memory.
-use Prim.Native.Nat.{ℕ, zero, suc, _*_, _≤_}
+use Prim.Native.Nat.{ℕ, _≤_}
 use mathlib.Core.Path.{_≡_, refl, sym, ap, _∙_, subst}
-use mathlib.Core.Bool.{Bool, true, false}
 use mathlib.Core.List.{List}
-use lib.ListN.{length}
-use borrow.Author.Tests.{le-leb}
-use Rattle.definitions.specs.Limits.{mostDoublings}
 use Rattle.definitions.specs.Node as N
-use Rattle.definitions.specs.Intern.{Lent, capacity, tableSizeFrom}
+use Rattle.definitions.specs.Intern.{Lent}
 use Rattle.definitions.specs.Threshold.{Threshold, given}
-use Rattle.definitions.specs.Machine.{Call, Answer, pruned, Outcome, outcome, pruneCall, State, state, After, onNodes, call}
-use Rattle.store.specs.View.{nodesIn}
-use Rattle.store.specs.Memory.{Memory, memory, model, Leaves}
-use Rattle.store.proofs.Viewing.{plain-length}
-use Rattle.store.proofs.Determined.{words-same}
+use Rattle.definitions.specs.Machine.{Call, Answer, pruned, Outcome, outcome, pruneCall, State, After, onNodes, call}
+use Rattle.store.specs.Memory.{Memory, model, nodesOf, memoryAfter, Leaves}
+use Rattle.store.proofs.Staying.{leaves-is, leaves-same}
 use Rattle.pruned_again.specs.Plain.{PlainlySound, pruneAtBits, leastKept, NotBelow}
 use Rattle.pruned_again.specs.Stored.{Asks, by-bits, by-setting, SameStored, HigherStored}
 use Rattle.pruned_again.proofs.SoundStores.{sound-plainly}
@@ -26,9 +20,6 @@ unfolding call
 call-is by-bits l s = refl
 call-is by-setting l s = refl
 
-abbrev nodesOf : Memory → List N.Node
-nodesOf m = nodesIn (m .words) (m .arena .count)
-
 -- what is lent is what was lent before the first of the calls
 called-plainly : (l : Lent) (c : Call) (i : ℕ) (t : Threshold) (m m′ : Memory) (a : Answer) → model .lent m ≡ l → model .Sound m → Asks c i t → Leaves c m a m′
     → (pruneCall l (nodesOf m) i t .answer ≡ a) × (pruneCall l (nodesOf m) i t .nodes ≡ nodesOf m′)
@@ -37,25 +28,6 @@ called-plainly l c i t m m′ a e h q k =
       sym (k .called .answer h ∙ ap (λ (x : After). x .answer) (call-is q (model .lent m) (model .view m))),
       sym (ap (λ (x : State). x .nodes) (k .called .left h ∙ ap (λ (x : After). x .left) (call-is q (model .lent m) (model .view m)))),
     )
-
--- ---- a call that leaves the nodes leaves the memory
-same-size : (f size count : ℕ) → count ≤ capacity size → tableSizeFrom f size count ≡ size
-unfolding tableSizeFrom
-same-size zero size count h = refl
-same-size (suc f) size count h = ap (λ (b : Bool). elim b [ true ↦ size | false ↦ tableSizeFrom f (size * 2) count ]) (le-leb count (capacity size) h)
-
-unchanged : (c : Call) (m m′ : Memory) (a : Answer) → model .Sound m → Leaves c m a m′ → nodesOf m′ ≡ nodesOf m → m′ ≡ m
-unchanged c m m′ a h k e = λ x. memory (words x) (k .slots-same count x) (record { count = count x; size = size x })
-  where
-    count : m′ .arena .count ≡ m .arena .count
-    count = sym (plain-length (m′ .words) (m′ .arena .count)) ∙ ap length e ∙ plain-length (m .words) (m .arena .count)
-
-    size : m′ .arena .size ≡ m .arena .size
-    size = k .size h ∙ ap (tableSizeFrom mostDoublings (m .arena .size)) count ∙ same-size mostDoublings (m .arena .size) (m .arena .count) (h .table .load)
-
-    words : m′ .words ≡ m .words
-    words =
-        words-same (m′ .words) (m .words) (m′ .arena .count) (k .called .sound h .nodes) (rw count (h .nodes)) (e ∙ ap (nodesIn (m .words)) (sym count)) (k .words-past)
 
 -- ---- the two promises
 pub same-stored : SameStored
@@ -67,7 +39,7 @@ same-stored c c′ i id kept dropped t m m′ m″ a h q k q′ k′ =
     let there : pruneCall l (nodesOf m′) id t ≡ outcome (pruned id (plain .0) 0) (nodesOf m′)
     = subst (λ (ns : List N.Node). pruneCall l ns id t ≡ outcome (pruned id (plain .0) 0) ns) (first .1) (plain .1) in (
       (plain .0, sym (second .0) ∙ ap (λ (x : Outcome). x .answer) there),
-      unchanged c′ m′ m″ a (k .called .sound h) k′ (sym (second .1) ∙ ap (λ (x : Outcome). x .nodes) there),
+      leaves-same c′ m′ a m″ (k .called .sound h) k′ (sym (second .1) ∙ ap (λ (x : Outcome). x .nodes) there),
     )
 
 abbrev Both : Lent → List N.Node → List N.Node → ℕ → ℕ → ℕ → ℕ → Type 0
@@ -94,11 +66,11 @@ higher-stored c c′ c″ i t u id kept dropped id′ kept′ dropped′ m m′ 
       (λ x.
           let third = called-plainly l c″ i (given u) m′ n a e′ h′ q″ x in (
             (plain .0 .0, sym (third .0) ∙ ap (λ (y : Outcome). y .answer) (plain .0 .1)),
-            ap state (sym (third .1) ∙ ap (λ (y : Outcome). y .nodes) (plain .0 .1)),
+            leaves-is c″ m′ a n h′ x ∙ ap (memoryAfter m′) (sym (third .1) ∙ ap (λ (y : Outcome). y .nodes) (plain .0 .1)) ∙ sym (leaves-is c′ m′ (pruned id′ kept′ dropped′) m″ h′ k′),
           )),
       (λ x.
           let fourth = called-plainly l c″ i (given u) m″ o b e″ h″ q″ x in (
             (plain .1 .0, sym (fourth .0) ∙ ap (λ (y : Outcome). y .answer) (plain .1 .1)),
-            unchanged c″ m″ o b h″ x (sym (fourth .1) ∙ ap (λ (y : Outcome). y .nodes) (plain .1 .1)),
+            leaves-same c″ m″ b o h″ x (sym (fourth .1) ∙ ap (λ (y : Outcome). y .nodes) (plain .1 .1)),
           )),
     )

@@ -6,16 +6,17 @@ use mathlib.Core.List.{List, []}
 use lib.ListN.{length}
 use lib.Dec.{eqb}
 use lib.Ieee.{binary64, ofBits, lt}
-use Rattle.definitions.specs.Node.{Node, node, at, same, constantKind, addKind, subKind}
+use Rattle.definitions.specs.Node.{Node, node, at, same, nanConstant, constantKind, addKind, subKind}
 use Rattle.definitions.specs.Intern.{Lent}
 use Rattle.definitions.specs.Prune.{keeps}
 use Rattle.definitions.specs.Threshold.{Threshold, given}
 use Rattle.definitions.specs.Machine.{pruned, Outcome, outcome, allBelow, pruneCall}
 
--- children have lower ids than their node, an Add or a Sub has a child, and no two nodes are one
+-- children have lower ids than their node, an Add or a Sub has a child, no constant is a NaN, and no two nodes are one
 pub record PlainlySound (ns : List Node) : Type 0 where
   pub lower : (i : ℕ) → i < length ns → allBelow i (at ns i .children) ≡ true
   pub filled : (i : ℕ) → i < length ns → (eqb (at ns i .kind) addKind || eqb (at ns i .kind) subKind) ≡ true → 0 < length (at ns i .children)
+  pub numbers : (i : ℕ) → i < length ns → nanConstant (at ns i .kind) (at ns i .payload) ≡ false
   pub apart : (i j : ℕ) → i < length ns → j < length ns → same (at ns i) (at ns j) ≡ true → i ≡ j
 
 -- ---- at the same threshold

@@ -25,7 +25,7 @@ SameStored = (c c′ : Call) (i id kept dropped : ℕ) (t : Threshold) (m m′ m
     → ((kept′ : ℕ) × (a ≡ pruned id kept′ 0)) × (m″ ≡ m′)
 
 -- "If a first prune at t kept two or more terms, a second at u not below t gives the id that pruning the original at u gives on the store after
--- it": on the store after the first, where it leaves the second's nodes, and on the store after the second, which it leaves as it was
+-- it": on the store after the first, which it leaves as the second does, and on the store after the second, which it leaves as it was
 abbrev pub HigherStored : Type 0
 HigherStored = (c c′ c″ : Call) (i t u id kept dropped id′ kept′ dropped′ : ℕ) (m m′ m″ n o : Memory) (a b : Answer) → model .Sound m
     → Asks c i (given t) → Leaves c m (pruned id kept dropped) m′
@@ -33,7 +33,7 @@ HigherStored = (c c′ c″ : Call) (i t u id kept dropped id′ kept′ dropped
     → NotBelow t u
     → Asks c′ id (given u) → Leaves c′ m′ (pruned id′ kept′ dropped′) m″
     → Asks c″ i (given u)
-    → (Leaves c″ m′ a n → ((d : ℕ) × (a ≡ pruned id′ kept′ d)) × (model .view n ≡ model .view m″))
+    → (Leaves c″ m′ a n → ((d : ℕ) × (a ≡ pruned id′ kept′ d)) × (n ≡ m″))
     × (Leaves c″ m″ b o → ((d : ℕ) × (b ≡ pruned id′ kept′ d)) × (o ≡ m″))
 
 -- ---- settings

@@ -5,7 +5,7 @@ ghost use Rattle.definitions.specs.Settings as Settings;
 ghost use Rattle.pruner.specs.Answers.{thresholdOf};
 use definitions::refusals::BAD_SETTING;
 use definitions::refusals::BAD_THRESHOLD;
-use fold::BITS_OF_INFINITY;
+use text_language::BITS_OF_INFINITY;
 
 pub enum Threshold {
     // The binary64 bits of a threshold.

@@ -15,8 +15,10 @@ use Rattle.definitions.specs.Node.{sameChildren, at, addKind, mulKind}
 use Rattle.definitions.specs.Intern as I
 use Rattle.definitions.specs.Intern.{built}
 use Rattle.definitions.specs.Patterns.{tryApply}
+use Rattle.definitions.specs.Strict.{strictApply}
 use Rattle.definitions.specs.Walk as W
-use Rattle.definitions.specs.Walk.{rebuilt, rebuildOrMatch, rebuiltFlags, standard}
+use Rattle.definitions.specs.Walk.{Mode, standard, strict, rebuilt, rebuildAs, rebuildOrMatch, rebuildStrictly, rebuiltFlags}
+use Rattle.definitions.proofs.StrictMarks.{unmarked-set}
 use Rattle.store.specs.View.{nodesIn, lent, Builds, listed, plainBuilt, Low}
 use Rattle.store.specs.Lookup.{Lookup, Places, Marked, Fits}
 use Rattle.store.specs.declared.Built.{Built}
@@ -26,11 +28,12 @@ use Rattle.store.proofs.Reading as R
 use Rattle.store.proofs.Keeping.{kept-refl, kept-trans}
 use Rattle.patterns.specs.Applied as A
 use Rattle.patterns.specs.Applied.{Applies, Operands, plainMatched}
+use Rattle.patterns.specs.Strictly.{applyAs}
 use Rattle.patterns.specs.declared.Matched.{Matched}
 use Rattle.patterns.specs.declared.Matched as Matches
 use Rattle.patterns.specs.declared.Applied.{Applied}
 use Rattle.rebuild.specs.Memory.{Memory, memory, nodesOf, lentOf}
-use Rattle.rebuild.specs.Rebuild.{Rebuildable, newChildren, finished, Finishes}
+use Rattle.rebuild.specs.Rebuild.{Rebuildable, newChildren, finished, MarkedAs, Finishes}
 use Rattle.rebuild.proofs.ChildPlaces.{same-places}
 
 -- ---- the flags of a rebuilt node
@@ -57,6 +60,17 @@ unmarked k n = go ((eqb k addKind || eqb k mulKind) && eqb n 2)
     go : (b : Bool) → cond b 3 0 < 4
     go true = omega arith
     go false = omega arith
+
+-- ---- the mark of a mode
+
+module _ {mode : Mode} {words : List ℕ} {count id : ℕ} where
+  pub standard-marked : mode ≡ standard → (words′ : List ℕ) → Marked words count id words′ → MarkedAs mode words count id words′
+  standard-marked e words′ x = subst (λ (m : Mode). MarkedAs m words count id words′) (sym e) (record { is = x .is; kept = x .kept })
+
+  pub strict-marked : mode ≡ strict → MarkedAs mode words count id words
+  strict-marked e =
+      subst (λ (m : Mode). MarkedAs m words count id words) (sym e)
+      (record { is = sym (unmarked-set (nodesIn words count) id); kept = λ slots arena _ s. kept-refl words slots arena s })
 
 -- ---- the node itself, or a node anew
 
@@ -122,31 +136,36 @@ module _ (m : Memory) (id : ℕ) (places : List ℕ) (four : length places ≡ m
     pub operands : Operands (m .arena .count) arity places
     operands = record { few = omega (arith, ea, few); low = λ j l. b .lower j (omega (arith, ea)) }
 
-    tried : (o : Option I.Built) → o ≡ tryApply (lentOf m) (nodesOf m) kind (take arity places)
-        → rebuilt (lentOf m) (nodesOf m) id c o ≡ rebuildOrMatch (lentOf m) (nodesOf m) id c
-    unfolding rebuildOrMatch
-    tried o e =
-        ap (rebuilt (lentOf m) (nodesOf m) id c) (e ∙ ap₂ (λ (x y : ℕ). tryApply (lentOf m) (nodesOf m) x (take y places)) ek ea)
+    -- a rebuild has the patterns of its mode
+    by-mode : (mode : Mode) → rebuilt (lentOf m) (nodesOf m) id c (applyAs mode (lentOf m) (nodesOf m) (n .kind) c) ≡ rebuildAs mode (lentOf m) (nodesOf m) id c
+    unfolding applyAs rebuildOrMatch rebuildStrictly
+    by-mode standard = refl
+    by-mode strict = refl
 
-    module _ (words′ slots′ : List ℕ) (r : Applied)
-        (applies : Applies (m .words) (m .slots) (m .arena) (tryApply (lentOf m) (nodesOf m) kind (take arity places)) words′ slots′ r) where
+    tried : (mode : Mode) (o : Option I.Built) → o ≡ applyAs mode (lentOf m) (nodesOf m) kind (take arity places)
+        → rebuilt (lentOf m) (nodesOf m) id c o ≡ rebuildAs mode (lentOf m) (nodesOf m) id c
+    tried mode o e =
+        ap (rebuilt (lentOf m) (nodesOf m) id c) (e ∙ ap₂ (λ (x y : ℕ). applyAs mode (lentOf m) (nodesOf m) x (take y places)) ek ea) ∙ by-mode mode
+
+    module _ (mode : Mode) (words′ slots′ : List ℕ) (r : Applied)
+        (applies : Applies (m .words) (m .slots) (m .arena) (applyAs mode (lentOf m) (nodesOf m) kind (take arity places)) words′ slots′ r) where
       abbrev here : Memory
       here = memory words′ slots′ (r .arena)
 
-      matched-as : (x : Matched) → r .matched ≡ x → plainMatched x (nodesOf here) ≡ tryApply (lentOf m) (nodesOf m) kind (take arity places)
+      matched-as : (x : Matched) → r .matched ≡ x → plainMatched x (nodesOf here) ≡ applyAs mode (lentOf m) (nodesOf m) kind (take arity places)
       matched-as x e = ap (λ (y : Matched). plainMatched y (nodesOf here)) (sym e) ∙ applies .is
 
       pub result : (i : ℕ) → r .matched ≡ Matches.the-variants.Id i
-          → Builds (m .words) (m .slots) (m .arena) (rebuildOrMatch (lentOf m) (nodesOf m) id (newChildren m id places)) words′ slots′ (record { answer = Id i; arena = r .arena })
+          → Builds (m .words) (m .slots) (m .arena) (rebuildAs mode (lentOf m) (nodesOf m) id (newChildren m id places)) words′ slots′ (record { answer = Id i; arena = r .arena })
       result i e = record {
-        answer = tried _ (matched-as _ e);
+        answer = tried mode _ (matched-as _ e);
         kept = applies .kept;
         low = subst (λ (x : Matched). A.MatchedLow x (r .arena .count)) e (applies .low);
       }
 
       pub refusal : (i : ℕ) → r .matched ≡ Matches.the-variants.Refused i
-          → Builds (m .words) (m .slots) (m .arena) (rebuildOrMatch (lentOf m) (nodesOf m) id (newChildren m id places)) words′ slots′ (record { answer = Refused i; arena = r .arena })
-      refusal i e = record { answer = tried _ (matched-as _ e); kept = applies .kept; low = tt }
+          → Builds (m .words) (m .slots) (m .arena) (rebuildAs mode (lentOf m) (nodesOf m) id (newChildren m id places)) words′ slots′ (record { answer = Refused i; arena = r .arena })
+      refusal i e = record { answer = tried mode _ (matched-as _ e); kept = applies .kept; low = tt }
 
       module _ (e : r .matched ≡ Matches.the-variants.Declined) where
         unchanged : m ≡ memory words′ slots′ (r .arena)
@@ -157,24 +176,24 @@ module _ (m : Memory) (id : ℕ) (places : List ℕ) (four : length places ≡ m
 
         pub declined : (words″ slots″ : List ℕ) (q : Built)
             → Builds words′ slots′ (r .arena) (rebuilt (lent words′ slots′) (nodesIn words′ (r .arena .count)) id (newChildren (memory words′ slots′ (r .arena)) id places) none) words″ slots″ q
-            → Builds (m .words) (m .slots) (m .arena) (rebuildOrMatch (lentOf m) (nodesOf m) id (newChildren m id places)) words″ slots″ q
+            → Builds (m .words) (m .slots) (m .arena) (rebuildAs mode (lentOf m) (nodesOf m) id (newChildren m id places)) words″ slots″ q
         declined words″ slots″ q x =
-            subst (λ (y : I.Built). Builds (m .words) (m .slots) (m .arena) y words″ slots″ q) (tried none (matched-as _ e))
+            subst (λ (y : I.Built). Builds (m .words) (m .slots) (m .arena) y words″ slots″ q) (tried mode none (matched-as _ e))
             (subst (λ (y : Memory). Builds (y .words) (y .slots) (y .arena) (rebuilt (lentOf y) (nodesOf y) id (newChildren y id places) none) words″ slots″ q) (sym unchanged) x)
 
   -- ---- marked
 
-  module _ (words′ slots′ : List ℕ) (r : Built)
-      (builds : Builds (m .words) (m .slots) (m .arena) (rebuildOrMatch (lentOf m) (nodesOf m) id (newChildren m id places)) words′ slots′ r) where
+  module _ (mode : Mode) (words′ slots′ : List ℕ) (r : Built)
+      (builds : Builds (m .words) (m .slots) (m .arena) (rebuildAs mode (lentOf m) (nodesOf m) id (newChildren m id places)) words′ slots′ r) where
     abbrev between : Memory
     between = memory words′ slots′ (r .arena)
 
-    answered-as : (x : Answer) → r .answer ≡ x → plainBuilt x (nodesOf between) ≡ rebuildOrMatch (lentOf m) (nodesOf m) id c
+    answered-as : (x : Answer) → r .answer ≡ x → plainBuilt x (nodesOf between) ≡ rebuildAs mode (lentOf m) (nodesOf m) id c
     answered-as x e = ap (λ (y : Answer). plainBuilt y (nodesOf between)) (sym e) ∙ builds .answer
 
-    pub stops : (number : ℕ) → r .answer ≡ Refused number → Finishes m id places (Refused number) (memory words′ slots′ (r .arena))
+    pub stops : (number : ℕ) → r .answer ≡ Refused number → Finishes mode m id places (Refused number) (memory words′ slots′ (r .arena))
     stops number e = record {
-      plainly = λ fs vs. ap (W.finish standard fs vs) (answered-as _ e);
+      plainly = λ fs vs. ap (W.finish mode fs vs) (answered-as _ e);
       kept = builds .kept;
       low = tt;
     }
@@ -186,9 +205,9 @@ module _ (m : Memory) (id : ℕ) (places : List ℕ) (four : length places ≡ m
       pub may-mark : Lookup words′ (r .arena .count) i
       may-mark = R.lookup-of words′ slots′ (r .arena) (builds .kept .whole) i result-low
 
-      pub marks : (words″ : List ℕ) → Marked words′ (r .arena .count) i words″ → Finishes m id places (Id i) (memory words″ slots′ (r .arena))
+      pub marks : (words″ : List ℕ) → MarkedAs mode words′ (r .arena .count) i words″ → Finishes mode m id places (Id i) (memory words″ slots′ (r .arena))
       marks words″ x = record {
-        plainly = λ fs vs. ap (λ (ns : List N.Node). W.go ns fs (i ∷ vs)) (x .is) ∙ ap (W.finish standard fs vs) (answered-as _ e);
+        plainly = λ fs vs. ap (λ (ns : List N.Node). W.go ns fs (i ∷ vs)) (x .is) ∙ ap (W.finish mode fs vs) (answered-as _ e);
         kept = kept-trans (m .words) (m .slots) (m .arena) words′ slots′ (r .arena) words″ slots′ (r .arena) (builds .kept) (x .kept slots′ (r .arena) refl (builds .kept .whole));
         low = result-low;
       }

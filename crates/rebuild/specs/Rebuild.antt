@@ -2,11 +2,13 @@
 use Prim.Native.Nat.{ℕ, _<_, _≤_}
 use mathlib.Core.Path.{_≡_}
 use mathlib.Core.List.{List, _∷_}
-use lib.ListN.{length, getD, take}
+use lib.ListN.{length, getD, take, set}
 use Rattle.definitions.specs.Node.{Node, at}
 use Rattle.definitions.specs.Walk as W
-use Rattle.definitions.specs.Walk.{Frame, Turn, go, stop, standard, rebuildOrMatch}
-use Rattle.store.specs.View.{Low}
+use Rattle.definitions.specs.Walk.{Mode, marked, rebuildAs, Frame, Turn, go, stop}
+use Rattle.arena.specs.declared.DagArena.{DagArena}
+use Rattle.store.specs.View as View
+use Rattle.store.specs.View.{nodesIn, Kept, Low}
 use Rattle.store.specs.declared.Answer.{Answer}
 use Rattle.store.specs.declared.Answer.the-variants.{Id, Refused}
 use Rattle.rebuild.specs.Memory.{Memory, Sound, nodesOf, lentOf, Keeps}
@@ -27,8 +29,13 @@ abbrev pub finished : Answer → List Node → List Frame → List ℕ → Turn
 finished (Id result) ns fs vs = go ns fs (result ∷ vs)
 finished (Refused number) ns fs vs = stop ns number
 
--- "A finished frame is rebuilt and its result marked", whatever frames and values lie under it
-pub record Finishes (m : Memory) (id : ℕ) (places : List ℕ) (answer : Answer) (m′ : Memory) : Type 0 where
-  pub plainly : (fs : List Frame) (vs : List ℕ) → finished answer (nodesOf m′) fs vs ≡ W.finish standard fs vs (rebuildOrMatch (lentOf m) (nodesOf m) id (newChildren m id places))
+-- the nodes with the mark that a mode sets
+pub record MarkedAs (mode : Mode) (words : List ℕ) (count id : ℕ) (words′ : List ℕ) : Type 0 where
+  pub is : nodesIn words′ count ≡ set (nodesIn words count) id (marked mode (at (nodesIn words count) id))
+  pub kept : (slots : List ℕ) (arena : DagArena) → arena .count ≡ count → View.Sound words slots arena → Kept words slots arena words′ slots arena
+
+-- "A finished frame is rebuilt and its result marked" as its mode has it, whatever frames and values lie under it
+pub record Finishes (mode : Mode) (m : Memory) (id : ℕ) (places : List ℕ) (answer : Answer) (m′ : Memory) : Type 0 where
+  pub plainly : (fs : List Frame) (vs : List ℕ) → finished answer (nodesOf m′) fs vs ≡ W.finish mode fs vs (rebuildAs mode (lentOf m) (nodesOf m) id (newChildren m id places))
   pub kept : Keeps m m′
   pub low : Low answer (m′ .arena .count)

@@ -1,14 +1,17 @@
 // What a finished frame of the walk gives (01, "engine: the walk"): rebuild_or_match, and the result's mark.
 ghost use mathlib.Core.Path.{_≡_};
 ghost use mathlib.Core.Option.{none};
-ghost use Rattle.definitions.specs.Walk.{rebuiltFlags, rebuilt, rebuildOrMatch};
+ghost use Rattle.definitions.specs.Modes.{modeOf};
+ghost use Rattle.definitions.specs.Walk.{rebuiltFlags, rebuilt, rebuildAs};
+ghost use Rattle.store.specs.Lookup.{Lookup};
 ghost use Rattle.store.specs.View.{nodesIn, lent, Builds};
 ghost use Rattle.rebuild.specs.Memory.{memory};
-ghost use Rattle.rebuild.specs.Rebuild.{Rebuildable, newChildren, Finishes};
+ghost use Rattle.rebuild.specs.Rebuild.{Rebuildable, newChildren, MarkedAs, Finishes};
 use arena::DagArena;
 use arena::REORDERABLE;
 use arena::kind::ADD;
 use arena::kind::MUL;
+use definitions::mode::Mode;
 use patterns::Matched;
 use store::Answer;
 use store::Built;
@@ -59,20 +62,21 @@ fn rebuild(
     store::intern(nodes, slots, arena, kind, payload, flags, children)
 }
 
-// The first pattern that fits a node over new children, or the node rebuilt.
+// The first pattern of a mode that fits a node over new children, or the node rebuilt.
 fn rebuild_or_match(
     nodes: &mut [u64],
     slots: &mut [u32],
     arena: DagArena,
+    mode: Mode,
     id: u64,
     children: &[u32],
 ) -> Built
     requires { ⌜ Rebuildable (memory (now nodes) (now slots) arena) id (now children) ⌝ }
-    ensures { λ r. ⌜ Builds (now (nodes .entry)) (now (slots .entry)) arena (rebuildOrMatch (lent (now (nodes .entry)) (now (slots .entry))) (nodesIn (now (nodes .entry)) (arena .count)) id (now (children .entry))) (now (nodes .exit)) (now (slots .exit)) r ⌝ }
+    ensures { λ r. ⌜ Builds (now (nodes .entry)) (now (slots .entry)) arena (rebuildAs (modeOf mode) (lent (now (nodes .entry)) (now (slots .entry))) (nodesIn (now (nodes .entry)) (arena .count)) id (now (children .entry))) (now (nodes .exit)) (now (slots .exit)) r ⌝ }
 {
     let count = arena.count;
     let kind = store::kind(nodes, count, id);
-    let applied = patterns::try_apply(nodes, slots, arena, kind, children);
+    let applied = patterns::try_apply(nodes, slots, arena, mode, kind, children);
     let after = applied.arena;
     let matched = applied.matched;
     match matched {
@@ -88,18 +92,30 @@ fn rebuild_or_match(
     }
 }
 
+// The mark of a result; 02 (i): "A strict walk sets and heeds no marks".
+fn mark(nodes: &mut [u64], count: u64, mode: Mode, id: u64)
+    requires { ⌜ Lookup (now nodes) count id ⌝ }
+    ensures { λ r. ⌜ MarkedAs (modeOf mode) (now (nodes .entry)) count id (now (nodes .exit)) ⌝ }
+{
+    match mode {
+        Mode::Standard => store::mark(nodes, count, id),
+        Mode::Strict => {}
+    }
+}
+
 // 01: "A finished frame is rebuilt and its result marked."
 pub fn finish(
     nodes: &mut [u64],
     slots: &mut [u32],
     arena: DagArena,
+    mode: Mode,
     id: u64,
     children: &[u32],
 ) -> Built
     requires { ⌜ Rebuildable (memory (now nodes) (now slots) arena) id (now children) ⌝ }
-    ensures { λ r. ⌜ Finishes (memory (now (nodes .entry)) (now (slots .entry)) arena) id (now (children .entry)) (r .answer) (memory (now (nodes .exit)) (now (slots .exit)) (r .arena)) ⌝ }
+    ensures { λ r. ⌜ Finishes (modeOf mode) (memory (now (nodes .entry)) (now (slots .entry)) arena) id (now (children .entry)) (r .answer) (memory (now (nodes .exit)) (now (slots .exit)) (r .arena)) ⌝ }
 {
-    let built = rebuild_or_match(nodes, slots, arena, id, children);
+    let built = rebuild_or_match(nodes, slots, arena, mode, id, children);
     let after = built.arena;
     let answer = built.answer;
     match answer {
@@ -108,7 +124,7 @@ pub fn finish(
             arena: after,
         },
         Answer::Id(result) => {
-            store::mark(nodes, after.count, result);
+            mark(nodes, after.count, mode, result);
             Built {
                 answer: Answer::Id(result),
                 arena: after,

@@ -7,12 +7,12 @@ use mathlib.Core.Logic.{⊎-elim}
 use mathlib.Core.Option.{Option, none, some}
 use lib.ListN.{length, getD}
 use lib.Dec.{eqb, leb, ltb, T}
-use lib.Ieee.{Float, binary64, ofBits}
+use lib.Ieee.{Float, binary64, ofBits, nanBits}
 use Rattle.definitions.specs.Limits.{mostDepth, mostTerms, infinityBits}
-use Rattle.definitions.specs.Refusals.{badOperand, badCode, badChildCount, badThreshold, badSetting, badNameLength, noNodePlace, noSlotPlace, tooManyTerms, noNamePlace}
-use Rattle.definitions.specs.Node.{Node, at, addKind, childCountListed}
+use Rattle.definitions.specs.Refusals.{badOperand, badCode, badChildCount, badThreshold, badSetting, badNameLength, noNodePlace, noSlotPlace, tooManyTerms, noNamePlace, notANumber}
+use Rattle.definitions.specs.Node.{Node, at, addKind, nanConstant, childCountListed}
 use Rattle.definitions.specs.Intern.{Lent, Built, built, stopped, intern}
-use Rattle.definitions.specs.Walk.{standard, Walked, finished, spent, halted, walkRoot}
+use Rattle.definitions.specs.Walk.{Mode, Walked, finished, spent, halted, walkRoot}
 use Rattle.definitions.specs.Prune.{chain, keeps, filter, sumOfKept}
 use Rattle.definitions.specs.Threshold.{Threshold, bits, untouched, refusing, given}
 use Rattle.definitions.specs.Settings.{firstPruningSetting, lastSetting, threshold, setting}
@@ -64,10 +64,13 @@ store-listed : (l : Lent) (ns : List Node) (r : Request) (x y z : Bool)
     → (x ≡ false → r .listed ≡ true)
     → (y ≡ false → childCountListed (r .node .kind) (r .node .payload) (length (r .node .children)) ≡ true)
     → (z ≡ false → allBelow (length ns) (r .node .children) ≡ true)
+    → nanConstant (r .node .kind) (r .node .payload) ≡ false
     → ResultOr (checked x y z) (fromStore (storeCall l ns r .answer))
 unfolding storeCall
-store-listed l ns r x y z p q o =
-    by (r .listed) (childCountListed (r .node .kind) (r .node .payload) (length (r .node .children))) (allBelow (length ns) (r .node .children)) x y z p q o
+store-listed l ns r x y z p q o n =
+    subst (λ (t : Bool). ResultOr (checked x y z)
+    (fromStore (cond (r .listed) (cond t (outcome (M.refused notANumber) ns) (cond (childCountListed (r .node .kind) (r .node .payload) (length (r .node .children))) (cond (allBelow (length ns) (r .node .children)) (M.storedAs (intern l ns (r .node))) (outcome (M.refused badOperand) ns)) (outcome (M.refused badChildCount) ns))) (outcome (M.refused badCode) ns) .answer))) (sym n)
+    (by (r .listed) (childCountListed (r .node .kind) (r .node .payload) (length (r .node .children))) (allBelow (length ns) (r .node .children)) x y z p q o)
   where
     interned : (b : Built) → StopsForPlace b → (x y z : Bool) → ResultOr (checked x y z) (fromStore (M.storedAs b .answer))
     interned (built ms i) h x y z = tt
@@ -98,26 +101,41 @@ may-fail e = absurd (true≢false e)
 
 -- operands alone, as many as the node has children
 operands-listed : (l : Lent) (ns : List Node) (r : Request) → r .listed ≡ true
-    → childCountListed (r .node .kind) (r .node .payload) (length (r .node .children)) ≡ true → ResultOr (badOperand ∷ placeRefusals) (fromStore (storeCall l ns r .answer))
-operands-listed l ns r p q = store-listed l ns r false false true (passes p) (passes q) may-fail
+    → childCountListed (r .node .kind) (r .node .payload) (length (r .node .children)) ≡ true
+    → nanConstant (r .node .kind) (r .node .payload) ≡ false → ResultOr (badOperand ∷ placeRefusals) (fromStore (storeCall l ns r .answer))
+operands-listed l ns r p q n = store-listed l ns r false false true (passes p) (passes q) may-fail n
+
+-- a constant: 10, or no place
+constant-listed : (l : Lent) (ns : List Node) (b : ℕ) → ResultOr (notANumber ∷ placeRefusals) (fromStore (storeCall l ns (requested (M.constant b)) .answer))
+unfolding storeCall childCountListed
+constant-listed l ns b = by (nanBits binary64 b)
+  where
+    interned : (m : Built) → StopsForPlace m → ResultOr (notANumber ∷ placeRefusals) (fromStore (M.storedAs m .answer))
+    interned (built ms i) h = tt
+    interned (stopped ms number) h = place-among (notANumber ∷ placeRefusals) number tt tt h
+
+    by : (t : Bool) → ResultOr (notANumber ∷ placeRefusals)
+        (fromStore (cond t (outcome (M.refused notANumber) ns) (M.storedAs (intern l ns (requested (M.constant b) .node))) .answer))
+    by true = tt
+    by false = interned (intern l ns (requested (M.constant b) .node)) (intern-stops l ns (requested (M.constant b) .node))
 
 builds-listed : (l : Lent) (ns : List Node) (c : M.Store) → ResultOr (storeRefusals c) (fromStore (storeCall l ns (requested c) .answer))
 unfolding childCountListed
-builds-listed l ns (M.variable s) = store-listed l ns (requested (M.variable s)) false false false (passes refl) (passes refl) (passes refl)
-builds-listed l ns (M.constant b) = store-listed l ns (requested (M.constant b)) false false false (passes refl) (passes refl) (passes refl)
-builds-listed l ns (M.add a b) = operands-listed l ns (requested (M.add a b)) refl refl
-builds-listed l ns (M.sub a b) = operands-listed l ns (requested (M.sub a b)) refl refl
-builds-listed l ns (M.mul a b) = operands-listed l ns (requested (M.mul a b)) refl refl
-builds-listed l ns (M.div a b) = operands-listed l ns (requested (M.div a b)) refl refl
-builds-listed l ns (M.pow a b) = operands-listed l ns (requested (M.pow a b)) refl refl
-builds-listed l ns (M.modulo a b) = operands-listed l ns (requested (M.modulo a b)) refl refl
-builds-listed l ns (M.neg a) = operands-listed l ns (requested (M.neg a)) refl refl
-builds-listed l ns (M.operator o f c) = store-listed l ns (requested (M.operator o f c)) true true true may-fail may-fail may-fail
-builds-listed l ns (M.function f c) = store-listed l ns (requested (M.function f c)) false true true (passes refl) may-fail may-fail
-builds-listed l ns (M.select a b c) = operands-listed l ns (requested (M.select a b c)) refl refl
-builds-listed l ns (M.ifElse a b c) = operands-listed l ns (requested (M.ifElse a b c)) refl refl
-builds-listed l ns (M.forLoop a b c d) = operands-listed l ns (requested (M.forLoop a b c d)) refl refl
-builds-listed l ns (M.control o c) = store-listed l ns (requested (M.control o c)) true true true may-fail may-fail may-fail
+builds-listed l ns (M.variable s) = store-listed l ns (requested (M.variable s)) false false false (passes refl) (passes refl) (passes refl) refl
+builds-listed l ns (M.constant b) = constant-listed l ns b
+builds-listed l ns (M.add a b) = operands-listed l ns (requested (M.add a b)) refl refl refl
+builds-listed l ns (M.sub a b) = operands-listed l ns (requested (M.sub a b)) refl refl refl
+builds-listed l ns (M.mul a b) = operands-listed l ns (requested (M.mul a b)) refl refl refl
+builds-listed l ns (M.div a b) = operands-listed l ns (requested (M.div a b)) refl refl refl
+builds-listed l ns (M.pow a b) = operands-listed l ns (requested (M.pow a b)) refl refl refl
+builds-listed l ns (M.modulo a b) = operands-listed l ns (requested (M.modulo a b)) refl refl refl
+builds-listed l ns (M.neg a) = operands-listed l ns (requested (M.neg a)) refl refl refl
+builds-listed l ns (M.operator o f c) = store-listed l ns (requested (M.operator o f c)) true true true may-fail may-fail may-fail refl
+builds-listed l ns (M.function f c) = store-listed l ns (requested (M.function f c)) false true true (passes refl) may-fail may-fail refl
+builds-listed l ns (M.select a b c) = operands-listed l ns (requested (M.select a b c)) refl refl refl
+builds-listed l ns (M.ifElse a b c) = operands-listed l ns (requested (M.ifElse a b c)) refl refl refl
+builds-listed l ns (M.forLoop a b c d) = operands-listed l ns (requested (M.forLoop a b c d)) refl refl refl
+builds-listed l ns (M.control o c) = store-listed l ns (requested (M.control o c)) true true true may-fail may-fail may-fail refl
 
 -- ---- simplify
 
@@ -129,14 +147,14 @@ full-listed ks (M.simplified id over steps) p q f = tt
 full-listed ks (M.pruned id kept dropped) p q f = tt
 full-listed ks (M.refused number) p q f = place-among ks number p q (f number refl)
 
-simplifies-listed : (l : Lent) (ns : List Node) (i depth budget : ℕ)
-    → ResultOr (badCode ∷ badOperand ∷ placeRefusals) (fromStore (simplifyCall standard l ns i depth budget .answer))
+simplifies-listed : (m : Mode) (l : Lent) (ns : List Node) (i depth budget : ℕ)
+    → ResultOr (badCode ∷ badOperand ∷ placeRefusals) (fromStore (simplifyCall m l ns i depth budget .answer))
 unfolding simplifyCall
-simplifies-listed l ns i depth budget = by (leb depth mostDepth) (ltb i (length ns))
+simplifies-listed m l ns i depth budget = by (leb depth mostDepth) (ltb i (length ns))
   where
     by : (a b : Bool) → ResultOr (badCode ∷ badOperand ∷ placeRefusals)
-        (fromStore (cond a (cond b (M.walkedAs i (walkRoot standard l depth budget ns i)) (outcome (M.refused badOperand) ns)) (outcome (M.refused badCode) ns) .answer))
-    by true true = full-listed (badCode ∷ badOperand ∷ placeRefusals) (M.walkedAs i (walkRoot standard l depth budget ns i) .answer) tt tt (λ number. refused-full l depth budget ns i number)
+        (fromStore (cond a (cond b (M.walkedAs i (walkRoot m l depth budget ns i)) (outcome (M.refused badOperand) ns)) (outcome (M.refused badCode) ns) .answer))
+    by true true = full-listed (badCode ∷ badOperand ∷ placeRefusals) (M.walkedAs i (walkRoot m l depth budget ns i) .answer) tt tt (λ number. refused-full l m depth budget ns i number)
     by true false = tt
     by false b = tt
 
@@ -256,7 +274,7 @@ reads-listed l s text = by (verdict text) (judged text)
 pub answers-listed : AnswersListed
 unfolding controllerCall call
 answers-listed l s (building c) = builds-listed (l .store) (s .nodes) c
-answers-listed l s (simplifying i depth budget) = simplifies-listed (l .store) (s .nodes) i depth budget
+answers-listed l s (simplifying m i depth budget) = simplifies-listed m (l .store) (s .nodes) i depth budget
 answers-listed l s (pruning i t) = prunes-listed badThreshold tt tt tt tt tt (l .store) (s .nodes) i (given t) (given-refused t)
 answers-listed l s (pruningBySetting i n) = prunes-listed badSetting tt tt tt tt tt (l .store) (s .nodes) i (setting n) (setting-refused n)
 answers-listed l s (naming c) = names-listed (l .names) (s .names) c

@@ -1,6 +1,6 @@
 -- Demand 1: "The answer to every sheet and every call .. is a result or one of document 01's numbered refusals". Which refusals each call may
 -- answer, in the order in which they are checked, 20 aside: "Order: 20, 1, then per record 3, 2, 5, 6, 4, 7, 23, 21, 22; a call alone is checked
--- as its record would be, 20 first, and 8 stands in 7's place; for names 20, 9, 24."
+-- as its record would be, 20 first, and 8 stands in 7's place; for names 20, 9, 24", and 10 "right after 5" (02 b).
 use Prim.Native.Nat.{ℕ}
 use mathlib.Core.Bool.{Bool, false, _||_}
 use mathlib.Core.List.{List, [], _∷_}
@@ -29,10 +29,10 @@ ResultOr numbers (refused number) = T (among number numbers)
 abbrev pub placeRefusals : List ℕ
 placeRefusals = noNodePlace ∷ noSlotPlace ∷ []
 
--- a call with a code or flags may meet 5, one with any number of operands 6, one with operands 4
+-- a call with a code or flags may meet 5, one with a constant's bits 10, one with any number of operands 6, one with operands 4
 abbrev pub storeRefusals : Store → List ℕ
 storeRefusals (variable s) = placeRefusals
-storeRefusals (constant b) = placeRefusals
+storeRefusals (constant b) = notANumber ∷ placeRefusals
 storeRefusals (add a b) = badOperand ∷ placeRefusals
 storeRefusals (sub a b) = badOperand ∷ placeRefusals
 storeRefusals (mul a b) = badOperand ∷ placeRefusals
@@ -56,7 +56,7 @@ nameRefusals (nameOf number) = []
 -- of a reading: "in the order 20, 1, 11, 12, 10", and then "Stopped by 24, 21 or 22"
 abbrev pub listedRefusals : ControllerCall → List ℕ
 listedRefusals (building c) = storeRefusals c
-listedRefusals (simplifying id depth budget) = badCode ∷ badOperand ∷ placeRefusals
+listedRefusals (simplifying mode id depth budget) = badCode ∷ badOperand ∷ placeRefusals
 listedRefusals (pruning id threshold) = badOperand ∷ badThreshold ∷ tooManyTerms ∷ placeRefusals
 listedRefusals (pruningBySetting id setting) = badOperand ∷ badSetting ∷ tooManyTerms ∷ placeRefusals
 listedRefusals (naming c) = nameRefusals c

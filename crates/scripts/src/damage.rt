@@ -59,7 +59,19 @@ fn show_slot(slots: &[u32], at: usize) {
     }
 }
 
-// A word, slot or byte set, or all of them; hashes and slots made anew; a word or slot shown.
+// A slot; where an end is given, all from there on and before it.
+fn show_slots(slots: &[u32], from: usize, end: usize) {
+    show_slot(slots, from);
+    let mut at = from;
+    while at < end {
+        at += 1;
+        if at != end {
+            show_slot(slots, at);
+        }
+    }
+}
+
+// A word, slot or byte set, or all of them; hashes and slots made anew; a word or slots shown.
 pub fn change(
     nodes: &mut [u64],
     slots: &mut [u32],
@@ -77,6 +89,6 @@ pub fn change(
         lines::REHASH => rehash(nodes, narrow(list[1])),
         lines::REFILL => fill(nodes, slots, at, narrow(value)),
         lines::WORD => show_word(nodes, at),
-        _ => show_slot(slots, at),
+        _ => show_slots(slots, at, value as usize),
     }
 }

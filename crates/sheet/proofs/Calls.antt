@@ -1,14 +1,16 @@
 -- Records' calls, from what the calls themselves say.
-use Prim.Native.Nat.{ℕ, _<_}
+use Prim.Native.Nat.{ℕ, _+_, _<_}
 use mathlib.Core.Path.{_≡_, refl, sym, ap, _∙_, subst}
-use mathlib.Core.Bool.{Bool, true, false}
+use mathlib.Core.Bool.{Bool, true, false, _&&_}
 use mathlib.Core.Option.{none, some}
 use mathlib.Core.List.{List, map}
 use lib.ListN.{length, length-map}
+use lib.Ieee.{binary64, nanBits}
 use native.Mathlib.Omega.{arith}
+use borrow.Author.Tests.{ne-eqb}
 use Rattle.definitions.specs.Limits.{mostChildren}
 use Rattle.definitions.specs.Refusals.{badRecord, badCode, badChildCount}
-use Rattle.definitions.specs.Node.{Node, node}
+use Rattle.definitions.specs.Node.{Node, node, constantKind, addKind, nanConstant}
 use Rattle.definitions.specs.Intern.{Lent}
 use Rattle.definitions.specs.Machine as M
 use Rattle.definitions.specs.Sheet as Sheet
@@ -16,8 +18,7 @@ use Rattle.store.specs.declared.Answer as S
 use Rattle.store.specs.declared.Built.{Built}
 use Rattle.store.specs.View.{nodesIn}
 use Rattle.store.specs.Memory.{Memory, memory, model, answerOf, Leaves, Stays}
-use Rattle.store.proofs.Leaving.{KeptMemory}
-use Rattle.store.proofs.Staying.{stays-refl, leaves-stays}
+use Rattle.store.proofs.Staying.{stays-refl, kept-stays, leaves-stays}
 use Rattle.store.proofs.Viewing.{plain-length}
 use Rattle.walk.specs.declared.Answer.{Answer as Walked}
 use Rattle.walk.specs.Answers as W
@@ -30,21 +31,8 @@ use Rattle.records.specs.Reading.{callOf}
 use Rattle.sheet.specs.declared.building.Request.{Request}
 use Rattle.sheet.specs.declared.performing.Answer.{Answer}
 use Rattle.sheet.specs.declared.performing.Answer.the-variants.{Refused}
-use Rattle.sheet.specs.Running.{answerAs, PerformsAs, Performs, idOf, idBelow, wanted, PerformsStore, PerformsBody}
+use Rattle.sheet.specs.Running.{operatorRequest, answerAs, PerformsAs, Performs, idOf, idBelow, wanted, PerformsStore, PerformsBody}
 use Rattle.sheet.proofs.Clamping.{store-same, simplify-same, prune-same, store-many, store-unlisted}
-
--- what every call keeps stays
-kept-stays : (m m′ : Memory) → KeptMemory m m′ → Stays m m′
-kept-stays m m′ k = record {
-  sound = k .whole;
-  count = k .count;
-  grown = k .grown;
-  same-lent = rw (k .long, k .wide) refl;
-  words-past = k .words-past;
-  slots-past = k .slots-past;
-  slots-same = k .slots-same;
-  slots-used = k .slots-used;
-}
 
 module _ (m : Memory) (h : model .Sound m) where
   abbrev l : Lent
@@ -100,11 +88,11 @@ module _ (m : Memory) (h : model .Sound m) where
     refuses number e = stored-as (M.outcome (M.refused number) ns) m (sym e) refl (stays-refl m h)
 
     -- "6 number of children", "5 operator, flags, control .. value not listed": before any operand is looked at
-    pub many-refused : q .listed ≡ true → mostChildren < length operands → PerformsStore q operands ids done m (Refused badChildCount) m
-    many-refused t n =
+    pub many-refused : q .listed ≡ true → nanConstant (q .kind) (q .payload) ≡ false → mostChildren < length operands → PerformsStore q operands ids done m (Refused badChildCount) m
+    many-refused t v n =
         refuses badChildCount
         (ap (λ (b : Bool). M.storeCall l ns (M.request b (node (q .kind) (q .payload) (q .flags) handed))) t
-        ∙ store-many l ns (q .kind) (q .payload) (q .flags) handed (subst (λ (i : ℕ). mostChildren < i) (sym (length-map operands (idOf ids done (m .arena .count)))) n))
+        ∙ store-many l ns (q .kind) (q .payload) (q .flags) handed v (subst (λ (i : ℕ). mostChildren < i) (sym (length-map operands (idOf ids done (m .arena .count)))) n))
 
     pub unlisted-refused : q .listed ≡ false → PerformsStore q operands ids done m (Refused badCode) m
     unlisted-refused t =
@@ -145,6 +133,14 @@ AskedFor q = Asked (q .listed) (q .kind) (q .payload) (q .flags)
 -- what may be asked for may be asked for by a request that is the same
 pub asked-as : (q w : Request) → q ≡ w → AskedFor w → AskedFor q
 asked-as q w e k = subst AskedFor (sym e) k
+
+-- and so is what is no NaN
+pub number-as : (q w : Request) → q ≡ w → nanConstant (w .kind) (w .payload) ≡ false → nanConstant (q .kind) (q .payload) ≡ false
+number-as q w e k = subst (λ (r : Request). nanConstant (r .kind) (r .payload) ≡ false) (sym e) k
+
+pub operator-number : (q : Request) (code flags : ℕ) → q ≡ operatorRequest code flags → nanConstant (q .kind) (q .payload) ≡ false
+operator-number q code flags e =
+    number-as q (operatorRequest code flags) e (ap (λ (b : Bool). b && nanBits binary64 0) (ne-eqb (addKind + code) constantKind (λ z. omega arith)))
 
 module _ (s : List ℕ) (body : Body) (ids : List ℕ) (done : ℕ) (m : Memory) (a : Answer) (m′ : Memory) where
   abbrev onIds : List ℕ → List ℕ

@@ -8,8 +8,8 @@ use lib.Dec.{leb, ltb, eqb}
 use native.Mathlib.Omega.{arith}
 use borrow.Author.Tests.{lt-ltb, le-ltb, lt-leb, ne-eqb}
 use Rattle.definitions.specs.Limits.{mostDepth, mostChildren}
-use Rattle.definitions.specs.Refusals.{badOperand, badCode, badChildCount}
-use Rattle.definitions.specs.Node.{Node, node, addKind, mulKind, negKind, functionKind, controlKind, forLoopControl, operatorChildren, controlChildren, childCountListed}
+use Rattle.definitions.specs.Refusals.{badOperand, badCode, notANumber, badChildCount}
+use Rattle.definitions.specs.Node.{Node, node, addKind, mulKind, negKind, functionKind, controlKind, forLoopControl, operatorChildren, controlChildren, nanConstant, childCountListed}
 use Rattle.definitions.specs.Intern.{Lent, intern}
 use Rattle.definitions.specs.Walk.{standard, walkRoot}
 use Rattle.definitions.specs.Threshold.{given}
@@ -69,7 +69,7 @@ module _ (ids : List ℕ) (done count : ℕ) where
     pub store-same : (b : Bool) (k p f : ℕ) (os : List ℕ) → M.storeCall l ns (M.request b (node k p f (map (idBelow ids done count) os))) ≡ M.storeCall l ns (M.request b (node k p f (map (idOf ids done count) os)))
     unfolding M.storeCall
     store-same b k p f os =
-        ap₂ (λ (c : ℕ) (o : M.Outcome). cond b (cond (childCountListed k p c) o (M.outcome (M.refused badChildCount) ns)) (M.outcome (M.refused badCode) ns))
+        ap₂ (λ (c : ℕ) (o : M.Outcome). cond b (cond (nanConstant k p) (M.outcome (M.refused notANumber) ns) (cond (childCountListed k p c) o (M.outcome (M.refused badChildCount) ns))) (M.outcome (M.refused badCode) ns))
         (length-map os (idBelow ids done count) ∙ sym (length-map os (idOf ids done count)))
         (ap₂ (λ (c : ℕ) (t : Bool). cond t (M.storedAs (intern l ns (node k p f (map (idBelow ids done count) os)))) (M.outcome (M.refused badOperand) ns)) n (ap (λ (c : ℕ). M.allBelow c (map (idBelow ids done count) os)) n ∙ all-same os)
         ∙ stored (M.allBelow count (map (idOf ids done count) os)) k p f os refl
@@ -111,9 +111,11 @@ many kind payload n h =
     (both-false (eqb kind controlKind) _ _ (both-false (eqb payload forLoopControl) _ _ (ne-eqb n 4 (λ e. omega arith)) (ne-eqb n 3 (λ e. omega arith))) (ne-eqb n 0 (λ e. omega arith))))
 
 module _ (l : Lent) (ns : List Node) (kind payload flags : ℕ) (os : List ℕ) where
-  pub store-many : mostChildren < length os → M.storeCall l ns (M.request true (node kind payload flags os)) ≡ M.outcome (M.refused badChildCount) ns
+  pub store-many : nanConstant kind payload ≡ false → mostChildren < length os → M.storeCall l ns (M.request true (node kind payload flags os)) ≡ M.outcome (M.refused badChildCount) ns
   unfolding M.storeCall
-  store-many h = ap (λ (b : Bool). cond b (cond (M.allBelow (length ns) os) (M.storedAs (intern l ns (node kind payload flags os))) (M.outcome (M.refused badOperand) ns)) (M.outcome (M.refused badChildCount) ns)) (many kind payload (length os) h)
+  store-many v h =
+      ap₂ (λ (n b : Bool). cond n (M.outcome (M.refused notANumber) ns) (cond b (cond (M.allBelow (length ns) os) (M.storedAs (intern l ns (node kind payload flags os))) (M.outcome (M.refused badOperand) ns)) (M.outcome (M.refused badChildCount) ns)))
+      v (many kind payload (length os) h)
 
   pub store-unlisted : M.storeCall l ns (M.request false (node kind payload flags os)) ≡ M.outcome (M.refused badCode) ns
   unfolding M.storeCall

@@ -1,5 +1,5 @@
 -- The whole of a sheet, on any store and on a fresh one.
-use Prim.Native.Nat.{ℕ, _-_, _≤_, _<_}
+use Prim.Native.Nat.{ℕ, _-_, _≤_}
 use mathlib.Core.Path.{_≡_, refl, sym, ap, ap₂, _∙_, subst}
 use mathlib.Core.Bool.{Bool, true, false, cond}
 use mathlib.Core.Option.{Option, none, some}
@@ -16,12 +16,11 @@ use Rattle.definitions.specs.Machine as M
 use Rattle.definitions.specs.Sheet as Sheet
 use Rattle.definitions.specs.Listing.{listing}
 use Rattle.store.specs.View.{lent, nodesIn}
-use Rattle.store.specs.Memory.{Memory, memory, model}
-use Rattle.store.proofs.Staying.{stays-refl}
-use Rattle.store.proofs.Sizes.{grown-is}
+use Rattle.store.specs.Memory.{Memory, memory, model, memoryAfter}
+use Rattle.store.proofs.Staying.{stays-refl, stays-is}
 use Rattle.builder.specs.declared.opening.FreshStore.{FreshStore}
 use Rattle.builder.specs.declared.opening.FreshStore.the-variants.{Store, Refused as RefusedStore}
-use Rattle.builder.specs.Opens.{freshAnswer, freshSlots, freshMemory, Opens}
+use Rattle.builder.specs.Opens.{freshAnswer, freshSlots, Opens}
 use Rattle.records.specs.declared.Cursor.{Cursor}
 use Rattle.records.specs.declared.Opened.{Opened}
 use Rattle.records.specs.declared.Opened.the-variants.{Records, Refused as RefusedSheet}
@@ -32,24 +31,22 @@ use Rattle.listing_lines.specs.Outcome.{outcomeOf, allLines}
 use Rattle.listing_lines.proofs.Lines.{listing-of-memory}
 use Rattle.sheet.specs.declared.Ran.{Ran}
 use Rattle.sheet.specs.Running.{RunsRecords}
-use Rattle.sheet.specs.Sheets.{Runs, refusedAtStart, notOpened, RunsFresh}
+use Rattle.sheet.specs.Sheets.{ended, endedBy, Runs, refusedAtStart, notOpened, RunsFresh}
 use Rattle.sheet.proofs.Onward.{finish}
 
 pub runs-unsound : (s : List ℕ) (m : Memory) → (model .Sound m → ⊥) → Runs s m (RefusedAt notSound 0) m
 runs-unsound s m n = record {
-  unsound = λ _. (refl, refl);
-  outcome = λ h. absurd (n h);
+  equation = refused-by;
   left = λ h. absurd (n h);
   sound = λ h. absurd (n h);
   listing = λ h. absurd (n h);
   same-lent = refl;
-  size = λ h. absurd (n h);
-  words-past = refl;
-  slots-past = refl;
-  slots-same = λ _. refl;
-  slots-used = λ _ at n. refl;
   unchanged = λ _. refl;
 }
+  where
+    refused-by : (d : Dec (model .Sound m)) → ended (RefusedAt notSound 0) m ≡ endedBy s m d
+    refused-by (yes h) = absurd (n h)
+    refused-by (no _) = refl
 
 -- a refusal before the first record, as the code gives it
 pub runs-at-start : (s words slots : List ℕ) (arena : DagArena) (number : ℕ) (r : Ran) → r ≡ refusedAtStart number arena → Runs s (memory words slots arena) (RefusedAt number 0) (memory words slots arena) → Runs s (memory words slots arena) (r .outcome) (memory words slots (r .arena))
@@ -58,19 +55,17 @@ runs-at-start s words slots arena number r e k = subst (λ (x : Ran). Runs s (me
 module _ (s : List ℕ) (m : Memory) (h : model .Sound m) where
   runs : (o : Outcome) (m′ : Memory) → RunsRecords (Sheet.sheet (model .lent m) (model .view m) s) m o m′ → (isSheet s ≡ false → m′ ≡ m) → Runs s m o m′
   runs o m′ f u = record {
-    unsound = λ n. absurd (n h);
-    outcome = λ _. f .outcome;
+    equation = answered-by;
     left = λ _. f .left;
     listing = λ _. listing-of-memory o (m′ .words) (m′ .arena .count) (Sheet.sheet (model .lent m) (model .view m) s) (f .outcome) (ap (λ (x : M.State). x .nodes) (f .left));
     sound = λ _. f .stays .sound;
     same-lent = f .stays .same-lent;
-    size = λ _. grown-is (m .arena .size) (m′ .arena .count) (m′ .arena .size) (h .table .doubled) (f .stays .sound .nodes .formed .many) (f .stays .sound .table .load) (f .stays .grown);
-    words-past = f .stays .words-past;
-    slots-past = f .stays .slots-past;
-    slots-same = f .stays .slots-same;
-    slots-used = f .stays .slots-used;
     unchanged = u;
   }
+    where
+      answered-by : (d : Dec (model .Sound m)) → ended o m′ ≡ endedBy s m d
+      answered-by (no n) = absurd (n h)
+      answered-by (yes _) = ap₂ ended (f .outcome) (stays-is m m′ h (f .stays) ∙ ap (λ (x : M.State). memoryAfter m (x .nodes)) (f .left))
 
   -- 1
   pub runs-refused : (r : Opened) → r ≡ RefusedSheet → OpensSheet s r → Runs s m (RefusedAt badSheet 0) m

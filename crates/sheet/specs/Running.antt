@@ -7,9 +7,9 @@ use mathlib.Core.List.{List, [], map}
 use lib.ListN.{length, getD, drop}
 use lib.Dec.{leb, ltb, eqb}
 use Rattle.arena.specs.declared.DagArena.{DagArena}
-use Rattle.definitions.specs.Limits.{mostRecords}
+use Rattle.definitions.specs.Limits.{mostRecords, mostChildren}
 use Rattle.definitions.specs.Refusals.{badRecord}
-use Rattle.definitions.specs.Node.{addKind, controlKind, forLoopControl, lastOperator, bothFlags, node}
+use Rattle.definitions.specs.Node.{addKind, controlKind, forLoopControl, lastOperator, bothFlags, node, nanConstant}
 use Rattle.definitions.specs.Machine as M
 use Rattle.definitions.specs.Sheet as Sheet
 use Rattle.store.specs.Memory.{Memory, memory, model, Stays}
@@ -60,6 +60,10 @@ wanted q children = M.request (q .listed) (node (q .kind) (q .payload) (q .flags
 abbrev pub PerformsStore : Request → List ℕ → List ℕ → ℕ → Memory → Answer → Memory → Type 0
 PerformsStore q operands ids done m a m′ =
     PerformsAs (M.onNodes (model .view m) (M.storeCall (model .lent m) (model .view m .nodes) (wanted q (map (idOf ids done (m .arena .count)) operands)))) m a m′
+
+-- more operands than a node has children are asked for by no constant whose bits are a NaN: a constant's record has no operands
+abbrev pub NumberIfMany : Request → ℕ → Type 0
+NumberIfMany q operands = mostChildren < operands → nanConstant (q .kind) (q .payload) ≡ false
 
 -- what 01, 02 and 04 want
 abbrev pub listedRequest : ℕ → ℕ → Request

@@ -1,22 +1,18 @@
 -- What running a sheet says of the memory before it, its outcome and the memory after it.
-use Prim.Native.Nat.{ℕ, _*_}
+use Prim.Native.Nat.{ℕ}
 use mathlib.Core.Path.{_≡_}
-use mathlib.Core.Bool.{true, false, cond}
+use mathlib.Core.Bool.{false, cond}
 use mathlib.Core.Option.{Option, none, some}
 use mathlib.Core.List.{List}
-use lib.ListN.{drop}
-use Rattle.arena.specs.Layout.{nodeWords}
 use Rattle.arena.specs.Nodes.{Nodes}
 use Rattle.arena.specs.declared.DagArena.{DagArena}
-use Rattle.dedup.specs.Table.{UsedStay}
-use Rattle.definitions.specs.Limits.{mostDoublings}
 use Rattle.definitions.specs.Refusals.{badSheet, notSound, noSlotPlace}
-use Rattle.definitions.specs.Intern.{Lent, tableSizeFrom}
+use Rattle.definitions.specs.Intern.{Lent}
 use Rattle.definitions.specs.Machine.{empty, freshRefused}
 use Rattle.definitions.specs.Sheet.{sheet}
 use Rattle.definitions.specs.Listing as Listing
 use Rattle.store.specs.View.{lent}
-use Rattle.store.specs.Memory.{Memory, memory, model}
+use Rattle.store.specs.Memory.{Memory, memory, model, memoryAfter}
 use Rattle.builder.specs.Opens.{freshMemory}
 use Rattle.records.specs.Reading.{isSheet}
 use Rattle.listing_lines.specs.declared.Outcome.{Outcome}
@@ -29,22 +25,30 @@ use Rattle.sheet.specs.declared.Ran.{Ran}
 abbrev pub refusedAtStart : ℕ → DagArena → Ran
 refusedAtStart number arena = record { outcome = Refused number 0; arena = arena }
 
--- "20, 1, then per record ..": 20 at 0 and nothing changed where the store is not sound; where it is, the plain machine's outcome and nodes,
--- and a sound store again.
+-- an outcome, and the memory after it
+pub record Ended : Type 0 where
+  pub outcome : Outcome
+  pub memory : Memory
+
+abbrev pub ended : Outcome → Memory → Ended
+ended outcome memory = record { outcome = outcome; memory = memory }
+
+-- "20, 1, then per record ..": 20 at 0 and the same memory where the store is not sound, else the plain machine's outcome and the memory that its
+-- nodes give.
+abbrev pub endedBy : (s : List ℕ) (m : Memory) → Dec (model .Sound m) → Ended
+endedBy s m (yes h) =
+    ended (outcomeOf (sheet (model .lent m) (model .view m) s .refusal) (sheet (model .lent m) (model .view m) s .answers))
+    (memoryAfter m (sheet (model .lent m) (model .view m) s .left .nodes))
+endedBy s m (no n) = ended (Refused notSound 0) m
+
+-- A sheet: one equation for its outcome and the memory, which has the plain machine's nodes, is sound again and as large as before.
 pub record Runs (s : List ℕ) (m : Memory) (o : Outcome) (m′ : Memory) : Type 0 where
-  pub unsound : (model .Sound m → ⊥) → (o ≡ Refused notSound 0) × (m′ ≡ m)
-  pub outcome : model .Sound m → o ≡ outcomeOf (sheet (model .lent m) (model .view m) s .refusal) (sheet (model .lent m) (model .view m) s .answers)
+  pub equation : (d : Dec (model .Sound m)) → ended o m′ ≡ endedBy s m d
   pub left : model .Sound m → model .view m′ ≡ sheet (model .lent m) (model .view m) s .left
   -- the lines of the outcome and of the nodes, joined, are the listing of the plain machine's result
   pub listing : model .Sound m → allLines o (m′ .words) (m′ .arena .count) ≡ Listing.listing (sheet (model .lent m) (model .view m) s)
   pub sound : model .Sound m → model .Sound m′
   pub same-lent : model .lent m′ ≡ model .lent m
-  pub size : model .Sound m → m′ .arena .size ≡ tableSizeFrom mostDoublings (m .arena .size) (m′ .arena .count)
-  pub words-past : drop (m′ .arena .count * nodeWords) (m′ .words) ≡ drop (m′ .arena .count * nodeWords) (m .words)
-  pub slots-past : drop (m′ .arena .size) (m′ .slots) ≡ drop (m′ .arena .size) (m .slots)
-  -- no slot changes where no node is added, and a slot in use stays where the table keeps its size
-  pub slots-same : m′ .arena .count ≡ m .arena .count → m′ .slots ≡ m .slots
-  pub slots-used : m′ .arena .size ≡ m .arena .size → UsedStay (m .slots) (m′ .slots)
   -- 1 changes nothing
   pub unchanged : isSheet s ≡ false → m′ ≡ m
 

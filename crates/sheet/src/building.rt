@@ -7,7 +7,7 @@ ghost use Rattle.store.specs.Sound.{Sound};
 ghost use Rattle.store.specs.Memory.{memory};
 ghost use Rattle.builder.specs.Stores.{Asked};
 ghost use Rattle.records.specs.Reading.{operandsFrom};
-ghost use Rattle.sheet.specs.Running.{PerformsStore, listedRequest, operatorRequest, controlRequest};
+ghost use Rattle.sheet.specs.Running.{PerformsStore, NumberIfMany, listedRequest, operatorRequest, controlRequest};
 use crate::MOST_RECORDS;
 use crate::operands::operand_ids;
 use crate::performing::Answer;
@@ -83,7 +83,9 @@ pub fn build(
     arena: DagArena,
     request: Request,
 ) -> Performed
-    requires { ⌜ (first + operands * 2 ≤ length (now sheet)) × (length (now ids) ≡ mostRecords) × (done ≤ mostRecords) × Asked (request .listed) (request .kind) (request .payload) (request .flags) × Sound (now nodes) (now slots) arena ⌝ }
+    requires { ⌜ (first + operands * 2 ≤ length (now sheet)) × (length (now ids) ≡ mostRecords) × (done ≤ mostRecords)
+        × Asked (request .listed) (request .kind) (request .payload) (request .flags) × Sound (now nodes) (now slots) arena
+        × NumberIfMany request operands ⌝ }
     ensures { λ r. ⌜ PerformsStore request (operandsFrom (now (sheet .entry)) first operands) (now (ids .entry)) done (memory (now (nodes .entry)) (now (slots .entry)) arena) (r .answer) (memory (now (nodes .exit)) (now (slots .exit)) (r .arena)) ⌝ }
 {
     if MOST_CHILDREN < operands {

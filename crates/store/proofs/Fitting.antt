@@ -1,9 +1,10 @@
 -- Nodes that may be interned: a constant, and an operator of two operands with the flags that `add` and `mul` give.
 use Prim.Native.Nat.{ℕ, zero, suc, _≤_, _<_}
-use mathlib.Core.Path.{_≡_, refl}
-use mathlib.Core.Bool.{true}
+use mathlib.Core.Path.{_≡_, refl, ap}
+use mathlib.Core.Bool.{Bool, true, false, not, _&&_}
 use mathlib.Core.List.{[], _∷_}
 use lib.ListN.{getD}
+use lib.Ieee.{binary64, nanBits}
 use native.Mathlib.Omega.{arith}
 use Rattle.definitions.specs.Node.{constantKind, bothFlags}
 use Rattle.arena.specs.Kind.{operatorArity}
@@ -18,9 +19,9 @@ no-children (suc (suc zero)) = refl
 no-children (suc (suc (suc zero))) = refl
 no-children (suc (suc (suc (suc j)))) = refl
 
-pub constant-fits : (count b : ℕ) → Fits count constantKind b 0 0 (0 ∷ 0 ∷ 0 ∷ 0 ∷ [])
+pub constant-fits : (count b : ℕ) → nanBits binary64 b ≡ false → Fits count constantKind b 0 0 (0 ∷ 0 ∷ 0 ∷ 0 ∷ [])
 unfolding listed operatorArity
-constant-fits count b = record { listing = refl; unmarked = omega arith; few = omega arith; lower = λ j h. absurd (omega arith); unused = λ j h. no-children j }
+constant-fits count b n = record { listing = ap (λ (t : Bool). not t && true) n; unmarked = omega arith; few = omega arith; lower = λ j h. absurd (omega arith); unused = λ j h. no-children j }
 
 both-low : (a b count : ℕ) → a < count → b < count → (j : ℕ) → j < 2 → getD (a ∷ b ∷ 0 ∷ 0 ∷ []) j 0 < count
 both-low a b count x y zero l = x

@@ -21,8 +21,6 @@ kept-refl w slots s h = record {
   wide = refl;
   words-past = refl;
   slots-past = refl;
-  slots-same = λ _. refl;
-  slots-used = λ _ at n. refl;
   children = λ i l. refl;
 }
 
@@ -42,9 +40,5 @@ kept-trans w slots s w′ slots′ t w″ slots″ u a b = record {
   wide = b .wide ∙ a .wide;
   words-past = b .words-past ∙ later w′ w (t .count * nodeWords) (u .count * nodeWords) (omega (arith, b .count)) (a .words-past);
   slots-past = b .slots-past ∙ later slots′ slots (t .size) (u .size) (b .size) (a .slots-past);
-  slots-same = λ e. b .slots-same (omega (arith, a .count, b .count)) ∙ a .slots-same (omega (arith, a .count, b .count));
-  slots-used = λ e at n.
-      let first = a .slots-used (omega (arith, a .size, b .size)) at n in
-      b .slots-used (omega (arith, a .size, b .size)) at (λ z. n (sym first ∙ z)) ∙ first;
   children = λ i l. b .children i (omega (arith, a .count)) ∙ a .children i l;
 }

@@ -1,19 +1,17 @@
 -- What a call leaves, in the three cases that every public call has: not sound, refused at once, and done.
-use Prim.Native.Nat.{ℕ, _*_}
+use Prim.Native.Nat.{ℕ}
 use mathlib.Core.Path.{_≡_, refl, sym, ap, _∙_}
 use mathlib.Core.Bool.{true}
-use mathlib.Core.List.{List}
-use lib.ListN.{length}
 use native.Mathlib.Omega.{arith}
-use Rattle.arena.specs.Layout.{nodeWords}
 use Rattle.definitions.specs.Limits.{mostDoublings}
 use Rattle.definitions.specs.Refusals.{notSound}
-use Rattle.definitions.specs.Intern.{Lent, tableSizeFrom}
-use Rattle.definitions.specs.Machine.{Call, Answer, refused, After, State, call}
+use Rattle.definitions.specs.Intern.{tableSizeFrom}
+use Rattle.definitions.specs.Machine.{Call, Answer, refused, After, call}
 use Rattle.store.specs.View.{lent, Kept}
-use Rattle.store.specs.Memory.{Memory, model, changesNothing, Leaves}
+use Rattle.store.specs.Memory.{Memory, model, memoryAfter, changesNothing, left, leftBy, Leaves}
 use Rattle.store.proofs.Sizes.{grown-is}
 use Rattle.store.proofs.Keeping.{kept-refl}
+use Rattle.store.proofs.Stored.{memory-is}
 
 abbrev pub SoundMemory : Memory → Type 0
 SoundMemory m = model .Sound m
@@ -29,19 +27,20 @@ module _ (c : Call) (m : Memory) where
   -- "20 store .. not sound"
   pub leaves-unsound : (SoundMemory m → ⊥) → Leaves c m (refused notSound) m
   leaves-unsound n = record {
+    equation = refused-by;
     called = record { unsound = λ _. (refl, refl); answer = λ h. absurd (n h); left = λ h. absurd (n h); sound = λ h. h; same-lent = refl };
     count = omega arith;
-    size = λ h. absurd (n h);
-    words-past = refl;
-    slots-past = refl;
-    slots-same = λ _. refl;
-    slots-used = λ _ at used. refl;
     unchanged = λ number e u. refl;
   }
+    where
+      refused-by : (d : Dec (SoundMemory m)) → left (refused notSound) m ≡ leftBy c m d
+      refused-by (yes h) = absurd (n h)
+      refused-by (no _) = refl
 
   -- the plain machine's answer, over a memory with its nodes
   pub leaves-kept : (a : Answer) (m′ : Memory) → SoundMemory m → KeptMemory m m′ → call (model .lent m) (model .view m) c ≡ after a m′ → ((number : ℕ) → a ≡ refused number → changesNothing c number ≡ true → m′ ≡ m) → Leaves c m a m′
   leaves-kept a m′ h k e u = record {
+    equation = answered-by;
     called = record {
       unsound = λ n. absurd (n h);
       answer = λ _. sym (ap (λ (x : After). x .answer) e);
@@ -50,13 +49,15 @@ module _ (c : Call) (m : Memory) where
       same-lent = rw (k .long, k .wide) refl;
     };
     count = k .count;
-    size = λ _. grown-is (m .arena .size) (m′ .arena .count) (m′ .arena .size) (h .table .doubled) (k .whole .nodes .formed .many) (k .whole .table .load) (k .grown);
-    words-past = k .words-past;
-    slots-past = k .slots-past;
-    slots-same = k .slots-same;
-    slots-used = k .slots-used;
     unchanged = u;
   }
+    where
+      size : m′ .arena .size ≡ tableSizeFrom mostDoublings (m .arena .size) (m′ .arena .count)
+      size = grown-is (m .arena .size) (m′ .arena .count) (m′ .arena .size) (h .table .doubled) (k .whole .nodes .formed .many) (k .whole .table .load) (k .grown)
+
+      answered-by : (d : Dec (SoundMemory m)) → left a m′ ≡ leftBy c m d
+      answered-by (no n) = absurd (n h)
+      answered-by (yes _) = ap (left a) (memory-is m m′ (k .whole) size (k .words-past) (k .slots-past)) ∙ ap (λ (x : After). left (x .answer) (memoryAfter m (x .left .nodes))) (sym e)
 
   -- a refusal that leaves all as it is
   pub leaves-refused : (number : ℕ) → SoundMemory m → call (model .lent m) (model .view m) c ≡ after (refused number) m → Leaves c m (refused number) m

@@ -1,6 +1,7 @@
 pub mod Viewing
 pub mod Sizes
 pub mod Keeping
+pub mod Stored
 pub mod Refining
 pub mod Stopping
 pub mod Numbers
@@ -10,5 +11,5 @@ pub mod NewNodes
 pub mod Fitting
 pub mod Marking
 pub mod Leaving
-pub mod Staying
 pub mod Determined
+pub mod Staying

@@ -4,7 +4,6 @@ use mathlib.Core.Path.{_≡_, refl, sym, ap, _∙_, subst}
 use mathlib.Core.List.{List}
 use lib.ListN.{length, set, length-set}
 use lib.Seq.{getD-set-same, getD-set-other, ext-getD, drop-set-lt}
-use lib.Dec.{leb}
 use native.Mathlib.Omega.{arith}
 use native.Mathlib.Decide.{ℕ-discrete}
 use borrow.Author.Tests.{le-leb}
@@ -79,8 +78,6 @@ mark-kept w slots s h id below =
       wide = refl;
       words-past = drop-set-lt (s .count * nodeWords) w (id * nodeWords + flagsWord) _ (omega arith);
       slots-past = refl;
-      slots-same = λ _. refl;
-      slots-used = λ _ at n. refl;
       children = mark-children w (s .count) id k;
     }
 

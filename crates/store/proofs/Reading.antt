@@ -1,7 +1,7 @@
 -- What the words of a node say of the plain node.
 use Prim.Native.Nat.{ℕ, _+_, _*_, _%_, _≤_, _<_}
 use mathlib.Core.Path.{_≡_, refl, sym, ap, _∙_, subst}
-use mathlib.Core.Bool.{true}
+use mathlib.Core.Bool.{true, false}
 use mathlib.Core.List.{List}
 use lib.ListN.{length, getD, take}
 use lib.Seq.{getD-take, length-take-le}
@@ -13,7 +13,7 @@ use Rattle.arena.specs.declared.DagArena.{DagArena}
 use Rattle.arena.specs.Layout.{nodeWords, mostChildren, kindWord, payloadWord, flagsWord, arityWord, childrenWord}
 use Rattle.arena.specs.Node.{wordsFrom, nodeAt, canonical}
 use Rattle.arena.specs.Nodes.{WellFormed}
-use Rattle.arena.proofs.Listing.{listed-few}
+use Rattle.arena.proofs.Listing.{listed-few, listed-number}
 use Rattle.arena.proofs.Words.{words-length, words-at}
 use Rattle.definitions.specs.Node as N
 use Rattle.store.specs.Sound.{Sound}
@@ -100,6 +100,10 @@ module _ (w slots : List ℕ) (s : DagArena) (h : Sound w slots s) (i : ℕ) (l 
       subst (λ (a : ℕ). listed (N.at (nodesIn w (s .count)) i .kind) (N.at (nodesIn w (s .count)) i .payload) a ≡ true) (arity-is w (s .count) i lookup-of)
       (subst (λ (p : ℕ). listed (N.at (nodesIn w (s .count)) i .kind) p (getD w (i * nodeWords + arityWord) 0) ≡ true) (payload-is w (s .count) i lookup-of)
       (subst (λ (x : ℕ). listed x (getD w (i * nodeWords + payloadWord) 0) (getD w (i * nodeWords + arityWord) 0) ≡ true) (kind-is w (s .count) i lookup-of) (h .nodes .formed .each i l .kinds)))
+
+  -- 02 (b): no constant of a sound store is a NaN
+  pub number-at : N.nanConstant (N.at (nodesIn w (s .count)) i .kind) (N.at (nodesIn w (s .count)) i .payload) ≡ false
+  number-at = listed-number _ _ _ listed-at
 
 -- a node by value without a mark, plainly
 pub plain-unmarked : (n : DagNode) → n .flags < canonical → plainNode n ≡ N.node (n .kind) (n .payload) (n .flags) (take (n .arity) (n .children))

@@ -5,7 +5,7 @@ use mathlib.Core.Bool.{Bool, true, false, cond, _||_, false≢true}
 use mathlib.Core.List.{List, [], _∷_, _++_}
 use mathlib.Core.Logic.{_⊎_, inl, inr, ⊎-elim}
 use mathlib.Core.Option.{Option, none, some}
-use lib.ListN.{length, getD, drop, List·getD-append}
+use lib.ListN.{length, drop, List·getD-append}
 use lib.Dec.{leb, ltb}
 use native.Mathlib.Omega.{arith}
 use native.Mathlib.Numerals.{add-one}
@@ -14,16 +14,17 @@ use Rattle.arena.specs.declared.node.DagNode.{DagNode}
 use Rattle.arena.specs.declared.DagArena.{DagArena}
 use Rattle.arena.specs.Layout.{nodeWords, mostNodes, mostChildren}
 use Rattle.arena.specs.Node as A
-use Rattle.arena.specs.Node.{nodeAt, put}
+use Rattle.arena.specs.Node.{put}
 use Rattle.arena.specs.Nodes.{WellFormed}
 use Rattle.arena.proofs.Putting.{put-past, put-old, put-new}
 use Rattle.arena.proofs.Finding.{found-at}
 use Rattle.dedup.specs.declared.Interned.{Interned}
 use Rattle.dedup.specs.declared.Answer as DA
 use Rattle.dedup.specs.declared.Answer.the-variants as DV
-use Rattle.dedup.specs.Table.{UsedStay}
+use Rattle.dedup.specs.Table.{Table, hashAt}
 use Rattle.dedup.specs.Intern as D
-use Rattle.dedup.specs.Intern.{answered, newAnswer, internAnswer, wordsAfter, SlotsKept}
+use Rattle.dedup.specs.Intern.{answered, newAnswer, internAnswer, wordsAfter}
+use Rattle.dedup.proofs.Inserting.{slots-one}
 use Rattle.definitions.specs.Node as N
 use Rattle.definitions.specs.Refusals.{noNodePlace, noSlotPlace}
 use Rattle.definitions.specs.Intern as I
@@ -32,10 +33,10 @@ use Rattle.store.specs.declared.Built.{Built}
 use Rattle.store.specs.declared.Answer.{Answer}
 use Rattle.store.specs.declared.Answer.the-variants.{Id, Refused}
 use Rattle.store.specs.Sound.{Sound}
-use Rattle.store.specs.View.{plainNode, nodesIn, lent, Kept, Builds, Grown, plainBuilt, Low}
+use Rattle.store.specs.View.{plainNode, nodesIn, lent, Grown, plainBuilt, Low}
 use Rattle.store.specs.Memory.{memory}
 use Rattle.store.specs.Interning.{Interns}
-use Rattle.store.proofs.Viewing.{Neat, neat-of, find-is, plain-length, plain-more, plain-same}
+use Rattle.store.proofs.Viewing.{neat-of, find-is, plain-length, plain-more, plain-same}
 use Rattle.store.proofs.Sizes.{full-nodes, full-not, full-slots, full-double, grown-refl, grown-once}
 
 -- the table's answer as the store's
@@ -89,8 +90,12 @@ module _ (w slots : List ℕ) (s : DagArena) (key : DagNode) (four : length (key
     after : (a : DA.Answer) → t .answer ≡ a → w′ ≡ wordsAfter a w key
     after a e = i .words-after ∙ ap (λ (x : DA.Answer). wordsAfter x w key) e
 
-    kept-slots : (a : DA.Answer) → t .answer ≡ a → SlotsKept a z (t .arena .size) slots slots′
-    kept-slots a e = subst (λ (x : DA.Answer). SlotsKept x z (t .arena .size) slots slots′) e (i .slots-kept)
+    -- no node more, at the same size, leaves every slot
+    same-slots : (a : DA.Answer) → t ≡ answered a c z → w′ ≡ w → slots′ ≡ slots
+    same-slots a e q =
+        slots-one (hashAt w) c slots slots′ z (h .table)
+        (subst (λ (x : List ℕ). Table (hashAt x) c slots′ z) q (subst (λ (x : Interned). Table (hashAt w′) (x .arena .count) slots′ (x .arena .size)) e (i .table)))
+        (subst (λ (x : Interned). drop (x .arena .size) slots′ ≡ drop (x .arena .size) slots) e (i .slots-past))
 
     -- the same nodes and slots
     stays : (a : DA.Answer) → t ≡ answered a (s .count) (s .size) → w′ ≡ w → slots′ ≡ slots → plainBuilt (viewed a) (nodesIn w c) ≡ plain → Low (viewed a) c → Goal
@@ -108,8 +113,6 @@ module _ (w slots : List ℕ) (s : DagArena) (key : DagNode) (four : length (key
               wide = ls;
               words-past = ap (drop (c * nodeWords)) q;
               slots-past = ap (drop z) r;
-              slots-same = λ _. r;
-              slots-used = λ _ at n. ap (λ (x : List ℕ). getD x at 0) r;
               children = λ j l. ap (λ (x : List ℕ). N.at (nodesIn x c) j .children) q;
             };
             low = low;
@@ -118,19 +121,18 @@ module _ (w slots : List ℕ) (s : DagArena) (key : DagNode) (four : length (key
         })
 
     old : (j : ℕ) → A.find w c key ≡ some j → t ≡ answered (DV.Old j) c z → Goal
-    unfolding wordsAfter SlotsKept
-    old j g e = let a = ap (λ (x : Interned). x .answer) e in stays (DV.Old j) e (after _ a) (kept-slots _ a) (sym (found (some j) g)) (found-at w key c j g .0)
+    unfolding wordsAfter
+    old j g e = let q : w′ ≡ w = after (DV.Old j) (ap (λ (x : Interned). x .answer) e) in stays (DV.Old j) e q (same-slots (DV.Old j) e q) (sym (found (some j) g)) (found-at w key c j g .0)
 
     module _ (g : A.find w (s .count) key ≡ none) where
       refuse : (number : ℕ) → noPlace (lent w slots) c ≡ some number → t ≡ answered (DV.Refused number) c z → Goal
-      unfolding wordsAfter SlotsKept
-      refuse number q e = let a = ap (λ (x : Interned). x .answer) e in stays (DV.Refused number) e (after _ a) (kept-slots _ a) (sym (fresh (some number) g q)) tt
+      unfolding wordsAfter
+      refuse number q e = let p : w′ ≡ w = after (DV.Refused number) (ap (λ (x : Interned). x .answer) e) in stays (DV.Refused number) e p (same-slots (DV.Refused number) e p) (sym (fresh (some number) g q)) tt
 
       add : (size : ℕ) → c * nodeWords + nodeWords ≤ length w → s .size ≤ size → Grown (s .size) (c + 1) size → noPlace (lent w slots) c ≡ none → t ≡ answered (DV.New c) (c + 1) size → Goal
-      unfolding wordsAfter SlotsKept
+      unfolding wordsAfter
       add size fits m d q e =
           let p : w′ ≡ put w c key = after (DV.New c) (ap (λ (x : Interned). x .answer) e) in
-          let used : t .arena .size ≡ z → UsedStay slots slots′ = kept-slots (DV.New c) (ap (λ (x : Interned). x .answer) e) in
           let ten : (c + 1) * nodeWords ≡ c * nodeWords + nodeWords = omega arith in
           let nodes : nodesIn w′ (c + 1) ≡ nodesIn w c ++ (plainNode key ∷ []) = ap (λ (x : List ℕ). nodesIn x (c + 1)) p ∙ put-nodes fits in
           subst (λ (x : Interned). Interns w slots s (plainNode key) w′ slots′ (out x)) (sym e)
@@ -149,8 +151,6 @@ module _ (w slots : List ℕ) (s : DagArena) (key : DagNode) (four : length (key
                 wide = ls;
                 words-past = rw ten (ap (drop (c * nodeWords + nodeWords)) p ∙ put-past w c key fits four);
                 slots-past = subst (λ (x : Interned). drop (x .arena .size) slots′ ≡ drop (x .arena .size) slots) e (i .slots-past);
-                slots-same = λ same. absurd (omega arith);
-                slots-used = λ same. used (ap (λ (x : Interned). x .arena .size) e ∙ same);
                 children = λ j l.
                     ap (λ (x : List N.Node). N.at x j .children) nodes
                     ∙ ap (λ (x : N.Node). x .children) (List·getD-append (nodesIn w c) (plainNode key ∷ []) N.blank j (rw (plain-length w c) l));

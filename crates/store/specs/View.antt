@@ -9,7 +9,6 @@ use Rattle.arena.specs.declared.DagArena.{DagArena}
 use Rattle.arena.specs.Layout.{nodeWords}
 use Rattle.arena.specs.Node.{nodeAt, canonical}
 unfoldable pub use Rattle.arena.specs.Kind.{listed}
-use Rattle.dedup.specs.Table.{UsedStay}
 use Rattle.definitions.specs.Node as N
 use Rattle.definitions.specs.Intern as I
 use Rattle.store.specs.declared.Built.{Built}
@@ -44,7 +43,7 @@ pub record Grown (size count size′ : ℕ) : Type 0 where
   pub needed : (d : ℕ) → d < doublings → I.capacity (size * 2 ^ d) < count
 
 -- What every call keeps: the store is sound, the size as the count needs it, words and slots past the used ones stay, and so do the children
--- of each node. Only a new node changes slots, and at the same table size it takes empty ones.
+-- of each node.
 pub record Kept (words slots : List ℕ) (arena : DagArena) (words′ slots′ : List ℕ) (arena′ : DagArena) : Type 0 where
   pub whole : Sound words′ slots′ arena′
   pub count : arena .count ≤ arena′ .count
@@ -54,8 +53,6 @@ pub record Kept (words slots : List ℕ) (arena : DagArena) (words′ slots′ :
   pub wide : length slots′ ≡ length slots
   pub words-past : drop (arena′ .count * nodeWords) words′ ≡ drop (arena′ .count * nodeWords) words
   pub slots-past : drop (arena′ .size) slots′ ≡ drop (arena′ .size) slots
-  pub slots-same : arena′ .count ≡ arena .count → slots′ ≡ slots
-  pub slots-used : arena′ .size ≡ arena .size → UsedStay slots slots′
   pub children : (i : ℕ) → i < arena .count → N.at (nodesIn words′ (arena′ .count)) i .children ≡ N.at (nodesIn words (arena .count)) i .children
 
 -- an answer over the memory after it, plainly

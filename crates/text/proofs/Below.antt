@@ -6,7 +6,7 @@ use mathlib.Core.Option.{Option, none, some}
 use mathlib.Core.List.{List, [], _∷_, _++_}
 use lib.ListN.{length, length-append}
 use native.Mathlib.Omega.{arith}
-use Rattle.definitions.specs.Node.{Node, same, childCountListed}
+use Rattle.definitions.specs.Node.{Node, same, nanConstant, childCountListed}
 use Rattle.definitions.specs.Intern.{Lent, find, noPlace, intern, addNew, foundOrNew}
 use Rattle.definitions.specs.Machine as M
 
@@ -49,7 +49,8 @@ pub store-below : (l : Lent) (ns : List Node) (q : M.Request) → Below (M.store
 unfolding M.storeCall
 store-below l ns q =
     cond-below (q .listed) _ _
+    (cond-below (nanConstant (q .node .kind) (q .node .payload)) _ _ (refused-below 10 ns)
     (cond-below (childCountListed (q .node .kind) (q .node .payload) (length (q .node .children))) _ _
     (cond-below (M.allBelow (length ns) (q .node .children)) _ _ (intern-below l ns (q .node)) (refused-below 4 ns))
-    (refused-below 6 ns))
+    (refused-below 6 ns)))
     (refused-below 5 ns)

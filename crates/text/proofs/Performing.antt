@@ -1,5 +1,5 @@
 -- One token is one name call, one store call, or a name call and then a store call, on sound lists.
-use Prim.Native.Nat.{ℕ, zero, suc, _+_, _-_, _*_, _≤_, _<_}
+use Prim.Native.Nat.{ℕ, zero, suc, _-_, _*_, _≤_, _<_}
 use mathlib.Core.Path.{_≡_, refl, sym, ap, _∙_, subst}
 use mathlib.Core.Bool.{Bool, true, false, cond}
 use mathlib.Core.Option.{Option, none, some}
@@ -14,10 +14,9 @@ use Rattle.definitions.specs.Names.{internName, nameCall, entryBytes}
 use Rattle.definitions.specs.Machine as M
 use Rattle.store.specs.declared.Answer.{Answer}
 use Rattle.store.specs.declared.Answer.the-variants.{Id, Refused}
-use Rattle.store.specs.Memory.{Memory, memory, model, answerOf, Stays}
+use Rattle.store.specs.Memory.{memory, model, answerOf}
 use Rattle.store.specs.View.{nodesIn}
-use Rattle.store.proofs.Leaving.{KeptMemory}
-use Rattle.store.proofs.Staying.{stays-refl, stays-trans}
+use Rattle.store.proofs.Staying.{stays-refl, stays-trans, kept-stays}
 use Rattle.store.proofs.Keeping.{later}
 use Rattle.store.proofs.Viewing.{plain-length}
 use Rattle.builder.specs.Stores.{BuildsSound}
@@ -41,19 +40,6 @@ use Rattle.text.specs.Memory.{ControllerMemory, controllerMemory, BothSo
 use Rattle.text.specs.Making.{outcome, FitsId, Makes, operatorCall, refusalOf}
 
 -- ---- what is kept
-
--- what every call keeps stays
-kept-stays : (m m′ : Memory) → KeptMemory m m′ → Stays m m′
-kept-stays m m′ k = record {
-  sound = k .whole;
-  count = k .count;
-  grown = k .grown;
-  same-lent = rw (k .long, k .wide) refl;
-  words-past = k .words-past;
-  slots-past = k .slots-past;
-  slots-same = k .slots-same;
-  slots-used = k .slots-used;
-}
 
 pub extends-refl : (d : ControllerMemory) → BothSound d → Extends d d
 extends-refl d h = record { store = stays-refl (d .store) (h .store); names = h .names; count = omega arith; long = refl; past = refl }

@@ -19,12 +19,6 @@ pub data Reads (s : List ℕ) (m : ControllerMemory) : Answer → ControllerMemo
   read : {e : Expr} {a : Answer} {m′ : ControllerMemory} → BothSound m → Denotes s e
       → Makes (make (lentOf m) e (controllerOf m)) m a m′ → Reads s m a m′
 
--- Two readings of one text on one memory are one: the same answer, words, counts and name bytes, and only the choice of slots is left open.
-pub record OneReading (a b : Answer) (m′ m″ : ControllerMemory) : Type 0 where
-  pub answer : a ≡ b
-  pub words : m′ .store .words ≡ m″ .store .words
-  pub arena : m′ .store .arena ≡ m″ .store .arena
-  pub names : m′ .names ≡ m″ .names
-
+-- two readings of one text on one memory have one answer and leave one memory
 abbrev pub ReadsOneWay : Type 0
-ReadsOneWay = (s : List ℕ) (m m′ m″ : ControllerMemory) (a b : Answer) → Reads s m a m′ → Reads s m b m″ → OneReading a b m′ m″
+ReadsOneWay = (s : List ℕ) (m m′ m″ : ControllerMemory) (a b : Answer) → Reads s m a m′ → Reads s m b m″ → (a ≡ b) × (m′ ≡ m″)

@@ -11,7 +11,9 @@ use borrow.Author.Tests.{le-leb, lt-leb, lt-ltb, le-ltb, eq-eqb}
 use Rattle.definitions.specs.Limits.{mostDepth}
 use Rattle.definitions.specs.Refusals.{badOperand, badCode, notSound, noNodePlace, noSlotPlace}
 use Rattle.definitions.specs.Node.{Node}
-use Rattle.definitions.specs.Walk.{standard, walkRoot}
+use Rattle.definitions.specs.Walk.{walkRoot}
+use Rattle.definitions.specs.Modes.{modeOf}
+use Rattle.definitions.specs.declared.mode.Mode.{Mode}
 use Rattle.definitions.specs.Machine as M
 use Rattle.definitions.specs.Machine.{Outcome, outcome, refused, simplify, simplifyCall, walkedAs}
 use Rattle.store.proofs.Viewing.{plain-length}
@@ -48,31 +50,31 @@ pub refusing : (call : M.Call) (m : Memory) (number : ℕ) (r : Outcomes.Outcome
     → Leaves call m (refused number) m → Leaves call m (meaning (r .answer)) (memory (m .words) (m .slots) (r .arena))
 refusing call m number r e x = subst (λ (y : Outcomes.Outcome). Leaves call m (meaning (y .answer)) (memory (m .words) (m .slots) (y .arena))) (sym e) x
 
-module _ (m : Memory) (root depth budget : ℕ) where
+module _ (mode : Mode) (m : Memory) (root depth budget : ℕ) where
   -- 20, and nothing changed
-  pub unsound : (Sound m → ⊥) → Leaves (simplify root depth budget) m (refused notSound) m
-  unsound n = leaves-unsound (simplify root depth budget) m n
+  pub unsound : (Sound m → ⊥) → Leaves (simplify (modeOf mode) root depth budget) m (refused notSound) m
+  unsound n = leaves-unsound (simplify (modeOf mode) root depth budget) m n
 
   module _ (h : Sound m) where
     abbrev plain : Outcome
-    plain = simplifyCall standard (lentOf m) (nodesOf m) root depth budget
+    plain = simplifyCall (modeOf mode) (lentOf m) (nodesOf m) root depth budget
 
     -- a refusal that a walk is stopped by is 21 or 22, so one that changes nothing is neither
-    called : (answer : M.Answer) (m′ : Memory) → outcome answer (nodesOf m′) ≡ simplifyCall standard (lentOf m) (nodesOf m) root depth budget → Keeps m m′
-        → ((number : ℕ) → answer ≡ refused number → not (keepsInterned number) ≡ true → m′ ≡ m) → Leaves (simplify root depth budget) m answer m′
+    called : (answer : M.Answer) (m′ : Memory) → outcome answer (nodesOf m′) ≡ simplifyCall (modeOf mode) (lentOf m) (nodesOf m) root depth budget → Keeps m m′
+        → ((number : ℕ) → answer ≡ refused number → not (keepsInterned number) ≡ true → m′ ≡ m) → Leaves (simplify (modeOf mode) root depth budget) m answer m′
     unfolding M.call
-    called answer m′ e k u = leaves-kept (simplify root depth budget) m answer m′ h k (ap (M.onNodes (M.state (nodesOf m))) (sym e)) u
+    called answer m′ e k u = leaves-kept (simplify (modeOf mode) root depth budget) m answer m′ h k (ap (M.onNodes (M.state (nodesOf m))) (sym e)) u
 
-    untouched : (number : ℕ) → outcome (refused number) (nodesOf m) ≡ plain → Leaves (simplify root depth budget) m (refused number) m
+    untouched : (number : ℕ) → outcome (refused number) (nodesOf m) ≡ plain → Leaves (simplify (modeOf mode) root depth budget) m (refused number) m
     untouched number e = called (refused number) m e (kept-refl (m .words) (m .slots) (m .arena) h) (λ _ _ _. refl)
 
     abbrev walked : Outcome
-    walked = walkedAs root (walkRoot standard (lentOf m) depth budget (nodesOf m) root)
+    walked = walkedAs root (walkRoot (modeOf mode) (lentOf m) depth budget (nodesOf m) root)
 
     abbrev checked : Outcome
     checked = cond (ltb root (length (nodesOf m))) walked (outcome (refused badOperand) (nodesOf m))
 
-    pub too-deep : mostDepth < depth → Leaves (simplify root depth budget) m (refused badCode) m
+    pub too-deep : mostDepth < depth → Leaves (simplify (modeOf mode) root depth budget) m (refused badCode) m
     unfolding simplifyCall
     too-deep d = untouched badCode (sym (ap (λ (b : Bool). cond b checked (outcome (refused badCode) (nodesOf m))) (lt-leb depth mostDepth d)))
 
@@ -81,20 +83,20 @@ module _ (m : Memory) (root depth budget : ℕ) where
       unfolding simplifyCall
       shallow = ap (λ (b : Bool). cond b checked (outcome (refused badCode) (nodesOf m))) (le-leb depth mostDepth d)
 
-      pub no-node : m .arena .count ≤ root → Leaves (simplify root depth budget) m (refused badOperand) m
+      pub no-node : m .arena .count ≤ root → Leaves (simplify (modeOf mode) root depth budget) m (refused badOperand) m
       no-node g =
           untouched badOperand
           (sym (shallow ∙ ap (λ (b : Bool). cond b walked (outcome (refused badOperand) (nodesOf m))) (le-ltb root (length (nodesOf m)) (omega (arith, plain-length (m .words) (m .arena .count))))))
 
-      answered : root < m .arena .count → (m′ : Memory) (r : Outcomes.Outcome) → WalksRoot m root depth budget m′ r → Leaves (simplify root depth budget) m (meaning (r .answer)) m′
+      answered : root < m .arena .count → (m′ : Memory) (r : Outcomes.Outcome) → WalksRoot (modeOf mode) m root depth budget m′ r → Leaves (simplify (modeOf mode) root depth budget) m (meaning (r .answer)) m′
       answered g m′ r x =
           called (meaning (r .answer)) m′
           (x .plainly ∙ sym (shallow ∙ ap (λ (b : Bool). cond b walked (outcome (refused badOperand) (nodesOf m))) (lt-ltb root (length (nodesOf m)) (omega (arith, plain-length (m .words) (m .arena .count))))))
           (x .kept)
-          (λ number e u. absurd (⊎-elim (not-node number u) (not-slot number u) (refused-full (lentOf m) depth budget (nodesOf m) root number (sym (ap (λ (o : Outcome). o .answer) (x .plainly)) ∙ e))))
+          (λ number e u. absurd (⊎-elim (not-node number u) (not-slot number u) (refused-full (lentOf m) (modeOf mode) depth budget (nodesOf m) root number (sym (ap (λ (o : Outcome). o .answer) (x .plainly)) ∙ e))))
 
       -- the walk, from its first state
-      module _ (g : root < m .arena .count) (w : Walk) (s : Starts root depth (m .arena) w) where
+      module _ (g : root < m .arena .count) (w : Walk) (s : Starts mode root depth (m .arena) w) where
         pub startable : Startable (memory (m .words) (m .slots) (w .progress .arena)) root w
         startable = record {
           sound = subst (λ (a : DagArena). Sound (memory (m .words) (m .slots) a)) (sym (s .arena-is)) h;
@@ -105,15 +107,17 @@ module _ (m : Memory) (root depth budget : ℕ) where
             one = s .one;
             none = s .none;
             whole = s .whole;
+            mode-is = refl;
             limit-is = refl;
             arena-is = refl;
             going = s .going;
           };
         }
 
-        pub ran : (m′ : Memory) (r : Outcomes.Outcome) → WalksRoot (memory (m .words) (m .slots) (w .progress .arena)) root (w .limit) budget m′ r
-            → Leaves (simplify root depth budget) m (meaning (r .answer)) m′
+        pub ran : (m′ : Memory) (r : Outcomes.Outcome) → WalksRoot (modeOf (w .mode)) (memory (m .words) (m .slots) (w .progress .arena)) root (w .limit) budget m′ r
+            → Leaves (simplify (modeOf mode) root depth budget) m (meaning (r .answer)) m′
         ran m′ r x =
             answered g m′ r
-            (subst (λ (a : DagArena). WalksRoot (memory (m .words) (m .slots) a) root depth budget m′ r) (s .arena-is)
-            (subst (λ (limit : ℕ). WalksRoot (memory (m .words) (m .slots) (w .progress .arena)) root limit budget m′ r) (s .limit-is) x))
+            (subst (λ (a : DagArena). WalksRoot (modeOf mode) (memory (m .words) (m .slots) a) root depth budget m′ r) (s .arena-is)
+            (subst (λ (limit : ℕ). WalksRoot (modeOf mode) (memory (m .words) (m .slots) (w .progress .arena)) root limit budget m′ r) (s .limit-is)
+            (subst (λ (y : Mode). WalksRoot (modeOf y) (memory (m .words) (m .slots) (w .progress .arena)) root (w .limit) budget m′ r) (s .mode-is) x)))

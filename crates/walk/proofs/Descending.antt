@@ -10,7 +10,7 @@ use native.Mathlib.Numerals.{add-one}
 use borrow.Author.Tests.{eq-eqb, ne-eqb}
 use Rattle.definitions.specs.Node.{Node, at}
 use Rattle.definitions.specs.Walk as W
-use Rattle.definitions.specs.Walk.{Frame, frame, Turn, go, standard, takenUnwalked}
+use Rattle.definitions.specs.Walk.{Mode, standard, strict, heeds, Frame, frame, Turn, go, takenUnwalked}
 use Rattle.store.specs.View.{nodesIn}
 use Rattle.store.specs.Lookup.{Lookup}
 use Rattle.store.proofs.Reading as R
@@ -23,12 +23,19 @@ use Rattle.walk.proofs.Stacks as S
 
 -- ---- the test
 
-module _ (n : Node) where
-  pub leaf : length (n .children) ≡ 0 → true ≡ takenUnwalked standard n
-  leaf e = sym (ap (λ (b : Bool). b || n .canonical) (eq-eqb (length (n .children)) 0 e))
+module _ (mode : Mode) (n : Node) where
+  pub leaf : length (n .children) ≡ 0 → true ≡ takenUnwalked mode n
+  leaf e = sym (ap (λ (b : Bool). b || heeds mode n) (eq-eqb (length (n .children)) 0 e))
 
-  pub no-leaf : (b : Bool) → b ≡ n .canonical → (length (n .children) ≡ 0 → ⊥) → b ≡ takenUnwalked standard n
-  no-leaf b e h = e ∙ sym (ap (λ (x : Bool). x || n .canonical) (ne-eqb (length (n .children)) 0 h))
+  module _ (h : length (n .children) ≡ 0 → ⊥) where
+    heeded : (b : Bool) → b ≡ heeds mode n → b ≡ takenUnwalked mode n
+    heeded b e = e ∙ sym (ap (λ (x : Bool). x || heeds mode n) (ne-eqb (length (n .children)) 0 h))
+
+    pub mark-heeded : mode ≡ standard → (b : Bool) → b ≡ n .canonical → b ≡ takenUnwalked mode n
+    mark-heeded q b e = heeded b (e ∙ ap (λ (m : Mode). heeds m n) (sym q))
+
+    pub mark-unheeded : mode ≡ strict → false ≡ takenUnwalked mode n
+    mark-unheeded q = heeded false (ap (λ (m : Mode). heeds m n) (sym q))
 
 -- ---- the frames of a stack
 
@@ -67,10 +74,10 @@ module _ (w : List ℕ) (count : ℕ) (k : Stack) (d : Descendable w count k) wh
     abbrev up : List Frame
     up = frame (topId k) top (suc cursor) ∷ framesUnder k
 
-    descend-is : W.descend standard ns (topFrame k) (framesUnder k) (valuesIn k)
-        ≡ cond (takenUnwalked standard (at ns child)) (go ns up (child ∷ valuesIn k)) (go ns (frame child (suc top) 0 ∷ up) (valuesIn k))
+    descend-is : (mode : Mode) → W.descend mode ns (topFrame k) (framesUnder k) (valuesIn k)
+        ≡ cond (takenUnwalked mode (at ns child)) (go ns up (child ∷ valuesIn k)) (go ns (frame child (suc top) 0 ∷ up) (valuesIn k))
     unfolding W.descend
-    descend-is = ap (λ (x : ℕ). cond (takenUnwalked standard (at ns x)) (go ns up (x ∷ valuesIn k)) (go ns (frame x (suc top) 0 ∷ up) (valuesIn k))) (sym e)
+    descend-is mode = ap (λ (x : ℕ). cond (takenUnwalked mode (at ns x)) (go ns up (x ∷ valuesIn k)) (go ns (frame x (suc top) 0 ∷ up) (valuesIn k))) (sym e)
 
     frames-up : framesOf (k .ids) (set (k .cursors) top (cursor + 1)) (k .frames) ≡ up
     frames-up =
@@ -78,15 +85,15 @@ module _ (w : List ℕ) (count : ℕ) (k : Stack) (d : Descendable w count k) wh
         ∙ S.set-cursor (k .ids) (k .cursors) top (cursor + 1) (omega (arith, d .whole .cursors, d .room))
         ∙ ap (λ (x : ℕ). frame (topId k) top x ∷ framesUnder k) (add-one cursor)
 
-    module _ (p : Progress) where
-      pub taken : takenUnwalked standard (at (nodesIn w count) child) ≡ true → (r : Progress)
+    module _ (mode : Mode) (p : Progress) where
+      pub taken : takenUnwalked mode (at (nodesIn w count) child) ≡ true → (r : Progress)
           → r ≡ record { frames = k .frames; filled = k .filled + 1; arena = p .arena; status = Going }
-          → Descends (nodesIn w count) k p (stack (k .ids) (set (k .cursors) (k .frames - 1) (topCursor k + 1)) (set (k .values) (k .filled) child) (r .frames) (r .filled)) r
+          → Descends mode (nodesIn w count) k p (stack (k .ids) (set (k .cursors) (k .frames - 1) (topCursor k + 1)) (set (k .values) (k .filled) child) (r .frames) (r .filled)) r
       taken t r q =
-          subst (λ (x : Progress). Descends ns k p (stack (k .ids) (set (k .cursors) top (cursor + 1)) (set (k .values) (k .filled) child) (x .frames) (x .filled)) x) (sym q)
+          subst (λ (x : Progress). Descends mode ns k p (stack (k .ids) (set (k .cursors) top (cursor + 1)) (set (k .values) (k .filled) child) (x .frames) (x .filled)) x) (sym q)
           (record {
             plainly = (λ i. go ns (frames-up i) (values i))
-                ∙ sym (descend-is ∙ ap (λ (b : Bool). cond b (go ns up (child ∷ valuesIn k)) (go ns (frame child (suc top) 0 ∷ up) (valuesIn k))) t);
+                ∙ sym (descend-is mode ∙ ap (λ (b : Bool). cond b (go ns up (child ∷ valuesIn k)) (go ns (frame child (suc top) 0 ∷ up) (valuesIn k))) t);
             near = omega arith;
             whole = record { ids = d .whole .ids; cursors = length-set (k .cursors) _ _ ∙ d .whole .cursors; values = length-set (k .values) _ _ ∙ d .whole .values };
             valid = subst (λ (fs : List Frame). Valid ns fs (valuesOf (set (k .values) (k .filled) child) (k .filled + 1))) (sym frames-up) (subst (Valid ns up) (sym values)
@@ -98,14 +105,14 @@ module _ (w : List ℕ) (count : ℕ) (k : Stack) (d : Descendable w count k) wh
           values : valuesOf (set (k .values) (k .filled) child) (k .filled + 1) ≡ child ∷ valuesIn k
           values = S.push-value (k .values) (k .filled) child (omega (arith, d .free, d .whole .values))
 
-      pub walked : takenUnwalked standard (at (nodesIn w count) child) ≡ false → (r : Progress)
+      pub walked : takenUnwalked mode (at (nodesIn w count) child) ≡ false → (r : Progress)
           → r ≡ record { frames = k .frames + 1; filled = k .filled; arena = p .arena; status = Going }
-          → Descends (nodesIn w count) k p (stack (set (k .ids) (k .frames) child) (set (set (k .cursors) (k .frames - 1) (topCursor k + 1)) (k .frames) 0) (k .values) (r .frames) (r .filled)) r
+          → Descends mode (nodesIn w count) k p (stack (set (k .ids) (k .frames) child) (set (set (k .cursors) (k .frames - 1) (topCursor k + 1)) (k .frames) 0) (k .values) (r .frames) (r .filled)) r
       walked t r q =
-          subst (λ (x : Progress). Descends ns k p (stack (set (k .ids) (k .frames) child) (set (set (k .cursors) top (cursor + 1)) (k .frames) 0) (k .values) (x .frames) (x .filled)) x) (sym q)
+          subst (λ (x : Progress). Descends mode ns k p (stack (set (k .ids) (k .frames) child) (set (set (k .cursors) top (cursor + 1)) (k .frames) 0) (k .values) (x .frames) (x .filled)) x) (sym q)
           (record {
             plainly = ap (λ (fs : List Frame). go ns fs (valuesIn k)) frames-down
-                ∙ sym (descend-is ∙ ap (λ (b : Bool). cond b (go ns up (child ∷ valuesIn k)) (go ns (frame child (suc top) 0 ∷ up) (valuesIn k))) t);
+                ∙ sym (descend-is mode ∙ ap (λ (b : Bool). cond b (go ns up (child ∷ valuesIn k)) (go ns (frame child (suc top) 0 ∷ up) (valuesIn k))) t);
             near = omega arith;
             whole = record { ids = length-set (k .ids) _ _ ∙ d .whole .ids; cursors = length-set (set (k .cursors) top (cursor + 1)) _ _ ∙ length-set (k .cursors) _ _ ∙ d .whole .cursors; values = d .whole .values };
             valid = subst (λ (fs : List Frame). Valid ns fs (valuesIn k)) (sym frames-down)

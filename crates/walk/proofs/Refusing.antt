@@ -12,7 +12,9 @@ use Rattle.definitions.specs.Node.{Node, node, at, sameChildren, constantKind, 
 use Rattle.definitions.specs.Intern.{Lent, Built, built, stopped, intern}
 use Rattle.definitions.specs.Patterns as P
 use Rattle.definitions.specs.Patterns.{orElse, when, tryApply, constantValue, isZero, isOne, isFinite, isPositive, zero64, one64, fold, internConstant, internAdd, internMul}
-use Rattle.definitions.specs.Walk.{Frame, frame, Turn, go, stop, standard, turn, descend, ascend, finish, takenUnwalked, rebuiltFlags, rebuilt, rebuildOrMatch, reverseOnto, Walked, walk, finished, spent, halted, walkRoot}
+use Rattle.definitions.specs.Strict as S
+use Rattle.definitions.specs.Strict.{strictApply, isConstantOf}
+use Rattle.definitions.specs.Walk.{Mode, standard, strict, Frame, frame, Turn, go, stop, turn, descend, ascend, finish, takenUnwalked, rebuiltFlags, rebuilt, rebuildAs, rebuildOrMatch, rebuildStrictly, reverseOnto, Walked, walk, finished, spent, halted, walkRoot}
 use Rattle.definitions.specs.Machine as M
 use Rattle.definitions.proofs.Stopping.{NoPlace, StopsForPlace, intern-stops, then-stops}
 
@@ -201,31 +203,75 @@ module _ (l : Lent) where
       (or-fires (P.constantFold l ns k a b) (P.merges l ns k a b) (constant-fold ns k a b) (merges ns k a b))
   tries ns k (a ∷ b ∷ c ∷ r) = tt
 
+  -- ---- the strict patterns
+
+  strict-sum : (ns : List Node) (a b : ℕ) → Fires (S.strictSum ns a b)
+  unfolding S.strictSum
+  strict-sum ns a b =
+      first-fires (isConstantOf S.minusZeroBits (at ns b)) (built ns a) (when (isConstantOf S.minusZeroBits (at ns a)) (built ns b)) tt
+      (when-fires (isConstantOf S.minusZeroBits (at ns a)) (built ns b) tt)
+
+  strict-difference : (ns : List Node) (a b : ℕ) → Fires (S.strictDifference ns a b)
+  unfolding S.strictDifference
+  strict-difference ns a b = when-fires (isConstantOf S.plusZeroBits (at ns b)) (built ns a) tt
+
+  strict-product : (ns : List Node) (a b : ℕ) → Fires (S.strictProduct ns a b)
+  unfolding S.strictProduct
+  strict-product ns a b =
+      first-fires (isConstantOf S.oneBits (at ns a)) (built ns b) (when (isConstantOf S.oneBits (at ns b)) (built ns a)) tt
+      (when-fires (isConstantOf S.oneBits (at ns b)) (built ns a) tt)
+
+  strict-quotient : (ns : List Node) (a b : ℕ) → Fires (S.strictQuotient ns a b)
+  unfolding S.strictQuotient
+  strict-quotient ns a b = when-fires (isConstantOf S.oneBits (at ns b)) (built ns a) tt
+
+  strict-identities : (ns : List Node) (k a b : ℕ) → Fires (S.strictIdentities ns k a b)
+  unfolding S.strictIdentities
+  strict-identities ns k a b = by (eqb k 2) (eqb k 3) (eqb k 4) (eqb k 5)
+    where
+      by : (p q r s : Bool) → Fires (cond p (S.strictSum ns a b) (cond q (S.strictDifference ns a b) (cond r (S.strictProduct ns a b) (cond s (S.strictQuotient ns a b) none))))
+      by true q r s = strict-sum ns a b
+      by false true r s = strict-difference ns a b
+      by false false true s = strict-product ns a b
+      by false false false true = strict-quotient ns a b
+      by false false false false = tt
+
+  strict-tries : (ns : List Node) (k : ℕ) (c : List ℕ) → Fires (strictApply l ns k c)
+  unfolding strictApply
+  strict-tries ns k [] = tt
+  strict-tries ns k (a ∷ []) =
+      cond-fires (eqb k 8) (P.negDouble ns a) none
+      (cond-fires (eqb (at ns a .kind) 8) (P.onlyChild ns (at ns a .children)) none (only-child ns (at ns a .children)) tt) tt
+  strict-tries ns k (a ∷ b ∷ []) =
+      or-fires (S.strictIdentities ns k a b) (P.constantFold l ns k a b) (strict-identities ns k a b) (constant-fold ns k a b)
+  strict-tries ns k (a ∷ b ∷ c ∷ r) = tt
+
   -- ---- the walk
 
-  rebuilds : (ns : List Node) (i : ℕ) (c : List ℕ) → StopsForPlace (rebuildOrMatch l ns i c)
-  unfolding rebuildOrMatch
-  rebuilds ns i c = by (tryApply l ns (at ns i .kind) c) (tries ns (at ns i .kind) c)
+  rebuilt-stops : (ns : List Node) (i : ℕ) (c : List ℕ) (o : Option Built) → Fires o → StopsForPlace (rebuilt l ns i c o)
+  rebuilt-stops ns i c none f = plain (sameChildren (at ns i .children) c) (node (at ns i .kind) (at ns i .payload) (rebuiltFlags (at ns i .kind) (length c)) c)
     where
       plain : (b : Bool) (n : Node) → StopsForPlace (cond b (built ns i) (intern l ns n))
       plain true n = tt
       plain false n = interns ns n
+  rebuilt-stops ns i c (some m) f = f
 
-      by : (o : Option Built) → Fires o → StopsForPlace (rebuilt l ns i c o)
-      by none f = plain (sameChildren (at ns i .children) c) (node (at ns i .kind) (at ns i .payload) (rebuiltFlags (at ns i .kind) (length c)) c)
-      by (some m) f = f
+  rebuilds : (mode : Mode) (ns : List Node) (i : ℕ) (c : List ℕ) → StopsForPlace (rebuildAs mode l ns i c)
+  unfolding rebuildOrMatch rebuildStrictly
+  rebuilds standard ns i c = rebuilt-stops ns i c (tryApply l ns (at ns i .kind) c) (tries ns (at ns i .kind) c)
+  rebuilds strict ns i c = rebuilt-stops ns i c (strictApply l ns (at ns i .kind) c) (strict-tries ns (at ns i .kind) c)
 
   abbrev TurnStops : Turn → Type 0
   TurnStops (go ns fs vs) = Unit {0}
   TurnStops (stop ns number) = NoPlace number
 
-  finishes : (fs : List Frame) (vs : List ℕ) (m : Built) → StopsForPlace m → TurnStops (finish standard fs vs m)
-  finishes fs vs (built ns i) s = tt
-  finishes fs vs (stopped ns number) s = s
+  finishes : (mode : Mode) (fs : List Frame) (vs : List ℕ) (m : Built) → StopsForPlace m → TurnStops (finish mode fs vs m)
+  finishes mode fs vs (built ns i) s = tt
+  finishes mode fs vs (stopped ns number) s = s
 
-  turns : (limit : ℕ) (ns : List Node) (f : Frame) (fs : List Frame) (vs : List ℕ) → TurnStops (turn standard l limit ns f fs vs)
+  turns : (mode : Mode) (limit : ℕ) (ns : List Node) (f : Frame) (fs : List Frame) (vs : List ℕ) → TurnStops (turn mode l limit ns f fs vs)
   unfolding turn descend ascend
-  turns limit ns f fs vs = by (leb limit (f .depth)) (ltb (f .cursor) arity) (takenUnwalked standard (at ns child))
+  turns mode limit ns f fs vs = by (leb limit (f .depth)) (ltb (f .cursor) arity) (takenUnwalked mode (at ns child))
     where
       arity : ℕ
       arity = length (at ns (f .id) .children)
@@ -239,33 +285,33 @@ module _ (l : Lent) where
       by : (a b d : Bool)
           → TurnStops (cond a (go ns fs (f .id ∷ drop (f .cursor) vs)) (cond b
           (cond d (go ns up (child ∷ vs)) (go ns (frame child (suc (f .depth)) 0 ∷ up) vs))
-          (finish standard fs (drop arity vs) (rebuildOrMatch l ns (f .id) (reverseOnto (take arity vs) [])))))
+          (finish mode fs (drop arity vs) (rebuildAs mode l ns (f .id) (reverseOnto (take arity vs) [])))))
       by true b d = tt
       by false true true = tt
       by false true false = tt
-      by false false d = finishes fs (drop arity vs) (rebuildOrMatch l ns (f .id) (reverseOnto (take arity vs) [])) (rebuilds ns (f .id) (reverseOnto (take arity vs) []))
+      by false false d = finishes mode fs (drop arity vs) (rebuildAs mode l ns (f .id) (reverseOnto (take arity vs) [])) (rebuilds mode ns (f .id) (reverseOnto (take arity vs) []))
 
   abbrev WalkStops : Walked → Type 0
   WalkStops (finished ns i k) = Unit {0}
   WalkStops (spent ns k) = Unit {0}
   WalkStops (halted ns number) = NoPlace number
 
-  walks : (limit b k : ℕ) (ns : List Node) (fs : List Frame) (vs : List ℕ) → WalkStops (walk standard l limit b k ns fs vs)
+  walks : (mode : Mode) (limit b k : ℕ) (ns : List Node) (fs : List Frame) (vs : List ℕ) → WalkStops (walk mode l limit b k ns fs vs)
   unfolding walk
-  walks limit zero k ns [] vs = tt
-  walks limit zero k ns (f ∷ fs) vs = tt
-  walks limit (suc b) k ns [] vs = tt
-  walks limit (suc b) k ns (f ∷ fs) vs = by (turn standard l limit ns f fs vs) (turns limit ns f fs vs) (λ ms gs ws. walks limit b (suc k) ms gs ws)
+  walks mode limit zero k ns [] vs = tt
+  walks mode limit zero k ns (f ∷ fs) vs = tt
+  walks mode limit (suc b) k ns [] vs = tt
+  walks mode limit (suc b) k ns (f ∷ fs) vs = by (turn mode l limit ns f fs vs) (turns mode limit ns f fs vs) (λ ms gs ws. walks mode limit b (suc k) ms gs ws)
     where
-      by : (t : Turn) → TurnStops t → ((ms : List Node) (gs : List Frame) (ws : List ℕ) → WalkStops (walk standard l limit b (suc k) ms gs ws))
-          → WalkStops (elim t [ go ms gs ws ↦ walk standard l limit b (suc k) ms gs ws | stop ms r ↦ halted ms r ])
+      by : (t : Turn) → TurnStops t → ((ms : List Node) (gs : List Frame) (ws : List ℕ) → WalkStops (walk mode l limit b (suc k) ms gs ws))
+          → WalkStops (elim t [ go ms gs ws ↦ walk mode l limit b (suc k) ms gs ws | stop ms r ↦ halted ms r ])
       by (go ms gs ws) s rec = rec ms gs ws
       by (stop ms r) s rec = s
 
   -- a walk's refusal
-  pub refused-full : (limit budget : ℕ) (ns : List Node) (root number : ℕ) → M.walkedAs root (walkRoot standard l limit budget ns root) .answer ≡ M.refused number → NoPlace number
+  pub refused-full : (mode : Mode) (limit budget : ℕ) (ns : List Node) (root number : ℕ) → M.walkedAs root (walkRoot mode l limit budget ns root) .answer ≡ M.refused number → NoPlace number
   unfolding walkRoot
-  refused-full limit budget ns root number = by (walk standard l limit budget 0 ns (frame root 0 0 ∷ []) []) (walks limit budget 0 ns (frame root 0 0 ∷ []) [])
+  refused-full mode limit budget ns root number = by (walk mode l limit budget 0 ns (frame root 0 0 ∷ []) []) (walks mode limit budget 0 ns (frame root 0 0 ∷ []) [])
     where
       by : (w : Walked) → WalkStops w → M.walkedAs root w .answer ≡ M.refused number → NoPlace number
       by (finished ms i k) s e = let z : _≡_ {A = ℕ} 0 1 = cc in absurd (omega arith)

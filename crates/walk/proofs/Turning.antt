@@ -11,7 +11,7 @@ use Rattle.definitions.specs.Limits.{mostChildren}
 use Rattle.definitions.specs.Node.{Node, at}
 use Rattle.definitions.specs.Intern.{Lent}
 use Rattle.definitions.specs.Walk as W
-use Rattle.definitions.specs.Walk.{Frame, frame, Turn, go, stop, standard, turn, descend, ascend, finish, reverseOnto, rebuildOrMatch}
+use Rattle.definitions.specs.Walk.{Mode, Frame, frame, Turn, go, stop, turn, descend, ascend, finish, reverseOnto, rebuildAs}
 use Rattle.arena.specs.declared.DagArena.{DagArena}
 use Rattle.store.specs.View.{Low}
 use Rattle.store.specs.Lookup.{Lookup}
@@ -32,32 +32,32 @@ use Rattle.walk.proofs.Descending.{frames-are}
 
 -- ---- the plain machine's turn, case by case
 
-module _ (l : Lent) (limit : ℕ) (ns : List Node) (f : Frame) (fs : List Frame) (vs : List ℕ) where
+module _ (mode : Mode) (l : Lent) (limit : ℕ) (ns : List Node) (f : Frame) (fs : List Frame) (vs : List ℕ) where
   abbrev arity : ℕ
   arity = length (at ns (f .id) .children)
 
-  limited : limit ≤ f .depth → turn standard l limit ns f fs vs ≡ go ns fs (f .id ∷ drop (f .cursor) vs)
+  limited : limit ≤ f .depth → turn mode l limit ns f fs vs ≡ go ns fs (f .id ∷ drop (f .cursor) vs)
   unfolding turn
   limited h =
-      ap (λ (b : Bool). cond b (go ns fs (f .id ∷ drop (f .cursor) vs)) (cond (ltb (f .cursor) arity) (descend standard ns f fs vs) (ascend standard l ns f fs vs)))
+      ap (λ (b : Bool). cond b (go ns fs (f .id ∷ drop (f .cursor) vs)) (cond (ltb (f .cursor) arity) (descend mode ns f fs vs) (ascend mode l ns f fs vs)))
       (le-leb limit (f .depth) h)
 
   module _ (h : f .depth < limit) where
-    within : turn standard l limit ns f fs vs ≡ cond (ltb (f .cursor) arity) (descend standard ns f fs vs) (ascend standard l ns f fs vs)
+    within : turn mode l limit ns f fs vs ≡ cond (ltb (f .cursor) arity) (descend mode ns f fs vs) (ascend mode l ns f fs vs)
     unfolding turn
     within =
-        ap (λ (b : Bool). cond b (go ns fs (f .id ∷ drop (f .cursor) vs)) (cond (ltb (f .cursor) arity) (descend standard ns f fs vs) (ascend standard l ns f fs vs)))
+        ap (λ (b : Bool). cond b (go ns fs (f .id ∷ drop (f .cursor) vs)) (cond (ltb (f .cursor) arity) (descend mode ns f fs vs) (ascend mode l ns f fs vs)))
         (lt-leb limit (f .depth) h)
 
-    descending : f .cursor < arity → turn standard l limit ns f fs vs ≡ descend standard ns f fs vs
-    descending c = within ∙ ap (λ (b : Bool). cond b (descend standard ns f fs vs) (ascend standard l ns f fs vs)) (lt-ltb (f .cursor) arity c)
+    descending : f .cursor < arity → turn mode l limit ns f fs vs ≡ descend mode ns f fs vs
+    descending c = within ∙ ap (λ (b : Bool). cond b (descend mode ns f fs vs) (ascend mode l ns f fs vs)) (lt-ltb (f .cursor) arity c)
 
     ascending : arity ≡ f .cursor
-        → turn standard l limit ns f fs vs ≡ finish standard fs (drop (f .cursor) vs) (rebuildOrMatch l ns (f .id) (reverseOnto (take (f .cursor) vs) []))
+        → turn mode l limit ns f fs vs ≡ finish mode fs (drop (f .cursor) vs) (rebuildAs mode l ns (f .id) (reverseOnto (take (f .cursor) vs) []))
     unfolding ascend
     ascending c =
-        within ∙ ap (λ (b : Bool). cond b (descend standard ns f fs vs) (ascend standard l ns f fs vs)) (le-ltb (f .cursor) arity (omega (arith, c)))
-        ∙ ap (λ (x : ℕ). finish standard fs (drop x vs) (rebuildOrMatch l ns (f .id) (reverseOnto (take x vs) []))) c
+        within ∙ ap (λ (b : Bool). cond b (descend mode ns f fs vs) (ascend mode l ns f fs vs)) (le-ltb (f .cursor) arity (omega (arith, c)))
+        ∙ ap (λ (x : ℕ). finish mode fs (drop x vs) (rebuildAs mode l ns (f .id) (reverseOnto (take x vs) []))) c
 
 -- ---- what a turn knows
 
@@ -133,8 +133,8 @@ module _ (m : Memory) (limit : ℕ) (k : Stack) (r : Ready m limit k) where
     small = omega (arith, valid .1, few);
   }
 
-  turn-is : turnOf (lentOf m) limit ns (framesIn k) vs ≡ turn standard (lentOf m) limit ns (topFrame k) fs vs
-  turn-is = ap (λ (x : List Frame). turnOf (lentOf m) limit ns x vs) (frames-are k (r .some))
+  turn-is : (mode : Mode) → turnOf mode (lentOf m) limit ns (framesIn k) vs ≡ turn mode (lentOf m) limit ns (topFrame k) fs vs
+  turn-is mode = ap (λ (x : List Frame). turnOf mode (lentOf m) limit ns x vs) (frames-are k (r .some))
 
   unchanged : Keeps m m
   unchanged = kept-refl (m .words) (m .slots) (m .arena) (r .sound)
@@ -152,7 +152,7 @@ module _ (m : Memory) (limit : ℕ) (k : Stack) (r : Ready m limit k) where
   under-below = subst (ValuesBelow (length ns)) under (S.below-drop (length ns) cursor vs (valid .4))
 
   -- the top frame leaves a value
-  module _ (m′ : Memory) (kept : Keeps m m′) (i : ℕ) (low : i < m′ .arena .count) where
+  module _ (mode : Mode) (m′ : Memory) (kept : Keeps m m′) (i : ℕ) (low : i < m′ .arena .count) where
     abbrev ms : List Node
     ms = nodesOf m′
 
@@ -168,13 +168,13 @@ module _ (m : Memory) (limit : ℕ) (k : Stack) (r : Ready m limit k) where
         (S.waiting-up ns ms grown (λ j p. kept .children j (omega (arith, count-is))) fs (valid .2))
         under-length (S.below-up (length ns) (length ms) grown (valuesOf (k .values) from) under-below)
 
-    leaves : turn standard (lentOf m) limit ns (topFrame k) fs vs ≡ go ms fs (i ∷ valuesOf (k .values) from) → (q : Progress)
+    leaves : turn mode (lentOf m) limit ns (topFrame k) fs vs ≡ go ms fs (i ∷ valuesOf (k .values) from) → (q : Progress)
         → q ≡ record { frames = k .frames - 1; filled = k .filled - topCursor k + 1; arena = m′ .arena; status = Going }
-        → Turns m limit k (memory (m′ .words) (m′ .slots) (q .arena)) (stack (k .ids) (k .cursors) (set (k .values) (k .filled - topCursor k) i) (q .frames) (q .filled)) (q .status)
+        → Turns mode m limit k (memory (m′ .words) (m′ .slots) (q .arena)) (stack (k .ids) (k .cursors) (set (k .values) (k .filled - topCursor k) i) (q .frames) (q .filled)) (q .status)
     leaves t q e =
-        subst (λ (x : Progress). Turns m limit k (memory (m′ .words) (m′ .slots) (x .arena)) (stack (k .ids) (k .cursors) (set (k .values) from i) (x .frames) (x .filled)) (x .status)) (sym e)
+        subst (λ (x : Progress). Turns mode m limit k (memory (m′ .words) (m′ .slots) (x .arena)) (stack (k .ids) (k .cursors) (set (k .values) from i) (x .frames) (x .filled)) (x .status)) (sym e)
         (record {
-          plainly = ap (go ms fs) values ∙ sym (turn-is ∙ t);
+          plainly = ap (go ms fs) values ∙ sym (turn-is mode ∙ t);
           kept = kept;
           goes = λ _. record {
             listed = I .listed;
@@ -189,10 +189,10 @@ module _ (m : Memory) (limit : ℕ) (k : Stack) (r : Ready m limit k) where
 
   -- ---- a frame at the limit
 
-  pub at-limit : limit ≤ k .frames - 1 → (q : Progress)
+  pub at-limit : (mode : Mode) → limit ≤ k .frames - 1 → (q : Progress)
       → q ≡ record { frames = k .frames - 1; filled = k .filled - topCursor k + 1; arena = m .arena; status = Going }
-      → Turns m limit k (memory (m .words) (m .slots) (q .arena)) (stack (k .ids) (k .cursors) (set (k .values) (k .filled - topCursor k) (topId k)) (q .frames) (q .filled)) (q .status)
-  at-limit h = leaves m unchanged id below (limited (lentOf m) limit ns (topFrame k) fs vs h ∙ ap (λ (x : List ℕ). go ns fs (id ∷ x)) under)
+      → Turns mode m limit k (memory (m .words) (m .slots) (q .arena)) (stack (k .ids) (k .cursors) (set (k .values) (k .filled - topCursor k) (topId k)) (q .frames) (q .filled)) (q .status)
+  at-limit mode h = leaves mode m unchanged id below (limited mode (lentOf m) limit ns (topFrame k) fs vs h ∙ ap (λ (x : List ℕ). go ns fs (id ∷ x)) under)
 
   module _ (h : k .frames - 1 < limit) (arity : ℕ) (ea : arity ≡ length (at (nodesOf m) (topId k) .children)) where
     -- ---- the next child
@@ -208,13 +208,13 @@ module _ (m : Memory) (limit : ℕ) (k : Stack) (r : Ready m limit k) where
       free = bounds .room;
     }
 
-    pub descended : topCursor k < arity → (p : Progress) → p .arena ≡ m .arena → (k′ : Stack) (q : Progress) → Descends (nodesOf m) k p k′ q
-        → Turns m limit k (memory (m .words) (m .slots) (q .arena)) k′ (q .status)
-    descended c p a k′ q d =
-        subst (λ (s : Status). Turns m limit k (memory (m .words) (m .slots) (q .arena)) k′ s) (sym (d .status))
-        (subst (λ (s : DagArena). Turns m limit k (memory (m .words) (m .slots) s) k′ Going) (sym (d .arena ∙ a))
+    pub descended : (mode : Mode) → topCursor k < arity → (p : Progress) → p .arena ≡ m .arena → (k′ : Stack) (q : Progress) → Descends mode (nodesOf m) k p k′ q
+        → Turns mode m limit k (memory (m .words) (m .slots) (q .arena)) k′ (q .status)
+    descended mode c p a k′ q d =
+        subst (λ (s : Status). Turns mode m limit k (memory (m .words) (m .slots) (q .arena)) k′ s) (sym (d .status))
+        (subst (λ (s : DagArena). Turns mode m limit k (memory (m .words) (m .slots) s) k′ Going) (sym (d .arena ∙ a))
         (record {
-          plainly = d .plainly ∙ sym (turn-is ∙ descending (lentOf m) limit ns (topFrame k) fs vs h (omega (arith, ea)));
+          plainly = d .plainly ∙ sym (turn-is mode ∙ descending mode (lentOf m) limit ns (topFrame k) fs vs h (omega (arith, ea)));
           kept = unchanged;
           goes = λ _. record { listed = I .listed; deep = omega (arith, d .near); whole = d .whole; valid = d .valid };
         }))
@@ -248,25 +248,25 @@ module _ (m : Memory) (limit : ℕ) (k : Stack) (r : Ready m limit k) where
             ∙ S.gathered (k .values) from cursor places (let b = bounds in omega (arith, from-on)) (bounds .small) g
             ∙ ap (λ (x : ℕ). reverseOnto (take cursor (valuesOf (k .values) x)) []) from-on
 
-        module _ (m′ : Memory) (answer : Answer) (f : Finishes m (topId k) places answer m′) where
-          finishing : turn standard (lentOf m) limit ns (topFrame k) fs vs ≡ finished answer (nodesOf m′) fs (valuesOf (k .values) from)
+        module _ (mode : Mode) (m′ : Memory) (answer : Answer) (f : Finishes mode m (topId k) places answer m′) where
+          finishing : turn mode (lentOf m) limit ns (topFrame k) fs vs ≡ finished answer (nodesOf m′) fs (valuesOf (k .values) from)
           finishing =
-              ascending (lentOf m) limit ns (topFrame k) fs vs h all-taken
-              ∙ ap (λ (x : List ℕ). finish standard fs (drop cursor vs) (rebuildOrMatch (lentOf m) ns id x)) (sym children-are)
-              ∙ ap (λ (x : List ℕ). finish standard fs x (rebuildOrMatch (lentOf m) ns id (newChildren m id places))) under
+              ascending mode (lentOf m) limit ns (topFrame k) fs vs h all-taken
+              ∙ ap (λ (x : List ℕ). finish mode fs (drop cursor vs) (rebuildAs mode (lentOf m) ns id x)) (sym children-are)
+              ∙ ap (λ (x : List ℕ). finish mode fs x (rebuildAs mode (lentOf m) ns id (newChildren m id places))) under
               ∙ sym (f .plainly fs (valuesOf (k .values) from))
 
-          answered : (x : Answer) → answer ≡ x → turn standard (lentOf m) limit ns (topFrame k) fs vs ≡ finished x (nodesOf m′) fs (valuesOf (k .values) from)
+          answered : (x : Answer) → answer ≡ x → turn mode (lentOf m) limit ns (topFrame k) fs vs ≡ finished x (nodesOf m′) fs (valuesOf (k .values) from)
           answered x e = finishing ∙ ap (λ (y : Answer). finished y (nodesOf m′) fs (valuesOf (k .values) from)) e
 
-          pub stops : (number : ℕ) → answer ≡ Refused number → Turns m limit k m′ k (Stopped number)
+          pub stops : (number : ℕ) → answer ≡ Refused number → Turns mode m limit k m′ k (Stopped number)
           stops number e = record {
-            plainly = sym (turn-is ∙ answered _ e);
+            plainly = sym (turn-is mode ∙ answered _ e);
             kept = f .kept;
             goes = λ z. let zero-one : _≡_ {A = ℕ} 0 1 = cc in absurd (omega arith);
           }
 
           pub ends : (i : ℕ) → answer ≡ Id i → (q : Progress)
               → q ≡ record { frames = k .frames - 1; filled = k .filled - topCursor k + 1; arena = m′ .arena; status = Going }
-              → Turns m limit k (memory (m′ .words) (m′ .slots) (q .arena)) (stack (k .ids) (k .cursors) (set (k .values) (k .filled - topCursor k) i) (q .frames) (q .filled)) (q .status)
-          ends i e = leaves m′ (f .kept) i (subst (λ (x : Answer). Low x (m′ .arena .count)) e (f .low)) (answered _ e)
+              → Turns mode m limit k (memory (m′ .words) (m′ .slots) (q .arena)) (stack (k .ids) (k .cursors) (set (k .values) (k .filled - topCursor k) i) (q .frames) (q .filled)) (q .status)
+          ends i e = leaves mode m′ (f .kept) i (subst (λ (x : Answer). Low x (m′ .arena .count)) e (f .low)) (answered _ e)

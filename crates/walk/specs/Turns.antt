@@ -7,7 +7,9 @@ use Rattle.definitions.specs.Limits.{mostDepth}
 use Rattle.definitions.specs.Node.{Node, at}
 use Rattle.definitions.specs.Intern.{Lent}
 use Rattle.definitions.specs.Walk as W
-use Rattle.definitions.specs.Walk.{Frame, frame, Turn, go, stop, standard, walkRoot}
+use Rattle.definitions.specs.Walk.{Mode, Frame, frame, Turn, go, stop, walkRoot}
+use Rattle.definitions.specs.Modes.{modeOf}
+use Rattle.definitions.specs.declared.mode.Mode as Modes
 use Rattle.definitions.specs.Machine as M
 use Rattle.arena.specs.declared.DagArena.{DagArena}
 use Rattle.store.specs.View.{nodesIn}
@@ -36,8 +38,8 @@ pub record Descendable (words : List ℕ) (count : ℕ) (k : Stack) : Type 0 whe
   pub free : k .filled < mostValues
 
 -- "A child that is a leaf or marked is taken unwalked"; another gets a frame
-pub record Descends (ns : List Node) (k : Stack) (progress : Progress) (k′ : Stack) (r : Progress) : Type 0 where
-  pub plainly : go ns (framesIn k′) (valuesIn k′) ≡ W.descend standard ns (topFrame k) (framesUnder k) (valuesIn k)
+pub record Descends (mode : Mode) (ns : List Node) (k : Stack) (progress : Progress) (k′ : Stack) (r : Progress) : Type 0 where
+  pub plainly : go ns (framesIn k′) (valuesIn k′) ≡ W.descend mode ns (topFrame k) (framesUnder k) (valuesIn k)
   pub near : k′ .frames ≤ k .frames + 1
   pub whole : Whole k′
   pub valid : Valid ns (framesIn k′) (valuesIn k′)
@@ -58,13 +60,13 @@ turned Going ns fs vs = go ns fs vs
 turned (Stopped number) ns fs vs = stop ns number
 
 -- the plain machine's turn at the top frame
-abbrev pub turnOf : Lent → ℕ → List Node → List Frame → List ℕ → Turn
-turnOf l limit ns [] vs = go ns [] vs
-turnOf l limit ns (f ∷ fs) vs = W.turn standard l limit ns f fs vs
+abbrev pub turnOf : Mode → Lent → ℕ → List Node → List Frame → List ℕ → Turn
+turnOf mode l limit ns [] vs = go ns [] vs
+turnOf mode l limit ns (f ∷ fs) vs = W.turn mode l limit ns f fs vs
 
 -- "One step is one turn of the Rust loop."
-pub record Turns (m : Memory) (limit : ℕ) (k : Stack) (m′ : Memory) (k′ : Stack) (status : Status) : Type 0 where
-  pub plainly : turned status (nodesOf m′) (framesIn k′) (valuesIn k′) ≡ turnOf (lentOf m) limit (nodesOf m) (framesIn k) (valuesIn k)
+pub record Turns (mode : Mode) (m : Memory) (limit : ℕ) (k : Stack) (m′ : Memory) (k′ : Stack) (status : Status) : Type 0 where
+  pub plainly : turned status (nodesOf m′) (framesIn k′) (valuesIn k′) ≡ turnOf mode (lentOf m) limit (nodesOf m) (framesIn k) (valuesIn k)
   pub kept : Keeps m m′
   pub goes : status ≡ Going → Invariant (nodesOf m′) limit k′
 
@@ -78,18 +80,20 @@ abbrev pub memoryOf : List ℕ → List ℕ → Walk → Memory
 memoryOf words slots walk = memory words slots (walk .progress .arena)
 
 -- "the root is always walked": it has the first frame, and there is no value
-pub record Starts (root limit : ℕ) (arena : DagArena) (walk : Walk) : Type 0 where
+pub record Starts (mode : Modes.Mode) (root limit : ℕ) (arena : DagArena) (walk : Walk) : Type 0 where
   pub frames : framesIn (stackOf walk) ≡ frame root 0 0 ∷ []
   pub one : walk .progress .frames ≡ 1
   pub none : walk .progress .filled ≡ 0
   pub whole : Whole (stackOf walk)
+  pub mode-is : walk .mode ≡ mode
   pub limit-is : walk .limit ≡ limit
   pub arena-is : walk .progress .arena ≡ arena
   pub going : walk .progress .status ≡ Going
 
 -- a step of a state, which is given back
 pub record Steps (words slots : List ℕ) (walk : Walk) (words′ slots′ : List ℕ) (r : Walk) : Type 0 where
-  pub turns : Turns (memoryOf words slots walk) (walk .limit) (stackOf walk) (memoryOf words′ slots′ r) (stackOf r) (r .progress .status)
+  pub turns : Turns (modeOf (walk .mode)) (memoryOf words slots walk) (walk .limit) (stackOf walk) (memoryOf words′ slots′ r) (stackOf r) (r .progress .status)
+  pub mode-is : r .mode ≡ walk .mode
   pub limit-is : r .limit ≡ walk .limit
 
 -- ---- a run
@@ -99,7 +103,7 @@ pub record Startable (m : Memory) (root : ℕ) (walk : Walk) : Type 0 where
   pub sound : Sound m
   pub below : root < m .arena .count
   pub listed : walk .limit ≤ mostDepth
-  pub starts : Starts root (walk .limit) (m .arena) walk
+  pub starts : Starts (walk .mode) root (walk .limit) (m .arena) walk
 
 -- "Exactly if the budget is used up with frames left, the answer is the root, 'spent'"
 pub record Ends (frames result root steps : ℕ) (r : Answer) : Type 0 where
@@ -107,6 +111,6 @@ pub record Ends (frames result root steps : ℕ) (r : Answer) : Type 0 where
   pub spent : (frames ≡ 0 → ⊥) → r ≡ Spent root steps
 
 -- the whole walk of a root, with the budget
-pub record WalksRoot (m : Memory) (root limit budget : ℕ) (m′ : Memory) (r : Outcome) : Type 0 where
-  pub plainly : M.outcome (meaning (r .answer)) (nodesOf m′) ≡ M.walkedAs root (walkRoot standard (lentOf m) limit budget (nodesOf m) root)
+pub record WalksRoot (mode : Mode) (m : Memory) (root limit budget : ℕ) (m′ : Memory) (r : Outcome) : Type 0 where
+  pub plainly : M.outcome (meaning (r .answer)) (nodesOf m′) ≡ M.walkedAs root (walkRoot mode (lentOf m) limit budget (nodesOf m) root)
   pub kept : Keeps m m′

@@ -1,6 +1,7 @@
-// The walk (01, "engine: the walk"): rewrite_iterative with rebuild_or_match, one step a turn of the Rust's loop.
+// The walk (01, "engine: the walk"): rewrite_iterative with rebuild_or_match, one step a turn of the Rust's loop; and the strict walk of 02 (i).
 ghost use mathlib.Core.Path.{_≡_};
 ghost use Rattle.definitions.specs.Machine as M;
+ghost use Rattle.definitions.specs.Modes.{modeOf};
 ghost use Rattle.store.specs.Memory.{memory, Leaves};
 ghost use Rattle.rebuild.specs.Memory.{Sound};
 ghost use Rattle.walk.specs.Answers.{meaning};
@@ -10,6 +11,7 @@ pub mod state;
 mod turn;
 
 use arena::DagArena;
+use definitions::mode::Mode;
 use definitions::refusals::BAD_CODE;
 use definitions::refusals::BAD_OPERAND;
 use definitions::refusals::NOT_SOUND;
@@ -45,12 +47,13 @@ pub fn simplify_sound(
     nodes: &mut [u64],
     slots: &mut [u32],
     arena: DagArena,
+    mode: Mode,
     root: u32,
     depth: u32,
     budget: u64,
 ) -> Outcome
     requires { ⌜ Sound (memory (now nodes) (now slots) arena) ⌝ }
-    ensures { λ r. ⌜ Leaves (M.simplify root depth budget) (memory (now (nodes .entry)) (now (slots .entry)) arena) (meaning (r .answer)) (memory (now (nodes .exit)) (now (slots .exit)) (r .arena)) ⌝ }
+    ensures { λ r. ⌜ Leaves (M.simplify (modeOf mode) root depth budget) (memory (now (nodes .entry)) (now (slots .entry)) arena) (meaning (r .answer)) (memory (now (nodes .exit)) (now (slots .exit)) (r .arena)) ⌝ }
 {
     if MOST_DEPTH < depth {
         return refuse(BAD_CODE, arena);
@@ -59,7 +62,7 @@ pub fn simplify_sound(
     if arena.count <= id {
         return refuse(BAD_OPERAND, arena);
     }
-    let walk = Walk::new(arena, id, depth as usize);
+    let walk = Walk::new(arena, mode, id, depth as usize);
     run::run(nodes, slots, walk, id, budget)
 }
 
@@ -68,14 +71,15 @@ pub fn simplify(
     nodes: &mut [u64],
     slots: &mut [u32],
     arena: DagArena,
+    mode: Mode,
     root: u32,
     depth: u32,
     budget: u64,
 ) -> Outcome
-    ensures { λ r. ⌜ Leaves (M.simplify root depth budget) (memory (now (nodes .entry)) (now (slots .entry)) arena) (meaning (r .answer)) (memory (now (nodes .exit)) (now (slots .exit)) (r .arena)) ⌝ }
+    ensures { λ r. ⌜ Leaves (M.simplify (modeOf mode) root depth budget) (memory (now (nodes .entry)) (now (slots .entry)) arena) (meaning (r .answer)) (memory (now (nodes .exit)) (now (slots .exit)) (r .arena)) ⌝ }
 {
     if !store::audit(nodes, slots, arena) {
         return refuse(NOT_SOUND, arena);
     }
-    simplify_sound(nodes, slots, arena, root, depth, budget)
+    simplify_sound(nodes, slots, arena, mode, root, depth, budget)
 }

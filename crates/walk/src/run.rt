@@ -1,4 +1,5 @@
 // The walk with its budget.
+ghost use Rattle.definitions.specs.Modes.{modeOf};
 ghost use Rattle.rebuild.specs.Memory.{memory};
 ghost use Rattle.walk.specs.Turns.{Startable, Ends, WalksRoot, memoryOf};
 use crate::Answer;
@@ -27,11 +28,12 @@ pub(crate) fn run(
     budget: u64,
 ) -> Outcome
     requires { ⌜ Startable (memoryOf (now nodes) (now slots) walk) root walk ⌝ }
-    ensures { λ r. ⌜ WalksRoot (memoryOf (now (nodes .entry)) (now (slots .entry)) walk) root (walk .limit) budget (memory (now (nodes .exit)) (now (slots .exit)) (r .arena)) r ⌝ }
+    ensures { λ r. ⌜ WalksRoot (modeOf (walk .mode)) (memoryOf (now (nodes .entry)) (now (slots .entry)) walk) root (walk .limit) budget (memory (now (nodes .exit)) (now (slots .exit)) (r .arena)) r ⌝ }
 {
     let mut ids = walk.ids;
     let mut cursors = walk.cursors;
     let mut values = walk.values;
+    let mode = walk.mode;
     let limit = walk.limit;
     let mut progress = walk.progress;
     let mut steps: u64 = 0;
@@ -45,6 +47,7 @@ pub(crate) fn run(
             &mut ids,
             &mut cursors,
             &mut values,
+            mode,
             limit,
             progress,
         );

@@ -2,6 +2,7 @@
 ghost use Rattle.walk.specs.Turns.{Ready, Starts, Steps, memoryOf, stackOf};
 use crate::turn;
 use arena::DagArena;
+use definitions::mode::Mode;
 
 // 01: "the walk's stacks are filled arrays of 256 frames ..
 pub const MOST_FRAMES: usize = 256;
@@ -32,14 +33,15 @@ pub struct Walk {
     pub ids: [u64; MOST_FRAMES],
     pub cursors: [usize; MOST_FRAMES],
     pub values: [u64; MOST_VALUES],
+    pub mode: Mode,
     pub limit: usize,
     pub progress: Progress,
 }
 
 impl Walk {
     // 01: "the root is always walked": it has the first frame.
-    pub fn new(arena: DagArena, root: u64, limit: usize) -> Walk
-        ensures { λ r. ⌜ Starts root limit arena r ⌝ }
+    pub fn new(arena: DagArena, mode: Mode, root: u64, limit: usize) -> Walk
+        ensures { λ r. ⌜ Starts mode root limit arena r ⌝ }
     {
         let mut ids = [0u64; MOST_FRAMES];
         ids[0] = root;
@@ -47,6 +49,7 @@ impl Walk {
             ids,
             cursors: [0usize; MOST_FRAMES],
             values: [0u64; MOST_VALUES],
+            mode,
             limit,
             progress: Progress {
                 frames: 1,
@@ -65,6 +68,7 @@ impl Walk {
         let mut ids = self.ids;
         let mut cursors = self.cursors;
         let mut values = self.values;
+        let mode = self.mode;
         let limit = self.limit;
         let progress = self.progress;
         let next = turn::turn(
@@ -73,6 +77,7 @@ impl Walk {
             &mut ids,
             &mut cursors,
             &mut values,
+            mode,
             limit,
             progress,
         );

@@ -1,7 +1,8 @@
 // A turn of the walk's loop.
 ghost use mathlib.Core.Path.{_≡_};
 ghost use Rattle.definitions.specs.Node.{at};
-ghost use Rattle.definitions.specs.Walk.{standard, takenUnwalked};
+ghost use Rattle.definitions.specs.Modes.{modeOf};
+ghost use Rattle.definitions.specs.Walk.{takenUnwalked};
 ghost use Rattle.store.specs.View.{nodesIn};
 ghost use Rattle.store.specs.Lookup.{Lookup};
 ghost use Rattle.rebuild.specs.Memory.{memory};
@@ -13,17 +14,21 @@ use crate::state::Progress;
 use crate::state::Status;
 use arena::DagArena;
 use arena::MOST_CHILDREN;
+use definitions::mode::Mode;
 use store::Answer;
 
-// 01: "A child that is a leaf or marked is taken unwalked"; a leaf has no children.
-fn is_taken_unwalked(nodes: &[u64], count: u64, id: u64) -> bool
+// 01: "A child that is a leaf or marked is taken unwalked"; a leaf has no children, and a strict walk heeds no marks (02 i).
+fn is_taken_unwalked(nodes: &[u64], count: u64, mode: Mode, id: u64) -> bool
     requires { ⌜ Lookup (now nodes) count id ⌝ }
-    ensures { λ r. ⌜ r ≡ takenUnwalked standard (at (nodesIn (now (nodes .entry)) count) id) ⌝ }
+    ensures { λ r. ⌜ r ≡ takenUnwalked (modeOf mode) (at (nodesIn (now (nodes .entry)) count) id) ⌝ }
 {
     if store::arity(nodes, count, id) == 0 {
         return true;
     }
-    store::is_canonical(nodes, count, id)
+    match mode {
+        Mode::Standard => store::is_canonical(nodes, count, id),
+        Mode::Strict => false,
+    }
 }
 
 // The values from a place on, as the places of so many children.
@@ -58,10 +63,11 @@ fn descend(
     ids: &mut [u64; MOST_FRAMES],
     cursors: &mut [usize; MOST_FRAMES],
     values: &mut [u64; MOST_VALUES],
+    mode: Mode,
     progress: Progress,
 ) -> Progress
     requires { ⌜ Descendable (now nodes) (progress .arena .count) (stack (now ids) (now cursors) (now values) (progress .frames) (progress .filled)) ⌝ }
-    ensures { λ r. ⌜ Descends (nodesIn (now (nodes .entry)) (progress .arena .count)) (stack (now (ids .entry)) (now (cursors .entry)) (now (values .entry)) (progress .frames) (progress .filled)) progress (stack (now (ids .exit)) (now (cursors .exit)) (now (values .exit)) (r .frames) (r .filled)) r ⌝ }
+    ensures { λ r. ⌜ Descends (modeOf mode) (nodesIn (now (nodes .entry)) (progress .arena .count)) (stack (now (ids .entry)) (now (cursors .entry)) (now (values .entry)) (progress .frames) (progress .filled)) progress (stack (now (ids .exit)) (now (cursors .exit)) (now (values .exit)) (r .frames) (r .filled)) r ⌝ }
 {
     let frames = progress.frames;
     let filled = progress.filled;
@@ -71,7 +77,7 @@ fn descend(
     let cursor = cursors[top];
     let child = store::child(nodes, count, ids[top], cursor);
     cursors[top] = cursor + 1;
-    if is_taken_unwalked(nodes, count, child) {
+    if is_taken_unwalked(nodes, count, mode, child) {
         values[filled] = child;
         return going(frames, filled + 1, arena);
     }
@@ -87,11 +93,12 @@ pub(crate) fn turn(
     ids: &mut [u64; MOST_FRAMES],
     cursors: &mut [usize; MOST_FRAMES],
     values: &mut [u64; MOST_VALUES],
+    mode: Mode,
     limit: usize,
     progress: Progress,
 ) -> Progress
     requires { ⌜ Ready (memory (now nodes) (now slots) (progress .arena)) limit (stack (now ids) (now cursors) (now values) (progress .frames) (progress .filled)) ⌝ }
-    ensures { λ r. ⌜ Turns (memory (now (nodes .entry)) (now (slots .entry)) (progress .arena)) limit (stack (now (ids .entry)) (now (cursors .entry)) (now (values .entry)) (progress .frames) (progress .filled)) (memory (now (nodes .exit)) (now (slots .exit)) (r .arena)) (stack (now (ids .exit)) (now (cursors .exit)) (now (values .exit)) (r .frames) (r .filled)) (r .status) ⌝ }
+    ensures { λ r. ⌜ Turns (modeOf mode) (memory (now (nodes .entry)) (now (slots .entry)) (progress .arena)) limit (stack (now (ids .entry)) (now (cursors .entry)) (now (values .entry)) (progress .frames) (progress .filled)) (memory (now (nodes .exit)) (now (slots .exit)) (r .arena)) (stack (now (ids .exit)) (now (cursors .exit)) (now (values .exit)) (r .frames) (r .filled)) (r .status) ⌝ }
 {
     let filled = progress.filled;
     let arena = progress.arena;
@@ -105,10 +112,10 @@ pub(crate) fn turn(
         return going(top, base + 1, arena);
     }
     if cursor < store::arity(nodes, arena.count, id) as usize {
-        return descend(nodes, ids, cursors, values, progress);
+        return descend(nodes, ids, cursors, values, mode, progress);
     }
     let children = gather(values, base, cursor);
-    let built = rebuild::finish(nodes, slots, arena, id, &children[..cursor]);
+    let built = rebuild::finish(nodes, slots, arena, mode, id, &children[..cursor]);
     let after = built.arena;
     let answer = built.answer;
     match answer {

@@ -3,6 +3,7 @@ use Prim.Native.Nat.{ℕ}
 use mathlib.Core.Path.{_≡_, ap, _∙_, subst}
 use mathlib.Core.Bool.{Bool}
 use mathlib.Core.List.{List}
+use lib.Dec.{ltb}
 use Rattle.definitions.specs.Machine as M
 use Rattle.definitions.specs.Controller.{simplifying, reading, simplified, refused, fromStore}
 use Rattle.definitions.specs.Beside.{beside}
@@ -38,16 +39,19 @@ pruned-by {pruning} {m} id i setting {a} {m′} e q h = by e (subst (λ (x : ℕ
 
 -- ---- the prune and the write
 
-module _ (pruning : Pruning) (steps : ℕ) (spent : Bool) (m : ControllerMemory) (id : ℕ) (buffer : List ℕ) {a : Prune.Answer} {s : Memory} (p : Pruned pruning (m .store) id a s) where
-  pub prune-refused : (number : ℕ) → a ≡ prune.Refused number → Finishes pruning steps spent m id buffer (Refused number) buffer
+module _ (pruning : Pruning) (steps : ℕ) (spent deep : Bool) (m : ControllerMemory) (id : ℕ) (buffer : List ℕ) {a : Prune.Answer} {s : Memory} (p : Pruned pruning (m .store) id a s) where
+  abbrev after : ControllerMemory
+  after = beside model nameModel s (m .names)
+
+  pub prune-refused : (number : ℕ) → a ≡ prune.Refused number → Finishes pruning steps spent deep m id buffer (Refused number) after buffer
   prune-refused number e = unpruned (subst (λ (x : Prune.Answer). Pruned pruning (m .store) id x s) e p)
 
   pub prune-written : (i kept dropped j : ℕ) → a ≡ prune.Pruned i kept dropped → j ≡ idOf i → (w w′ : Write.Answer) {buffer′ : List ℕ} → w ≡ w′
-      → Writes (beside model nameModel s (m .names)) j buffer w buffer′ → Finishes pruning steps spent m id buffer (outcomeOf w′ steps spent kept dropped) buffer′
+      → Writes after j buffer w buffer′ → Finishes pruning steps spent deep m id buffer (outcomeOf w′ steps spent deep kept dropped) after buffer′
   prune-written i kept dropped j e q w w′ {buffer′} f h =
       finished (subst (λ (x : Prune.Answer). Pruned pruning (m .store) id x s) e p)
-      (subst (λ (x : Write.Answer). Writes (beside model nameModel s (m .names)) (idOf i) buffer x buffer′) f
-      (subst (λ (x : ℕ). Writes (beside model nameModel s (m .names)) x buffer w buffer′) q h))
+      (subst (λ (x : Write.Answer). Writes after (idOf i) buffer x buffer′) f
+      (subst (λ (x : ℕ). Writes after x buffer w buffer′) q h))
 
 -- ---- the walk
 
@@ -58,12 +62,15 @@ module _ (pruning : Pruning) (m : ControllerMemory) (id i : ℕ) (buffer : List 
       (subst (λ (x : ℕ). Calls (simplifying x depthLimit ampleBudget) m (fromStore (WalkAnswers.meaning a)) (beside model nameModel s (m .names))) q
       (lift-store model nameModel (M.simplify i depthLimit ampleBudget) (m .store) s (WalkAnswers.meaning a) (m .names) (h .called)))
 
-  pub walk-refused : (number : ℕ) → a ≡ walk.Refused number → Simplifies pruning m id buffer (Refused number) buffer
+  pub walk-refused : (number : ℕ) → a ≡ walk.Refused number → Simplifies pruning m id buffer (Refused number) (beside model nameModel s (m .names)) buffer
   walk-refused number e = unsimplified (walks (M.refused number) (ap WalkAnswers.meaning e))
 
-  pub walk-ended : (b : Walk.Answer) (j steps : ℕ) (spent : Bool) → a ≡ b → WalkAnswers.meaning b ≡ M.simplified j spent steps → {o : Outcome} {buffer′ : List ℕ}
-      → Finishes pruning steps spent (beside model nameModel s (m .names)) j buffer o buffer′ → Simplifies pruning m id buffer o buffer′
-  walk-ended b j steps spent e f k = walked (walks (M.simplified j spent steps) (ap WalkAnswers.meaning e ∙ f)) k
+  pub walk-ended : (b : Walk.Answer) (j steps : ℕ) (spent deep : Bool) → a ≡ b → WalkAnswers.meaning b ≡ M.simplified j spent steps → deep ≡ ltb depthLimit i
+      → {o : Outcome} {m′ : ControllerMemory} {buffer′ : List ℕ}
+      → Finishes pruning steps spent deep (beside model nameModel s (m .names)) j buffer o m′ buffer′ → Simplifies pruning m id buffer o m′ buffer′
+  walk-ended b j steps spent deep e f d {o} {m′} {buffer′} k =
+      walked (walks (M.simplified j spent steps) (ap WalkAnswers.meaning e ∙ f))
+      (subst (λ (x : Bool). Finishes pruning steps spent x (beside model nameModel s (m .names)) j buffer o m′ buffer′) (d ∙ ap (ltb depthLimit) q) k)
 
 -- ---- the reading
 
@@ -71,8 +78,9 @@ module _ (typed : List ℕ) (pruning : Pruning) (d : ControllerMemory) (buffer :
   reads : (b : Store.Answer) → a ≡ b → Calls (reading typed) d (answered b) d′
   reads b e = subst (λ (x : Store.Answer). Calls (reading typed) d (answered x) d′) e (read-called typed d d′ a h)
 
-  pub read-refused : (number : ℕ) → a ≡ store.Refused number → Answers typed pruning d buffer (Refused number) buffer
+  pub read-refused : (number : ℕ) → a ≡ store.Refused number → Answers typed pruning d buffer (Refused number) d′ buffer
   read-refused number e = unread (reads (store.Refused number) e)
 
-  pub read-ended : (id : ℕ) → a ≡ store.Id id → {o : Outcome} {buffer′ : List ℕ} → Simplifies pruning d′ id buffer o buffer′ → Answers typed pruning d buffer o buffer′
+  pub read-ended : (id : ℕ) → a ≡ store.Id id → {o : Outcome} {m′ : ControllerMemory} {buffer′ : List ℕ} → Simplifies pruning d′ id buffer o m′ buffer′
+      → Answers typed pruning d buffer o m′ buffer′
   read-ended id e k = read (reads (store.Id id) e) k

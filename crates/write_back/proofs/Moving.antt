@@ -40,7 +40,7 @@ use Rattle.write_back.specs.declared.Pruning.the-variants.{BySetting}
 use Rattle.write_back.specs.declared.Outcome.{Outcome}
 use Rattle.write_back.specs.declared.Outcome.the-variants.{Written, Refused}
 use Rattle.write_back.specs.Ids.{idOf}
-use Rattle.write_back.specs.Answers.{depthLimit, ampleBudget, Calls, off, by, Finishes, unpruned, finished, Simplifies, unsimplified, walked, Answers, unread, read}
+use Rattle.write_back.specs.Answers.{depthLimit, ampleBudget, mayBeDeeper, Calls, off, by, Finishes, unpruned, finished, Simplifies, unsimplified, walked, Answers, unread, read}
 use Rattle.write_back.specs.Moved.{HasThreshold, MovedText, ValueMoves}
 
 abbrev Model : ControllerModel
@@ -49,7 +49,7 @@ Model = lentController
 -- ---- ids
 
 -- an id of a sound store is taken as it is
-id-same : (s : Memory) (i : ℕ) → model .Sound s → i < length (model .view s .nodes) → idOf i ≡ i
+pub id-same : (s : Memory) (i : ℕ) → model .Sound s → i < length (model .view s .nodes) → idOf i ≡ i
 id-same s i h l =
     let many = h .nodes .formed .many in
     omega (arith, plain-length (s .words) (s .arena .count))
@@ -147,13 +147,13 @@ module _ (typed : List ℕ) (setting t : ℕ) (m : ControllerMemory) (buffer : L
 
   -- ---- from the cases of `Answers`
 
-  finishes : {m1 m2 : ControllerMemory} {buffer′ : List ℕ} {o : Outcome} (id i steps steps′ size kept dropped : ℕ) (spent spent′ : Bool)
+  finishes : {m1 m2 m′ : ControllerMemory} {buffer′ : List ℕ} {o : Outcome} (id i steps steps′ size kept dropped : ℕ) (spent spent′ deep deep′ : Bool)
       → Calls (reading typed) m (stored id) m1 → Calls (simplifying (idOf id) depthLimit ampleBudget) m1 (simplified i spent′ steps′) m2
-      → Finishes (BySetting setting) steps′ spent′ m2 i buffer o buffer′ → o ≡ Written size steps spent kept dropped → MovedText typed (take size buffer′) t dropped
-  finishes id i steps steps′ size kept dropped spent spent′ c1 c2 (unpruned p) e = let z : _≡_ {A = ℕ} 0 1 = cc in absurd (omega arith)
-  finishes id i steps steps′ size kept dropped spent spent′ c1 c2 (finished {a = write.Refused number} p w) e = let z : _≡_ {A = ℕ} 0 1 = cc in absurd (omega arith)
-  finishes id i steps steps′ size kept dropped spent spent′ c1 c2 (finished {s = s} {a = write.Length n} (off k) w) e = let z : _≡_ {A = ℕ} 0 1 = cc in absurd (omega arith)
-  finishes {buffer′ = buffer′} id i steps steps′ size kept dropped spent spent′ c1 c2 (finished {i = j} {kept = kept′} {dropped = dropped′} {s = s} {a = write.Length n} (by {setting = n′} k h) w) e =
+      → Finishes (BySetting setting) steps′ spent′ deep′ m2 i buffer o m′ buffer′ → o ≡ Written size steps spent deep kept dropped → MovedText typed (take size buffer′) t dropped
+  finishes id i steps steps′ size kept dropped spent spent′ deep deep′ c1 c2 (unpruned p) e = let z : _≡_ {A = ℕ} 0 1 = cc in absurd (omega arith)
+  finishes id i steps steps′ size kept dropped spent spent′ deep deep′ c1 c2 (finished {a = write.Refused number} p w) e = let z : _≡_ {A = ℕ} 0 1 = cc in absurd (omega arith)
+  finishes id i steps steps′ size kept dropped spent spent′ deep deep′ c1 c2 (finished {s = s} {a = write.Length n} (off k) w) e = let z : _≡_ {A = ℕ} 0 1 = cc in absurd (omega arith)
+  finishes {buffer′ = buffer′} id i steps steps′ size kept dropped spent spent′ deep deep′ c1 c2 (finished {i = j} {kept = kept′} {dropped = dropped′} {s = s} {a = write.Length n} (by {setting = n′} k h) w) e =
       let same : n ≡ size = cc in
       let drops : dropped′ ≡ dropped = cc in
       let set : n′ ≡ setting = cc in
@@ -162,15 +162,17 @@ module _ (typed : List ℕ) (setting t : ℕ) (m : ControllerMemory) (buffer : L
       (at-setting (idOf i) set h)
       (text-in size w (ap write.Length same)))
 
-  simplified-so : {m1 : ControllerMemory} {buffer′ : List ℕ} {o : Outcome} (id steps size kept dropped : ℕ) (spent : Bool) → Calls (reading typed) m (stored id) m1
-      → Simplifies (BySetting setting) m1 id buffer o buffer′ → o ≡ Written size steps spent kept dropped → MovedText typed (take size buffer′) t dropped
-  simplified-so id steps size kept dropped spent c1 (unsimplified c) e = let z : _≡_ {A = ℕ} 0 1 = cc in absurd (omega arith)
-  simplified-so id steps size kept dropped spent c1 (walked {i = i} {steps = steps′} {spent = spent′} c2 f) e = finishes id i steps steps′ size kept dropped spent spent′ c1 c2 f e
+  simplified-so : {m1 m′ : ControllerMemory} {buffer′ : List ℕ} {o : Outcome} (id steps size kept dropped : ℕ) (spent deep : Bool) → Calls (reading typed) m (stored id) m1
+      → Simplifies (BySetting setting) m1 id buffer o m′ buffer′ → o ≡ Written size steps spent deep kept dropped → MovedText typed (take size buffer′) t dropped
+  simplified-so id steps size kept dropped spent deep c1 (unsimplified c) e = let z : _≡_ {A = ℕ} 0 1 = cc in absurd (omega arith)
+  simplified-so id steps size kept dropped spent deep c1 (walked {i = i} {steps = steps′} {spent = spent′} c2 f) e =
+      finishes id i steps steps′ size kept dropped spent spent′ deep (mayBeDeeper id) c1 c2 f e
 
-  answered-so : {buffer′ : List ℕ} {o : Outcome} (steps size kept dropped : ℕ) (spent : Bool) → Answers typed (BySetting setting) m buffer o buffer′
-      → o ≡ Written size steps spent kept dropped → MovedText typed (take size buffer′) t dropped
-  answered-so steps size kept dropped spent (unread c) e = let z : _≡_ {A = ℕ} 0 1 = cc in absurd (omega arith)
-  answered-so steps size kept dropped spent (read {id = id} c1 f) e = simplified-so id steps size kept dropped spent c1 f e
+  answered-so : {m′ : ControllerMemory} {buffer′ : List ℕ} {o : Outcome} (steps size kept dropped : ℕ) (spent deep : Bool) → Answers typed (BySetting setting) m buffer o m′ buffer′
+      → o ≡ Written size steps spent deep kept dropped → MovedText typed (take size buffer′) t dropped
+  answered-so steps size kept dropped spent deep (unread c) e = let z : _≡_ {A = ℕ} 0 1 = cc in absurd (omega arith)
+  answered-so steps size kept dropped spent deep (read {id = id} c1 f) e = simplified-so id steps size kept dropped spent deep c1 f e
 
 pub value-moves : ValueMoves
-value-moves typed setting t m buffer buffer′ size steps kept dropped spent fresh threshold one h = answered-so typed setting t m buffer fresh threshold one steps size kept dropped spent h refl
+value-moves typed setting t m m′ buffer buffer′ size steps kept dropped spent deep fresh threshold one h =
+    answered-so typed setting t m buffer fresh threshold one steps size kept dropped spent deep h refl

@@ -3,6 +3,7 @@ use Prim.Native.Nat.{ℕ}
 use mathlib.Core.Path.{_≡_}
 use mathlib.Core.Bool.{Bool}
 use mathlib.Core.List.{List}
+use lib.Dec.{ltb}
 use Rattle.definitions.specs.Machine as M
 use Rattle.definitions.specs.Controller.{ControllerCall, simplifying, reading, ControllerAnswer, stored, simplified, refused}
 use Rattle.definitions.specs.Promise.{ControllerCalled}
@@ -38,24 +39,33 @@ pub data Pruned (pruning : Pruning) (m : Memory) (id : ℕ) : Prune.Answer → M
   off : pruning ≡ Skipped → Pruned pruning m id (prune.Pruned id 1 0) m
   by : {setting : ℕ} {a : Prune.Answer} {m′ : Memory} → pruning ≡ BySetting setting → Leaves (M.pruneBySetting (idOf id) setting) m (meaning a) m′ → Pruned pruning m id a m′
 
-abbrev pub outcomeOf : Write.Answer → ℕ → Bool → ℕ → ℕ → Outcome
-outcomeOf (write.Length length) steps spent kept dropped = Written length steps spent kept dropped
-outcomeOf (write.Refused number) steps spent kept dropped = Refused number
+-- the length of the text, the walk's steps, whether its budget was used up, whether the formula may be deeper than it went, and the two counts
+abbrev pub outcomeOf : Write.Answer → ℕ → Bool → Bool → ℕ → ℕ → Outcome
+outcomeOf (write.Length length) steps spent deep kept dropped = Written length steps spent deep kept dropped
+outcomeOf (write.Refused number) steps spent deep kept dropped = Refused number
 
--- the prune and the write: what the prune answered is written
-pub data Finishes (pruning : Pruning) (steps : ℕ) (spent : Bool) (m : ControllerMemory) (id : ℕ) (buffer : List ℕ) : Outcome → List ℕ → Type 0 where
-  unpruned : {number : ℕ} {s : Memory} → Pruned pruning (m .store) id (prune.Refused number) s → Finishes pruning steps spent m id buffer (Refused number) buffer
+-- the prune and the write: what the prune answered is written, and the lists are those that it left
+pub data Finishes (pruning : Pruning) (steps : ℕ) (spent deep : Bool) (m : ControllerMemory) (id : ℕ) (buffer : List ℕ) : Outcome → ControllerMemory → List ℕ → Type 0 where
+  unpruned : {number : ℕ} {s : Memory} → Pruned pruning (m .store) id (prune.Refused number) s
+      → Finishes pruning steps spent deep m id buffer (Refused number) (beside model nameModel s (m .names)) buffer
   finished : {i kept dropped : ℕ} {s : Memory} {a : Write.Answer} {buffer′ : List ℕ} → Pruned pruning (m .store) id (prune.Pruned i kept dropped) s
-      → Writes (beside model nameModel s (m .names)) (idOf i) buffer a buffer′ → Finishes pruning steps spent m id buffer (outcomeOf a steps spent kept dropped) buffer′
+      → Writes (beside model nameModel s (m .names)) (idOf i) buffer a buffer′
+      → Finishes pruning steps spent deep m id buffer (outcomeOf a steps spent deep kept dropped) (beside model nameModel s (m .names)) buffer′
+
+-- an id over the walk's depth limit may have a formula that goes deeper than the walk; no other has one (`Shallow` of Depth.antt)
+abbrev pub mayBeDeeper : ℕ → Bool
+mayBeDeeper id = ltb depthLimit (idOf id)
 
 -- the walk, and then these
-pub data Simplifies (pruning : Pruning) (m : ControllerMemory) (id : ℕ) (buffer : List ℕ) : Outcome → List ℕ → Type 0 where
-  unsimplified : {number : ℕ} {m′ : ControllerMemory} → Calls (simplifying (idOf id) depthLimit ampleBudget) m (refused number) m′ → Simplifies pruning m id buffer (Refused number) buffer
-  walked : {i steps : ℕ} {spent : Bool} {m′ : ControllerMemory} {o : Outcome} {buffer′ : List ℕ} → Calls (simplifying (idOf id) depthLimit ampleBudget) m (simplified i spent steps) m′
-      → Finishes pruning steps spent m′ i buffer o buffer′ → Simplifies pruning m id buffer o buffer′
+pub data Simplifies (pruning : Pruning) (m : ControllerMemory) (id : ℕ) (buffer : List ℕ) : Outcome → ControllerMemory → List ℕ → Type 0 where
+  unsimplified : {number : ℕ} {m′ : ControllerMemory} → Calls (simplifying (idOf id) depthLimit ampleBudget) m (refused number) m′
+      → Simplifies pruning m id buffer (Refused number) m′ buffer
+  walked : {i steps : ℕ} {spent : Bool} {m′ m″ : ControllerMemory} {o : Outcome} {buffer′ : List ℕ}
+      → Calls (simplifying (idOf id) depthLimit ampleBudget) m (simplified i spent steps) m′
+      → Finishes pruning steps spent (mayBeDeeper id) m′ i buffer o m″ buffer′ → Simplifies pruning m id buffer o m″ buffer′
 
--- the reading, and then these: a refusal leaves the buffer as it was
-pub data Answers (typed : List ℕ) (pruning : Pruning) (m : ControllerMemory) (buffer : List ℕ) : Outcome → List ℕ → Type 0 where
-  unread : {number : ℕ} {m′ : ControllerMemory} → Calls (reading typed) m (refused number) m′ → Answers typed pruning m buffer (Refused number) buffer
-  read : {id : ℕ} {m′ : ControllerMemory} {o : Outcome} {buffer′ : List ℕ} → Calls (reading typed) m (stored id) m′ → Simplifies pruning m′ id buffer o buffer′
-      → Answers typed pruning m buffer o buffer′
+-- the reading, and then these: a refusal leaves the buffer as it was, and the lists as the refused call left them
+pub data Answers (typed : List ℕ) (pruning : Pruning) (m : ControllerMemory) (buffer : List ℕ) : Outcome → ControllerMemory → List ℕ → Type 0 where
+  unread : {number : ℕ} {m′ : ControllerMemory} → Calls (reading typed) m (refused number) m′ → Answers typed pruning m buffer (Refused number) m′ buffer
+  read : {id : ℕ} {m′ m″ : ControllerMemory} {o : Outcome} {buffer′ : List ℕ} → Calls (reading typed) m (stored id) m′
+      → Simplifies pruning m′ id buffer o m″ buffer′ → Answers typed pruning m buffer o m″ buffer′

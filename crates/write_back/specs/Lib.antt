@@ -1,3 +1,4 @@
 pub mod Ids
 pub mod Answers
 pub mod Moved
+pub mod Depth

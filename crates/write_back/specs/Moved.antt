@@ -42,6 +42,6 @@ pub record MovedText (typed text : List ℕ) (t dropped : ℕ) : Type 0 where
       → Moved (valueOf r (formula (before .nodes) id)) (valueOf r (formula (after .nodes) answer)) (ofBits binary64 t) dropped
 
 abbrev pub ValueMoves : Type 0
-ValueMoves = (typed : List ℕ) (setting t : ℕ) (m : ControllerMemory) (buffer buffer′ : List ℕ) (size steps kept dropped : ℕ) (spent : Bool)
+ValueMoves = (typed : List ℕ) (setting t : ℕ) (m m′ : ControllerMemory) (buffer buffer′ : List ℕ) (size steps kept dropped : ℕ) (spent deep : Bool)
     → FreshController lentController m → HasThreshold setting t → T (le (ofBits binary64 t) one64)
-    → Answers typed (BySetting setting) m buffer (Written size steps spent kept dropped) buffer′ → MovedText typed (take size buffer′) t dropped
+    → Answers typed (BySetting setting) m buffer (Written size steps spent deep kept dropped) m′ buffer′ → MovedText typed (take size buffer′) t dropped

@@ -7,8 +7,8 @@ ghost use Rattle.write_back.specs.Answers.{Pruned, Finishes, Simplifies,
 use arena::DagArena;
 use writer::Answer;
 
-// 01's greatest depth limit, and a budget; a walk that uses it up says so.
-const DEPTH: u32 = 255;
+// 01's greatest depth limit, and a budget; a walk that uses it up says so. A second walk of an answer goes no deeper, for the answer is marked.
+pub const DEPTH: u32 = 255;
 
 const BUDGET: u64 = 100_000_000;
 
@@ -18,16 +18,25 @@ pub enum Pruning {
     BySetting(u32),
 }
 
-// The length of the text that was written, the walk's steps and whether its budget was used up, and the terms kept and dropped; or a refusal.
+// The length of the text that was written, the walk's steps, whether its budget was used up, whether the formula may be deeper than it went, and
+// the terms kept and dropped; or a refusal.
 pub enum Outcome {
     Written {
         length: usize,
         steps: u64,
         spent: bool,
+        deep: bool,
         kept: u64,
         dropped: u64,
     },
     Refused(u64),
+}
+
+// An outcome, with the counts of the store and of the names after it.
+pub struct Answered {
+    pub outcome: Outcome,
+    pub arena: DagArena,
+    pub names: usize,
 }
 
 // An id as calls take it.
@@ -73,9 +82,11 @@ fn finish(
     pruning: Pruning,
     steps: u64,
     spent: bool,
+    deep: bool,
     text: &mut [u8],
-) -> Outcome
-    ensures { λ r. ⌜ Finishes pruning steps spent (controllerMemory (now (nodes .entry)) (now (slots .entry)) arena (now (entries .entry)) names) id (now (text .entry)) r (now (text .exit)) ⌝ }
+) -> Answered
+    ensures { λ r. ⌜ Finishes pruning steps spent deep (controllerMemory (now (nodes .entry)) (now (slots .entry)) arena (now (entries .entry)) names) id
+        (now (text .entry)) (r .outcome) (controllerMemory (now (nodes .exit)) (now (slots .exit)) (r .arena) (now (entries .entry)) (r .names)) (now (text .exit)) ⌝ }
 {
     let pruned = prune(nodes, slots, arena, id, pruning);
     let after = pruned.arena;
@@ -84,17 +95,30 @@ fn finish(
         pruner::Answer::Pruned { id, kept, dropped } => {
             let written = writer::write(nodes, slots, after, entries, names, id_of(id), text);
             match written {
-                Answer::Length(length) => Outcome::Written {
-                    length,
-                    steps,
-                    spent,
-                    kept,
-                    dropped,
+                Answer::Length(length) => Answered {
+                    outcome: Outcome::Written {
+                        length,
+                        steps,
+                        spent,
+                        deep,
+                        kept,
+                        dropped,
+                    },
+                    arena: after,
+                    names,
                 },
-                Answer::Refused(number) => Outcome::Refused(number),
+                Answer::Refused(number) => Answered {
+                    outcome: Outcome::Refused(number),
+                    arena: after,
+                    names,
+                },
             }
         }
-        pruner::Answer::Refused(number) => Outcome::Refused(number),
+        pruner::Answer::Refused(number) => Answered {
+            outcome: Outcome::Refused(number),
+            arena: after,
+            names,
+        },
     }
 }
 
@@ -108,10 +132,13 @@ fn simplify(
     id: u64,
     pruning: Pruning,
     text: &mut [u8],
-) -> Outcome
-    ensures { λ r. ⌜ Simplifies pruning (controllerMemory (now (nodes .entry)) (now (slots .entry)) arena (now (entries .entry)) names) id (now (text .entry)) r (now (text .exit)) ⌝ }
+) -> Answered
+    ensures { λ r. ⌜ Simplifies pruning (controllerMemory (now (nodes .entry)) (now (slots .entry)) arena (now (entries .entry)) names) id
+        (now (text .entry)) (r .outcome) (controllerMemory (now (nodes .exit)) (now (slots .exit)) (r .arena) (now (entries .entry)) (r .names)) (now (text .exit)) ⌝ }
 {
-    let walked = walk::simplify(nodes, slots, arena, id_of(id), DEPTH, BUDGET);
+    let root = id_of(id);
+    let deep = DEPTH < root;
+    let walked = walk::simplify(nodes, slots, arena, root, DEPTH, BUDGET);
     let after = walked.arena;
     let answer = walked.answer;
     match answer {
@@ -125,6 +152,7 @@ fn simplify(
             pruning,
             steps,
             false,
+            deep,
             text,
         ),
         walk::Answer::Spent { id, steps } => finish(
@@ -137,9 +165,14 @@ fn simplify(
             pruning,
             steps,
             true,
+            deep,
             text,
         ),
-        walk::Answer::Refused(number) => Outcome::Refused(number),
+        walk::Answer::Refused(number) => Answered {
+            outcome: Outcome::Refused(number),
+            arena: after,
+            names,
+        },
     }
 }
 
@@ -153,8 +186,9 @@ pub fn answer(
     entries: &mut [u8],
     names: usize,
     text: &mut [u8],
-) -> Outcome
-    ensures { λ r. ⌜ Answers (now (typed .entry)) pruning (controllerMemory (now (nodes .entry)) (now (slots .entry)) arena (now (entries .entry)) names) (now (text .entry)) r (now (text .exit)) ⌝ }
+) -> Answered
+    ensures { λ r. ⌜ Answers (now (typed .entry)) pruning (controllerMemory (now (nodes .entry)) (now (slots .entry)) arena (now (entries .entry)) names)
+        (now (text .entry)) (r .outcome) (controllerMemory (now (nodes .exit)) (now (slots .exit)) (r .arena) (now (entries .exit)) (r .names)) (now (text .exit)) ⌝ }
 {
     let made = text::read(typed, nodes, slots, arena, entries, names);
     let after = made.arena;
@@ -162,6 +196,10 @@ pub fn answer(
     let answer = made.answer;
     match answer {
         store::Answer::Id(id) => simplify(nodes, slots, after, entries, known, id, pruning, text),
-        store::Answer::Refused(number) => Outcome::Refused(number),
+        store::Answer::Refused(number) => Answered {
+            outcome: Outcome::Refused(number),
+            arena: after,
+            names: known,
+        },
     }
 }

@@ -65,7 +65,7 @@ module _ (es : List ℕ) (named : ℕ) (s : NameList.Sound es named) where
     lengths = λ i w p. subst (λ (x : List ℕ). lengthAllowed x ≡ true) (listed-at i w p) (allowed i (listed-below i w p));
   }
 
-whole : (m : ControllerMemory) → BothSound m → Whole (controllerOf m)
+pub whole : (m : ControllerMemory) → BothSound m → Whole (controllerOf m)
 whole m h = record {
   nodes = fitting (controllerOf m .nodes) (sound-plainly (m .store) (h .store));
   names = names-listed (m .names .bytes) (m .names .count) (h .names);
@@ -82,13 +82,19 @@ module _ (l : LentLists) (s s′ : Controller) (t : List ℕ) (id : ℕ) (w : Wh
   unfolding controllerCall
   goes-on e = subst (Goes s) e (reading-goes l s (verdict t) w)
 
+taken : (m : ControllerMemory) → BothSound m → All (SoundPart model nameModel m) (storePart ∷ namesPart ∷ [])
+taken m h = (h .store, (h .names, tt))
+
+-- a text that was read on sound lists, whatever is made
+pub read-to : (m m′ : ControllerMemory) (id : ℕ) (t : List ℕ) → BothSound m → ControllerCalled lentController (reading t) m (stored id) m′ → ReadTo t (controllerOf m′) id
+read-to m m′ id t h c = reads-to (lentOf m) (controllerOf m) (controllerOf m′) t id (whole m h) (sym (c .answer (taken m h))) (sym (c .left (taken m h)))
+
 pub read-texts : ReadTexts
 read-texts m m′ id t h below c same =
-    let sound : All (SoundPart model nameModel m) (storePart ∷ namesPart ∷ []) = (h .store, (h .names, tt)) in
     let s = controllerOf m in
     let s′ = controllerOf m′ in
-    let r = reads-to (lentOf m) s s′ t id (whole m h) (sym (c .answer sound)) (sym (c .left sound)) in
-    let stays = goes-on (lentOf m) s s′ t id (whole m h) (sym (c .left sound)) .step .kept id below in
+    let r = read-to m m′ id t h c in
+    let stays = goes-on (lentOf m) s s′ t id (whole m h) (sym (c .left (taken m h))) .step .kept id below in
     record {
       expr = r .expr;
       depth = r .denotes .depth;

@@ -104,7 +104,8 @@ module _ (w slots : List ℕ) (a : DagArena) (s : Sound w slots a) (es : List �
   unfolding storing M.storeCall
   stored-own c i h r k f b =
       ap (λ (x : M.Outcome). storedAs names (x .answer) (x .nodes))
-      (ap (λ (x : Bool). cond x (cond (N.childCountListed (M.requested c .node .kind) (M.requested c .node .payload) (length (M.requested c .node .children))) (cond (M.allBelow (length ns) (M.requested c .node .children)) (M.storedAs (I.intern (l .store) ns (M.requested c .node))) (M.outcome (M.refused 4) ns)) (M.outcome (M.refused 6) ns)) (M.outcome (M.refused 5) ns)) r
+      (ap₂ (λ (x n : Bool). cond x (cond n (M.outcome (M.refused 10) ns) (cond (N.childCountListed (M.requested c .node .kind) (M.requested c .node .payload) (length (M.requested c .node .children))) (cond (M.allBelow (length ns) (M.requested c .node .children)) (M.storedAs (I.intern (l .store) ns (M.requested c .node))) (M.outcome (M.refused 4) ns)) (M.outcome (M.refused 6) ns))) (M.outcome (M.refused 5) ns)) r
+      (sym (ap₂ N.nanConstant (k .kind) (k .payload)) ∙ R.number-at w slots a s i h)
       ∙ ap (λ (x : Bool). cond x (cond (M.allBelow (length ns) (M.requested c .node .children)) (M.storedAs (I.intern (l .store) ns (M.requested c .node))) (M.outcome (M.refused 4) ns)) (M.outcome (M.refused 6) ns)) f
       ∙ ap (λ (x : Bool). cond x (M.storedAs (I.intern (l .store) ns (M.requested c .node))) (M.outcome (M.refused 4) ns)) b
       ∙ ap M.storedAs (own (M.requested c .node) i h k))

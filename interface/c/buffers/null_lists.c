@@ -67,6 +67,23 @@ static void try_null_texts(void) {
     release(&store);
 }
 
+static void try_null_writes(void) {
+    struct store store = fresh_store(2 * CURVALIQUE_NODE_WORDS, FEWEST_SLOTS);
+    uint64_t id = UNTOUCHED, length = UNTOUCHED;
+    check(curvalique_constant(STORE(&store), 0, &id) == 0 && id == 0, "a constant");
+    check(curvalique_variable(STORE(&store), 0, &id) == 0 && id == 1, "a variable without a name");
+    uint64_t returned = curvalique_write_text(NULL, 0, NULL, 0, 0, FEWEST_SLOTS, NULL, 0, 0, 0, NULL, 0, &length);
+    check(returned == CURVALIQUE_NOT_SOUND, "no store for a write");
+    returned = curvalique_write_text(LENT(&store), store.count, store.size, NULL, 0, 0, 2, NULL, 0, &length);
+    check(returned == CURVALIQUE_BAD_OPERAND, "no node to write");
+    returned = curvalique_write_text(LENT(&store), store.count, store.size, NULL, 0, 0, 1, NULL, 0, &length);
+    check(returned == CURVALIQUE_NO_TEXT, "a symbol without a name");
+    returned = curvalique_write_text(LENT(&store), store.count, store.size, NULL, 0, 0, 0, NULL, 0, &length);
+    check(returned == CURVALIQUE_TEXT_TOO_LONG, "no place for a text");
+    check(length == UNTOUCHED, "a refused write answers nothing");
+    release(&store);
+}
+
 static void try_null_sheets(void) {
     static const uint8_t SHEET[] = {1};
     struct store store = fresh_store(CURVALIQUE_NODE_WORDS, FEWEST_SLOTS);
@@ -108,6 +125,7 @@ void try_null_lists(void) {
     try_null_operands();
     try_null_names();
     try_null_texts();
+    try_null_writes();
     try_null_sheets();
     try_null_listings();
 }

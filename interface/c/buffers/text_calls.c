@@ -1,4 +1,4 @@
-/* Texts, whole and damaged, on sound and damaged stores and name lists. */
+/* Texts, whole and damaged, read and written on sound and damaged stores and name lists. */
 #include "trials.h"
 
 #include "curvalique.h"
@@ -11,6 +11,10 @@
 /* A fresh store with place for most of the texts. */
 #define NODES 12
 #define SLOTS 64
+
+/* Ids and lent lengths of a write: some below a store's count and long enough, some not. */
+#define IDS 16
+#define TEXT_BYTES 40
 
 /* Document 02's example, all signs, a NaN, and 65 minus factors. */
 static const char *const TEXTS[] = {
@@ -55,6 +59,46 @@ static void check_left(uint64_t returned, const struct store *before, const stru
     }
 }
 
+static int untouched_from(const struct bytes *bytes, size_t from) {
+    for (size_t place = from; place < bytes->length; place++) {
+        if (bytes->bytes[place] != UNTOUCHED_BYTE) {
+            return 0;
+        }
+    }
+    return 1;
+}
+
+/* A text that was written, read back. */
+static void read_back(struct store *store, struct names *names, const struct bytes *text, size_t length, uint32_t id) {
+    uint64_t again = UNTOUCHED;
+    uint64_t returned = curvalique_read_text(
+        text->bytes, length, STORE(store), names->entries.bytes, names->entries.length, &names->count, &again);
+    check(returned == 0 && again == id, "a text that was written reads back to its node");
+}
+
+/* A node's text, in a block of any length. */
+static void write_text(struct store *store, struct names *names) {
+    struct store before = copy_of(store, store->node_words, store->slot_count);
+    struct names names_before = {copy_of_bytes(names->entries.bytes, names->entries.length), names->count};
+    uint32_t id = (uint32_t)below(IDS);
+    struct bytes text = untouched_bytes(below(TEXT_BYTES));
+    uint64_t length = UNTOUCHED;
+    uint64_t returned = curvalique_write_text(LENT(store), store->count, store->size, names->entries.bytes,
+        names->entries.length, names->count, id, text.bytes, text.length, &length);
+    count_outcome(WRITE_CALLS, returned);
+    int all_sound = sound(store) && sound_names(names);
+    check(all_sound == (returned != CURVALIQUE_NOT_SOUND), "20 exactly if the store or the name list is not sound");
+    check(returned == 0 ? length <= text.length : length == UNTOUCHED, "a length within the lent one, or nothing");
+    check(untouched_from(&text, returned == 0 ? length : 0), "bytes past the text, and on a refusal all, stay");
+    if (returned == 0) {
+        read_back(store, names, &text, length, id);
+    }
+    check(same(&before, store) && same_names(&names_before, names), "a write and its reading back change nothing");
+    release_bytes(&text);
+    release_bytes(&names_before.entries);
+    release(&before);
+}
+
 /* A text, whole or damaged, on a fresh store or on a copy of the store that may be damaged. */
 static void read_text(const struct store *store, struct names *names) {
     const char *text = TEXTS[below(TEXT_COUNT)];
@@ -68,6 +112,7 @@ static void read_text(const struct store *store, struct names *names) {
     count_outcome(TEXT_CALLS, returned);
     check(returned == 0 ? id < copy.count : id == UNTOUCHED, "an id below the count, or nothing");
     check_left(returned, &before, &copy, &names_before, names);
+    write_text(&copy, names);
     release_bytes(&names_before.entries);
     release(&before);
     release(&copy);

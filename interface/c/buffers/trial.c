@@ -8,7 +8,7 @@
 #define OUTCOMES 25
 
 static const char *const GROUP_NAMES[GROUPS] = {
-    "store calls", "name calls", "text calls", "sheet calls", "listing calls"};
+    "store calls", "name calls", "text calls", "write calls", "sheet calls", "listing calls"};
 static uint64_t outcomes[GROUPS][OUTCOMES];
 static uint64_t seed = 0x9E3779B97F4A7C15u;
 

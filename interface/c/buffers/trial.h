@@ -10,7 +10,7 @@
 #define UNTOUCHED 0xA5A5A5A5A5A5A5A5u
 
 /* The groups of calls whose outcomes are counted. */
-enum group { STORE_CALLS, NAME_CALLS, TEXT_CALLS, SHEET_CALLS, LISTING_CALLS, GROUPS };
+enum group { STORE_CALLS, NAME_CALLS, TEXT_CALLS, WRITE_CALLS, SHEET_CALLS, LISTING_CALLS, GROUPS };
 
 /* The next random number below an end of at most 2^32. */
 uint64_t below(uint64_t end);

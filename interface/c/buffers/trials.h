@@ -26,7 +26,7 @@ void try_long_chains(void);
 /* Name lists, sound and damaged. */
 void try_names(int rounds);
 
-/* Texts, whole and damaged, on sound and damaged stores and name lists. */
+/* Texts, whole and damaged, read and written on sound and damaged stores and name lists. */
 void try_texts(const struct store *store, int rounds);
 
 /* A damaged copy of a listing. */

@@ -96,6 +96,29 @@ fn try_null_texts() {
     check(id == UNTOUCHED && names == 0 && count == 0, "a refused text answers nothing");
 }
 
+fn try_null_writes() {
+    let (mut count, mut size, mut id, mut length) = (0, FEWEST_SLOTS, [UNTOUCHED; 2], UNTOUCHED);
+    let (mut nodes, mut slots) = ([UNTOUCHED; 2 * NODE_WORDS], [0; FEWEST_SLOTS]);
+    let (list, words, table, lent) = (nodes.as_mut_ptr(), nodes.len(), slots.as_mut_ptr(), slots.len());
+    // SAFETY: as above; the lists are borrowed for the calls.
+    let (built, returned) = unsafe {
+        let built = [
+            curvalique_constant(list, words, table, lent, &mut count, &mut size, 0, &mut id[0]),
+            curvalique_variable(list, words, table, lent, &mut count, &mut size, 0, &mut id[1]),
+        ];
+        let mut write = |id| {
+            curvalique_write_text(list, words, table, lent, count, size, null(), 0, 0, id, null_mut(), 0, &mut length)
+        };
+        let lent = [write(2), write(1), write(0)];
+        let none = curvalique_write_text(null(), 0, null(), 0, 0, size, null(), 0, 0, 0, null_mut(), 0, &mut length);
+        (built, [lent[0], lent[1], lent[2], none])
+    };
+    check(built == [0, 0] && id == [0, 1], "a constant, and a variable without a name");
+    let expected = [Refusal::BAD_OPERAND, Refusal::NO_TEXT, Refusal::TEXT_TOO_LONG, Refusal::NOT_SOUND];
+    check(returned.map(Refusal) == expected, "writes to no bytes, and of no store");
+    check(length == UNTOUCHED, "a refused write answers nothing");
+}
+
 fn try_null_sheets() {
     let (mut numbers, mut answers) = ((UNTOUCHED, 0), [UNTOUCHED; 3]);
     let (mut nodes, mut slots, sheet) = ([UNTOUCHED; NODE_WORDS], [UNTOUCHED_SLOT; FEWEST_SLOTS], [1]);
@@ -140,6 +163,7 @@ pub fn try_null_lists() {
     try_null_operands();
     try_null_names();
     try_null_texts();
+    try_null_writes();
     try_null_sheets();
     try_null_listings();
 }

@@ -1,4 +1,4 @@
-//! Texts, whole and damaged, on sound and damaged stores and name lists.
+//! Texts, whole and damaged, read and written on sound and damaged stores and name lists.
 
 use curvalique::{ENTRY_BYTES, NODE_WORDS, Names, Refusal};
 
@@ -10,6 +10,10 @@ const MOST_ENTRIES: usize = 6;
 // A fresh store with place for most of the texts.
 const NODES: usize = 12;
 const SLOTS: usize = 64;
+
+// Ids and lent lengths of a write: some below a store's count and long enough, some not.
+const IDS: u64 = 16;
+const TEXT_BYTES: usize = 40;
 
 /// Document 02's example, all signs, a NaN, and 65 minus factors.
 const TEXTS: [&[u8]; 4] = [
@@ -27,6 +31,27 @@ const REFUSED_FIRST: [Refusal; 5] = [
     Refusal::NESTED_TOO_DEEP,
     Refusal::NOT_A_NUMBER,
 ];
+
+/// A node's text, in a block of any length, and read back.
+fn write_text(trial: &mut Trial, blocks: &mut Blocks, names: &mut Names) {
+    let before = blocks.copy();
+    let (entries, count) = (block(names.entries), names.count);
+    let id = trial.below(IDS) as u32;
+    let mut text = filled_block(UNTOUCHED_BYTE, trial.place(TEXT_BYTES));
+    let answer = blocks.call_with_names(names, |store| store.write_text(id, &mut text).map(<[u8]>::len));
+    trial.count_outcome(Group::WriteCalls, answer.err().map_or(0, |refusal| refusal.0));
+    let all_sound = blocks.is_sound() && names.name(0) != Err(Refusal::NOT_SOUND);
+    let refused = answer == Err(Refusal::NOT_SOUND);
+    check(all_sound != refused, "20 exactly if the store or the name list is not sound");
+    let stays = text[answer.unwrap_or(0)..].iter().all(|byte| *byte == UNTOUCHED_BYTE);
+    check(stays, "bytes past the text, and on a refusal all, stay");
+    if let Ok(length) = answer {
+        let again = blocks.call_with_names(names, |store| store.read_text(&text[..length]));
+        check(again == Ok(id), "a text that was written reads back to its node");
+    }
+    let same = before == *blocks && *names.entries == *entries && names.count == count;
+    check(same, "a write and its reading back change nothing");
+}
 
 /// A text, whole or damaged, on a fresh store or on a copy of the store that may be damaged.
 fn read_text(trial: &mut Trial, blocks: &Blocks, names: &mut Names) {
@@ -50,6 +75,7 @@ fn read_text(trial: &mut Trial, blocks: &Blocks, names: &mut Names) {
         let stays = copy.stays_past(&before) && names.entries[used..] == entries[used..];
         check(stays, "what lies past the used memory stays");
     }
+    write_text(trial, &mut copy, names);
 }
 
 pub fn try_texts(trial: &mut Trial, blocks: &Blocks, rounds: u64) {

@@ -8,7 +8,8 @@ pub const UNTOUCHED_SLOT: u32 = 0xA5A5_A5A5;
 pub const UNTOUCHED: u64 = 0xA5A5_A5A5_A5A5_A5A5;
 
 const OUTCOMES: usize = 25;
-const GROUP_NAMES: [&str; 5] = ["store calls", "name calls", "text calls", "sheet calls", "listing calls"];
+const GROUP_NAMES: [&str; 6] =
+    ["store calls", "name calls", "text calls", "write calls", "sheet calls", "listing calls"];
 const MOST_DAMAGES: u64 = 3;
 
 /// The groups of calls whose outcomes are counted.
@@ -17,6 +18,7 @@ pub enum Group {
     StoreCalls,
     NameCalls,
     TextCalls,
+    WriteCalls,
     SheetCalls,
     ListingCalls,
 }

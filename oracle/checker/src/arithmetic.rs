@@ -1,18 +1,29 @@
-//! Folding two constants in binary64 (01, "patterns").
+//! Folding two constants in binary64 (01, "patterns"; 02 b).
 
 use crate::node::Operator;
 
-/// The bits that a fold or merge to NaN stores.
-pub const NOT_A_NUMBER: u64 = 0x7FF8_0000_0000_0000;
+/// What folding two constants gives.
+#[derive(Clone, Copy, Debug, PartialEq, Eq)]
+pub enum Folded {
+    Bits(u64),
+    /// "A fold to NaN is now declined."
+    NotANumber,
+    /// Two such constants do not fold.
+    Never,
+}
 
-/// The folded bits, or nothing where two such constants do not fold.
-pub fn fold(operator: Operator, left: f64, right: f64) -> Option<u64> {
+/// Whether bits are those of a NaN, of any pattern.
+pub fn is_not_a_number(bits: u64) -> bool {
+    f64::from_bits(bits).is_nan()
+}
+
+pub fn fold(operator: Operator, left: f64, right: f64) -> Folded {
     let number = match operator {
         Operator::Add => left + right,
         Operator::Sub => left - right,
         Operator::Mul => left * right,
         Operator::Div if right != 0.0 => left / right,
-        _ => return None,
+        _ => return Folded::Never,
     };
-    Some(if number.is_nan() { NOT_A_NUMBER } else { number.to_bits() })
+    if number.is_nan() { Folded::NotANumber } else { Folded::Bits(number.to_bits()) }
 }

@@ -1,8 +1,7 @@
 //! The audit that decides refusal 20 for a lent store (01, "In every sound
-//! store", and refusal 20).
+//! store", and refusal 20; 02, request e).
 
-use crate::hash::hash_of;
-use crate::lent::{LentStore, WORDS_PER_NODE, node_of, words_of};
+use crate::lent::{LentStore, WORDS_PER_NODE, inserted, node_of, words_of};
 use crate::node::Node;
 use crate::store::{NODES_MAXIMUM, TABLE_SIZE_MINIMUM};
 
@@ -46,17 +45,8 @@ fn nodes_differ(nodes: &[Node]) -> bool {
     nodes.iter().enumerate().all(|(id, node)| !nodes[..id].iter().any(|earlier| earlier.is_one_with(node)))
 }
 
-/// Each id has just one slot, met from its hash onward before an empty one,
-/// and every other slot of the table is 0.
+/// 02: the table is what inserting all nodes by ascending id gives.
 fn table_is_sound(store: &LentStore, nodes: &[Node]) -> bool {
-    let table = &store.slots[..store.table_size as usize];
-    let taken = table.iter().filter(|slot| **slot != 0).count();
-    taken == nodes.len() && nodes.iter().enumerate().all(|(id, node)| is_met(table, node, id as u32 + 1))
-}
-
-/// Whether the probe from the node's hash meets `slot` before an empty one.
-fn is_met(table: &[u32], node: &Node, slot: u32) -> bool {
-    let start = (hash_of(node) % table.len() as u64) as usize;
-    let (before, from) = table.split_at(start);
-    from.iter().chain(before).take_while(|met| **met != 0).any(|met| *met == slot)
+    let size = store.table_size as usize;
+    store.slots[..size] == inserted(nodes, size)
 }

@@ -5,7 +5,7 @@ use crate::audit::sound;
 use crate::lent::LentStore;
 use crate::node::{Children, Control, Kind, Node, Operator};
 use crate::prune::{Pruned, prune};
-use crate::record::{check_child_count, check_flags, check_threshold};
+use crate::record::{check_child_count, check_constant, check_flags, check_threshold};
 use crate::refusal::Refusal;
 use crate::settings::{Setting, meaning_of_setting};
 use crate::store::Store;
@@ -45,7 +45,10 @@ pub fn call(lent: &mut LentStore, call: &Call) -> Result<CallAnswer, Refusal> {
 fn perform(store: &mut Store, call: &Call) -> Result<CallAnswer, Refusal> {
     match call {
         Call::Variable { symbol } => store.variable(*symbol).map(|id| CallAnswer::Built { id }),
-        Call::Constant { bits } => store.constant(*bits).map(|id| CallAnswer::Built { id }),
+        Call::Constant { bits } => {
+            check_constant(*bits)?;
+            store.constant(*bits).map(|id| CallAnswer::Built { id })
+        }
         Call::Operator { operator, flags, operands } => {
             let operator = Operator::from_number(*operator).ok_or(Refusal::Value)?;
             check_flags(*flags)?;

@@ -10,7 +10,7 @@ pub enum Outside {
     Refused,
     /// A budget does not cover the turns of the Rust's loop.
     Spent,
-    /// A fold or merge gives a NaN.
+    /// A fold or merge would give a NaN.
     NotANumber,
     /// A Pow of two constants gets past the identities.
     PowerOfConstants,

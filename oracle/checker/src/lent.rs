@@ -73,29 +73,30 @@ impl LentStore {
         Store::with_nodes(nodes, self.lent_nodes(), self.slots.len(), self.table_size as usize)
     }
 
-    /// Writes the plain machine's nodes back, and a new table if nodes came.
+    /// Writes the plain machine's nodes back, and the table that they give.
     pub fn take_back(&mut self, store: &Store) {
         let nodes = store.nodes();
         for (id, node) in nodes.iter().enumerate() {
             self.words[id * WORDS_PER_NODE..][..WORDS_PER_NODE].copy_from_slice(&words_of(node));
         }
-        if nodes.len() as u64 != self.node_count {
-            self.node_count = nodes.len() as u64;
-            self.table_size = store.table_size() as u64;
-            self.fill_table(nodes);
-        }
+        self.node_count = nodes.len() as u64;
+        self.table_size = store.table_size() as u64;
+        let table = inserted(nodes, store.table_size());
+        self.slots[..table.len()].copy_from_slice(&table);
     }
+}
 
-    /// The table that inserting all nodes by rising id gives.
-    fn fill_table(&mut self, nodes: &[Node]) {
-        let table = &mut self.slots[..self.table_size as usize];
-        table.fill(0);
-        for (id, node) in nodes.iter().enumerate() {
-            let mut place = (hash_of(node) % table.len() as u64) as usize;
-            while table[place] != 0 {
-                place = (place + 1) % table.len();
-            }
-            table[place] = id as u32 + 1;
+/// 02: "what inserting all nodes by ascending id into an empty table of the
+/// present size gives, each at its first free place". The size is above the
+/// number of nodes.
+pub fn inserted(nodes: &[Node], size: usize) -> Vec<u32> {
+    let mut table = vec![0; size];
+    for (id, node) in nodes.iter().enumerate() {
+        let mut place = (hash_of(node) % size as u64) as usize;
+        while table[place] != 0 {
+            place = (place + 1) % size;
         }
+        table[place] = id as u32 + 1;
     }
+    table
 }

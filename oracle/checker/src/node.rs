@@ -1,5 +1,7 @@
 //! Nodes, their kinds and child counts (01, "dedup and arena").
 
+use crate::arithmetic::is_not_a_number;
+
 /// The most children that a node has.
 pub const CHILDREN_MAXIMUM: usize = 4;
 /// Flag 4: the node was the result of a finished frame.
@@ -94,11 +96,11 @@ impl Kind {
         }
     }
 
-    /// Whether the payload is one that 01 lists for this kind.
+    /// Whether the payload is one that 01 lists for this kind; a NaN is none (02 b).
     pub fn takes_payload(self, payload: u64) -> bool {
         match self {
             Kind::Variable | Kind::Function => payload <= u64::from(u32::MAX),
-            Kind::Constant => true,
+            Kind::Constant => !is_not_a_number(payload),
             Kind::Operator(_) => payload == 0,
             Kind::Control => Control::from_number(payload).is_some(),
         }

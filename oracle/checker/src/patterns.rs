@@ -1,6 +1,6 @@
 //! Identities, then folding, then merging (01, "patterns").
 
-use crate::arithmetic::{NOT_A_NUMBER, fold};
+use crate::arithmetic::{Folded, fold};
 use crate::node::{Kind, Node, Operator};
 use crate::refusal::Refusal;
 use crate::store::Store;
@@ -74,16 +74,17 @@ fn identity(store: &Store, operator: Operator, left: u32, right: u32) -> Option<
 
 fn folded(store: &mut Store, operator: Operator, left: f64, right: f64) -> Result<Option<u32>, Refusal> {
     store.noticed.power_of_constants |= operator == Operator::Pow;
-    match fold(operator, left, right) {
-        Some(bits) => noticed_constant(store, bits).map(Some),
-        None => Ok(None),
-    }
+    folded_constant(store, operator, left, right)
 }
 
-/// Interns a folded or merged constant, and notices a NaN.
-fn noticed_constant(store: &mut Store, bits: u64) -> Result<u32, Refusal> {
-    store.noticed.not_a_number |= bits == NOT_A_NUMBER;
-    store.constant(bits)
+/// Interns a folded or merged constant, or notices that it would be a NaN.
+fn folded_constant(store: &mut Store, operator: Operator, left: f64, right: f64) -> Result<Option<u32>, Refusal> {
+    let folded = fold(operator, left, right);
+    store.noticed.not_a_number |= folded == Folded::NotANumber;
+    match folded {
+        Folded::Bits(bits) => store.constant(bits).map(Some),
+        Folded::NotANumber | Folded::Never => Ok(None),
+    }
 }
 
 /// Two operands of which one is a constant.
@@ -115,8 +116,7 @@ fn merge_product(store: &mut Store, left: &Node, right: &Node) -> Result<Option<
         (None, None) => return Ok(None),
     };
     let Some(inner) = operands_with_constant(store, product, Operator::Mul) else { return Ok(None) };
-    let Some(bits) = fold(Operator::Mul, inner.constant, factor) else { return Ok(None) };
-    let merged = noticed_constant(store, bits)?;
+    let Some(merged) = folded_constant(store, Operator::Mul, inner.constant, factor)? else { return Ok(None) };
     if inner.constant_first { store.mul(merged, inner.other) } else { store.mul(inner.other, merged) }.map(Some)
 }
 
@@ -124,7 +124,6 @@ fn merge_product(store: &mut Store, left: &Node, right: &Node) -> Result<Option<
 fn merge_sum(store: &mut Store, left: &Node, right: &Node) -> Result<Option<u32>, Refusal> {
     let Some(summand) = right.constant_value() else { return Ok(None) };
     let Some(inner) = operands_with_constant(store, left, Operator::Add) else { return Ok(None) };
-    let Some(bits) = fold(Operator::Add, inner.constant, summand) else { return Ok(None) };
-    let merged = noticed_constant(store, bits)?;
+    let Some(merged) = folded_constant(store, Operator::Add, inner.constant, summand)? else { return Ok(None) };
     store.add(inner.other, merged).map(Some)
 }

@@ -1,6 +1,7 @@
 //! The records of a sheet and what refuses each by itself (01, "sheets and
-//! the listing", refusals 2, 5, 6, 4 and 7 in this order).
+//! the listing", refusals 2, 5, 10, 6, 4 and 7 in this order).
 
+use crate::arithmetic::is_not_a_number;
 use crate::node::{Control, Kind, Operator};
 use crate::refusal::Refusal;
 
@@ -86,11 +87,12 @@ fn prune_record(fields: &[u8]) -> Result<Record, Refusal> {
     Ok(Record::Prune { operand, threshold: f64::from_be_bytes(threshold) })
 }
 
-/// Refusals 5 (flags), 6, 4 and 7 of a record that is laid out rightly.
+/// Refusals 5 (flags), 10, 6, 4 and 7 of a record that is laid out rightly.
 fn check(record: &Record, index: usize) -> Result<(), Refusal> {
     let earlier = |operand: &u16| usize::from(*operand) < index;
     match record {
-        Record::Variable { .. } | Record::Constant { .. } => Ok(()),
+        Record::Variable { .. } => Ok(()),
+        Record::Constant { bits } => check_constant(*bits),
         Record::Operator { operator, flags, operands } => {
             check_flags(*flags)?;
             check_child_count(Kind::Operator(*operator), 0, operands.len())?;
@@ -115,6 +117,11 @@ fn check(record: &Record, index: usize) -> Result<(), Refusal> {
 /// Refusal 5 for flags.
 pub fn check_flags(flags: u8) -> Result<(), Refusal> {
     if flags <= FLAGS_MAXIMUM { Ok(()) } else { Err(Refusal::Value) }
+}
+
+/// Refusal 10.
+pub fn check_constant(bits: u64) -> Result<(), Refusal> {
+    if is_not_a_number(bits) { Err(Refusal::NotANumber) } else { Ok(()) }
 }
 
 /// Refusal 6.

@@ -1,5 +1,5 @@
 //! Refusal numbers (01, "Refusals from the input", "Refusals from the state";
-//! 10 to 14 are those of texts, 02).
+//! 02: 10 is a constant's and a text's, 11 to 14 are those of texts).
 
 #[derive(Clone, Copy, Debug, PartialEq, Eq, PartialOrd, Ord)]
 #[repr(u8)]

@@ -16,7 +16,7 @@ pub const fn table_holds(table_size: usize) -> usize {
 /// What happened that puts a run outside 01's domain of comparison.
 #[derive(Clone, Copy, Debug, Default, PartialEq, Eq)]
 pub struct Noticed {
-    /// A fold or merge gave a NaN.
+    /// A fold or merge was declined, since it would give a NaN.
     pub not_a_number: bool,
     /// A Pow of two constants got past the identities.
     pub power_of_constants: bool,

@@ -85,6 +85,23 @@ fn every_changed_slot_is_noticed() {
     assert!(sound(&changed));
 }
 
+/// The slots of 30 variables in a table of 64, exchanged by two: each pair of
+/// neighbours in use makes another order, so that some are sound by 01 alone.
+#[test]
+fn every_other_order_is_noticed() {
+    let mut store = lent(40, 64);
+    for symbol in 0..30 {
+        call(&mut store, &variable(symbol)).unwrap();
+    }
+    let used: Vec<usize> = (0..63).filter(|&at| store.slots[at] != 0 && store.slots[at + 1] != 0).collect();
+    assert!(used.len() > 5);
+    for at in used {
+        let mut changed = store.clone();
+        changed.slots.swap(at, at + 1);
+        assert!(!sound(&changed), "slots {at} and {}", at + 1);
+    }
+}
+
 #[test]
 fn counts_and_sizes() {
     for (count, size, is_sound) in [

@@ -236,7 +236,10 @@ impl Memory {
             "fresh" => return self.fresh(),
             "list" => return self.list(numbers()[0], numbers()[1]),
             "word" => return format!(" {}", self.words[places()[0]]),
-            "slot" => return format!(" {}", self.slots[places()[0]]),
+            "slot" => {
+                let [from, end, _] = places();
+                return self.slots[from..end.max(from + 1)].iter().map(|slot| format!(" {slot}")).collect();
+            }
             "repeat" => self.turns = numbers()[0],
             "lend" => self.lent = places(),
             "counts" => self.counts = numbers(),

@@ -4,7 +4,9 @@ use crate::sheet::{ADD, DIV, MUL, NEG, POW, SUB, Sheet};
 
 const BUDGET: u32 = 100;
 const DEPTH_LIMIT: u8 = 255;
-const NOT_A_NUMBER: u64 = 0x7FF0_0000_0000_00AB;
+/// NaNs: quiet and signalling, of either sign.
+const NOT_NUMBERS: [u64; 4] =
+    [0x7FF8_0000_0000_0000, 0x7FF0_0000_0000_00AB, 0xFFF8_0000_0000_0000, 0xFFF0_0000_0000_0001];
 
 /// All examples, the printed listing first.
 pub fn examples() -> Vec<Vec<u8>> {
@@ -12,6 +14,8 @@ pub fn examples() -> Vec<Vec<u8>> {
     sheets.extend(built());
     sheets.extend(rewritten());
     sheets.extend(folded());
+    sheets.extend(merged());
+    sheets.extend(not_numbers());
     sheets.extend(pruned());
     sheets.iter().map(Sheet::bytes).collect()
 }
@@ -118,7 +122,7 @@ fn variable_plus_one(sheet: &mut Sheet) -> u16 {
 
 /// Every operator over pairs of special constants: identities before folds.
 fn folded() -> Vec<Sheet> {
-    let special = [0.0, -0.0, 1.0, -1.0, 5.0, f64::INFINITY, f64::NEG_INFINITY, f64::from_bits(NOT_A_NUMBER)];
+    let special = [0.0, -0.0, 1.0, -1.0, 5.0, f64::INFINITY, f64::NEG_INFINITY];
     let mut sheets = Vec::new();
     for operator in [ADD, SUB, MUL, DIV, POW] {
         for left in special {
@@ -133,6 +137,41 @@ fn folded() -> Vec<Sheet> {
         }
     }
     sheets
+}
+
+/// Merges that would give a NaN (02 b): the formula stays.
+fn merged() -> Vec<Sheet> {
+    let mut sheets = Vec::new();
+    for (operator, first, second) in [(MUL, f64::INFINITY, 0.0), (MUL, 0.0, f64::NEG_INFINITY), (ADD, f64::INFINITY, f64::NEG_INFINITY)] {
+        for inner_first in [true, false] {
+            for outer_first in [true, false] {
+                let of_constants = |sheet: &mut Sheet| {
+                    let variable = sheet.variable(0);
+                    let inner = sheet.constant(first);
+                    let outer = sheet.constant(second);
+                    let (left, right) = if inner_first { (inner, variable) } else { (variable, inner) };
+                    let pair = sheet.constructed(operator, left, right);
+                    let (left, right) = if outer_first { (outer, pair) } else { (pair, outer) };
+                    sheet.constructed(operator, left, right)
+                };
+                sheets.push(simplified(of_constants, 1));
+            }
+        }
+    }
+    sheets
+}
+
+/// A variable, and a constant whose bits are a NaN (02 b, refusal 10).
+fn not_numbers() -> Vec<Sheet> {
+    NOT_NUMBERS
+        .map(|bits| {
+            let mut sheet = Sheet::default();
+            let variable = sheet.variable(7);
+            let constant = sheet.constant_bits(bits);
+            sheet.constructed(ADD, variable, constant);
+            sheet
+        })
+        .into()
 }
 
 /// The pruning examples: two of three kept, none kept, a root that is no Add,

@@ -10,7 +10,7 @@ use crate::{budgets, damage, exhaustive, limits, shapes};
 pub enum Mode {
     /// Inside 01's domain.
     Domain,
-    /// Well formed, also with short budgets, NaNs and Pows of constants.
+    /// Well formed but for NaNs, also with short budgets, declined folds and Pows of constants.
     Any,
     /// All sheets of a small family, by number.
     Exhaustive,

@@ -15,10 +15,10 @@ pub fn damage(random: &mut Random, lists: &mut TextLists) {
     }
 }
 
-/// Changes a word, a slot or a count.
+/// Changes a word, a slot, the order of two slots or a count.
 fn damage_store(random: &mut Random, store: &mut LentStore) {
     let used = (store.node_count as usize).saturating_mul(WORDS_PER_NODE);
-    match random.below(8) {
+    match random.below(9) {
         0 => {
             store.node_count =
                 random.pick(&[0, store.node_count.wrapping_add(1), store.node_count.wrapping_sub(1), u64::MAX])
@@ -29,12 +29,24 @@ fn damage_store(random: &mut Random, store: &mut LentStore) {
             store.slots[at] =
                 random.pick(&[0, 1, 2, store.node_count as u32, (store.node_count as u32).wrapping_add(1), u32::MAX]);
         }
+        4 => exchange_neighbours(random, store),
         _ if used > 0 && used <= store.words.len() => {
             let at = random.below(used);
             let old = store.words[at];
             store.words[at] = random.pick(&[0, 1, 2, 4, old ^ 1, old ^ 4, old.wrapping_add(1), u64::MAX, 1 << 32]);
         }
         _ => {}
+    }
+}
+
+/// Exchanges a slot in use and the next one in use: of colliding ids both
+/// are still met, in another order.
+fn exchange_neighbours(random: &mut Random, store: &mut LentStore) {
+    let size = store.slots.len().min(store.table_size as usize);
+    let used: Vec<usize> = (0..size).filter(|&at| store.slots[at] != 0).collect();
+    if used.len() >= 2 {
+        let first = random.below(used.len() - 1);
+        store.slots.swap(used[first], used[first + 1]);
     }
 }
 

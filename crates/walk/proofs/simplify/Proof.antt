@@ -18,7 +18,7 @@ same-length-2 : tie.Need-same-length-2
 same-length-2 c = search needs
 
 returns : tie.Need-returns
-returns c = C.refusing _ _ _ _ (c .refuse .ensures) (C.unsound _ _ _ _ (c .before .before .audit .ensures .no (not-true _ (c .before .if1 .taken))))
+returns c = C.refusing _ _ _ _ (c .refuse .ensures) (C.unsound (c .before .before .before .before .before .before .before .args .mode) _ _ _ _ (c .before .before .audit .ensures .no (not-true _ (c .before .if1 .taken))))
 
 simplify-sound-requires : tie.Need-simplify-sound-requires
 simplify-sound-requires c κs = c .before .before .before .audit .ensures .yes (not-false _ (c .before .before .if1 .left))

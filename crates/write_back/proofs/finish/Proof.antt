@@ -34,7 +34,7 @@ same-length-3 : tie.Need-same-length-3
 same-length-3 c = search needs
 
 returns : tie.Need-returns
-returns c = prune-written _ _ _ _ _ _ (c .before .before .before .before .before .before .before .before .before .before .before .before .before .before .before .before .before .before .prune .ensures) _ _ _ _ (c .before .before .before .before .before .before .before .before .before .before .before .answer .given .1) (c .before .before .before .before .before .before .before .id-of .ensures) _ _ (c .before .written .given .1) (c .before .before .before .before .before .write .ensures)
+returns c = prune-written _ _ _ _ _ _ _ (c .before .before .before .before .before .before .before .before .before .before .before .before .before .before .before .before .before .before .prune .ensures) _ _ _ _ (c .before .before .before .before .before .before .before .before .before .before .before .answer .given .1) (c .before .before .before .before .before .before .before .id-of .ensures) _ _ (c .before .written .given .1) (c .before .before .before .before .before .write .ensures)
 
 same-length-4 : tie.Need-same-length-4
 same-length-4 c = search needs
@@ -46,7 +46,7 @@ same-length-6 : tie.Need-same-length-6
 same-length-6 c = search needs
 
 returns-2 : tie.Need-returns-2
-returns-2 c = prune-written _ _ _ _ _ _ (c .before .before .before .before .before .before .before .before .before .before .before .before .before .before .before .before .before .before .prune .ensures) _ _ _ _ (c .before .before .before .before .before .before .before .before .before .before .before .answer .given .1) (c .before .before .before .before .before .before .before .id-of .ensures) _ _ (c .before .written2 .given .1) (c .before .before .before .before .before .write .ensures)
+returns-2 c = prune-written _ _ _ _ _ _ _ (c .before .before .before .before .before .before .before .before .before .before .before .before .before .before .before .before .before .before .prune .ensures) _ _ _ _ (c .before .before .before .before .before .before .before .before .before .before .before .answer .given .1) (c .before .before .before .before .before .before .before .id-of .ensures) _ _ (c .before .written2 .given .1) (c .before .before .before .before .before .write .ensures)
 
 same-length-7 : tie.Need-same-length-7
 same-length-7 c = search needs
@@ -55,7 +55,7 @@ same-length-8 : tie.Need-same-length-8
 same-length-8 c = search needs
 
 returns-3 : tie.Need-returns-3
-returns-3 c = prune-refused _ _ _ _ _ _ (c .before .before .before .before .before .before .before .before .prune .ensures) _ (c .before .answer2 .given .1)
+returns-3 c = prune-refused _ _ _ _ _ _ _ (c .before .before .before .before .before .before .before .before .prune .ensures) _ (c .before .answer2 .given .1)
 
 pub finish-spec : {M : Type 1} → statement M
 finish-spec =

@@ -35,7 +35,7 @@ same-length-3 : tie.Need-same-length-3
 same-length-3 c = search needs
 
 returns : tie.Need-returns
-returns c = walk-ended _ _ _ _ _ (c .before .before .before .before .before .before .before .before .before .before .before .before .before .before .before .before .before .before .before .id-of .ensures) _ (c .before .before .before .before .before .before .before .before .before .before .before .before .before .before .before .before .before .before .simplify .ensures) _ _ _ _ (c .before .before .before .before .before .before .before .before .before .before .before .answer .given .1) refl (c .before .before .before .before .before .before .finish .ensures)
+returns c = walk-ended _ _ _ _ _ (c .before .before .before .before .before .before .before .before .before .before .before .before .before .before .before .before .before .before .before .before .before .id-of .ensures) _ (c .before .before .before .before .before .before .before .before .before .before .before .before .before .before .before .before .before .before .simplify .ensures) _ _ _ _ _ (c .before .before .before .before .before .before .before .before .before .before .before .answer .given .1) refl refl (c .before .before .before .before .before .before .finish .ensures)
 
 same-length-4 : tie.Need-same-length-4
 same-length-4 c = search needs
@@ -47,7 +47,7 @@ same-length-6 : tie.Need-same-length-6
 same-length-6 c = search needs
 
 returns-2 : tie.Need-returns-2
-returns-2 c = walk-ended _ _ _ _ _ (c .before .before .before .before .before .before .before .before .before .before .before .before .before .before .before .before .before .before .before .id-of .ensures) _ (c .before .before .before .before .before .before .before .before .before .before .before .before .before .before .before .before .before .before .simplify .ensures) _ _ _ _ (c .before .before .before .before .before .before .before .before .before .before .before .answer2 .given .1) refl (c .before .before .before .before .before .before .finish2 .ensures)
+returns-2 c = walk-ended _ _ _ _ _ (c .before .before .before .before .before .before .before .before .before .before .before .before .before .before .before .before .before .before .before .before .before .id-of .ensures) _ (c .before .before .before .before .before .before .before .before .before .before .before .before .before .before .before .before .before .before .simplify .ensures) _ _ _ _ _ (c .before .before .before .before .before .before .before .before .before .before .before .answer2 .given .1) refl refl (c .before .before .before .before .before .before .finish2 .ensures)
 
 same-length-7 : tie.Need-same-length-7
 same-length-7 c = search needs
@@ -56,7 +56,7 @@ same-length-8 : tie.Need-same-length-8
 same-length-8 c = search needs
 
 returns-3 : tie.Need-returns-3
-returns-3 c = walk-refused _ _ _ _ _ (c .before .before .before .before .before .before .before .before .before .id-of .ensures) _ (c .before .before .before .before .before .before .before .before .simplify .ensures) _ (c .before .answer3 .given .1)
+returns-3 c = walk-refused _ _ _ _ _ (c .before .before .before .before .before .before .before .before .before .before .before .id-of .ensures) _ (c .before .before .before .before .before .before .before .before .simplify .ensures) _ (c .before .answer3 .given .1)
 
 pub simplify-spec : {M : Type 1} → statement M
 simplify-spec =

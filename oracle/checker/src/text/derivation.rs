@@ -2,7 +2,7 @@
 
 use std::rc::Rc;
 
-use super::is_not_a_number;
+use crate::arithmetic::is_not_a_number;
 use crate::names::LentNames;
 use crate::node::Operator;
 use crate::refusal::Refusal;

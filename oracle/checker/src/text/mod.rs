@@ -36,7 +36,3 @@ const WHOLE_DIGITS_MAXIMUM: usize = 9;
 fn check_length(text: &[u8]) -> Result<(), Refusal> {
     if text.is_empty() || text.len() > TEXT_BYTES_MAXIMUM { Err(Refusal::Sheet) } else { Ok(()) }
 }
-
-fn is_not_a_number(bits: u64) -> bool {
-    f64::from_bits(bits).is_nan()
-}

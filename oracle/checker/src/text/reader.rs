@@ -2,7 +2,8 @@
 //! no nesting of a text nests calls here.
 
 use super::token::{Token, tokens};
-use super::{NESTING_MAXIMUM, check_length, is_not_a_number};
+use super::{NESTING_MAXIMUM, check_length};
+use crate::arithmetic::is_not_a_number;
 use crate::node::Operator;
 use crate::refusal::Refusal;
 

@@ -3,7 +3,8 @@
 
 use super::call::{TextLists, check_sound};
 use super::reader::steps_of;
-use super::{BITS_SIGN, TEXT_BYTES_MAXIMUM, is_not_a_number};
+use super::{BITS_SIGN, TEXT_BYTES_MAXIMUM};
+use crate::arithmetic::is_not_a_number;
 use crate::names::LentNames;
 use crate::node::{CANONICAL, COMMUTATIVE_ASSOCIATIVE, Kind, Node, Operator};
 use crate::refusal::Refusal;

@@ -5,7 +5,7 @@ use Rattle.arena.specs.Nodes.{WellFormed}
 use Rattle.arena.proofs.Listing.{listed-few}
 use Rattle.store.proofs.NewNodes.{new-formed}
 use Rattle.store.proofs.Decoding.{interns-in}
-use Rattle.builder.proofs.Requesting.{refuse-code, refuse-count, refuse-operand, fits, interned}
+use Rattle.builder.proofs.Requesting.{refuse-code, refuse-nan, refuse-count, refuse-operand, fits, interned}
 use borrow.Author.Needs.{needs}
 use Rattle.builder.proofs.building.build_sound.Statement.{statement}
 use Rattle.builder.proofs.building.build_sound.Tie as tie
@@ -13,20 +13,40 @@ use Rattle.builder.proofs.building.build_sound.Tie as tie
 returns : tie.Need-returns
 returns c = refuse-code _ _ _ _ _ _ _ _ (c .before .before .before .before .pre .0) (c .before .before .before .before .pre .1) (not-true _ (c .if1 .taken))
 
+is-nan-constant-requires : tie.Need-is-nan-constant-requires
+is-nan-constant-requires c κs = search needs
+
+returns-2 : tie.Need-returns-2
+returns-2 c =
+    let code = c .before .before in
+    let s = code .before .before .before .before in
+    refuse-nan _ _ _ _ _ _ _ _ (s .pre .0) (s .pre .1) (not-false _ (code .if1 .left)) _ (c .before .is-nan-constant .ensures) (c .if2 .taken)
+
 is-listed-requires : tie.Need-is-listed-requires
 is-listed-requires c κs = search needs
 
-returns-2 : tie.Need-returns-2
-returns-2 c = refuse-count _ _ _ _ _ _ _ _ (c .before .before .before .before .before .before .pre .0) (c .before .before .before .before .before .before .pre .1) (not-false _ (c .before .before .if1 .left)) _ (c .before .is-listed .ensures) (not-true _ (c .if2 .taken))
+returns-3 : tie.Need-returns-3
+returns-3 c =
+    let number = c .before .before in
+    let code = number .before .before in
+    let s = code .before .before .before .before in
+    refuse-count _ _ _ _ _ _ _ _ (s .pre .0) (s .pre .1) (not-false _ (code .if1 .left)) (sym (number .before .is-nan-constant .ensures) ∙ number .if2 .left)
+    _ (c .before .is-listed .ensures) (not-true _ (c .if3 .taken))
 
 all-below-requires : tie.Need-all-below-requires
 all-below-requires c κs = search needs
 
-returns-3 : tie.Need-returns-3
-returns-3 c = refuse-operand _ _ _ _ _ _ _ _ (c .before .before .before .before .before .before .before .before .pre .0) (c .before .before .before .before .before .before .before .before .pre .1) (not-false _ (c .before .before .before .before .if1 .left)) (sym (c .before .before .before .is-listed .ensures) ∙ not-false _ (c .before .before .if2 .left)) _ (c .before .all-below .ensures) (not-true _ (c .if3 .taken))
+returns-4 : tie.Need-returns-4
+returns-4 c =
+    let counted = c .before .before in
+    let number = counted .before .before in
+    let code = number .before .before in
+    let s = code .before .before .before .before in
+    refuse-operand _ _ _ _ _ _ _ _ (s .pre .0) (s .pre .1) (not-false _ (code .if1 .left)) (sym (number .before .is-nan-constant .ensures) ∙ number .if2 .left)
+    (sym (counted .before .is-listed .ensures) ∙ not-false _ (counted .if3 .left)) _ (c .before .all-below .ensures) (not-true _ (c .if4 .taken))
 
 child-places-requires : tie.Need-child-places-requires
-child-places-requires c κs = listed-few _ _ _ (sym (c .before .before .before .is-listed .ensures) ∙ not-false _ (c .before .before .if2 .left))
+child-places-requires c κs = let counted = c .before .before in listed-few _ _ _ (sym (counted .before .is-listed .ensures) ∙ not-false _ (counted .if3 .left))
 
 new-requires : tie.Need-new-requires
 new-requires c κs = search needs
@@ -34,9 +54,15 @@ new-requires c κs = search needs
 intern-number-requires : tie.Need-intern-number-requires
 intern-number-requires c κs =
     let n = c .before .before .before .before in
-    let e = n .before .before in
-    let s = e .before .before .before .before .before .before .before .before in
-    (subst (WellFormed _) (sym (n .new .ensures)) (new-formed _ _ _ _ _ _ (fits _ _ _ _ _ _ _ _ (s .pre .0) (s .pre .1) (not-false _ (e .before .before .before .before .if1 .left)) (sym (e .before .before .before .is-listed .ensures) ∙ not-false _ (e .before .before .if2 .left)) (sym (e .before .all-below .ensures) ∙ not-false _ (e .if3 .left)) _ (n .before .child-places .ensures))), s .pre .1)
+    let below = n .before .before in
+    let counted = below .before .before in
+    let number = counted .before .before in
+    let code = number .before .before in
+    let s = code .before .before .before .before in (
+      subst (WellFormed _) (sym (n .new .ensures)) (new-formed _ _ _ _ _ _ (fits _ _ _ _ _ _ _ _ (s .pre .0) (s .pre .1) (not-false _ (code .if1 .left)) (sym (number .before .is-nan-constant .ensures) ∙ number .if2 .left)
+          (sym (counted .before .is-listed .ensures) ∙ not-false _ (counted .if3 .left)) (sym (below .before .all-below .ensures) ∙ not-false _ (below .if4 .left)) _ (n .before .child-places .ensures))),
+      s .pre .1,
+    )
 
 answer-in-requires : tie.Need-answer-in-requires
 answer-in-requires c κs = search needs
@@ -47,27 +73,34 @@ same-length c = search needs
 same-length-2 : tie.Need-same-length-2
 same-length-2 c = search needs
 
-returns-4 : tie.Need-returns-4
-returns-4 c =
+returns-5 : tie.Need-returns-5
+returns-5 c =
     let n = c .before .before .before .before .before .before .before .before .before .before in
-    let e = n .before .before in
-    let s = e .before .before .before .before .before .before .before .before in
+    let below = n .before .before in
+    let counted = below .before .before in
+    let number = counted .before .before in
+    let code = number .before .before in
+    let s = code .before .before .before .before in
     rw (c .answer-in .ensures)
-    (interned _ _ _ _ _ _ _ _ (s .pre .0) (s .pre .1) (not-false _ (e .before .before .before .before .if1 .left)) (sym (e .before .before .before .is-listed .ensures) ∙ not-false _ (e .before .before .if2 .left)) (sym (e .before .all-below .ensures) ∙ not-false _ (e .if3 .left)) _ (n .before .child-places .ensures) _ (n .new .ensures) _ _ _ (interns-in _ _ _ _ _ _ _ _ (c .before .before .before .before .before .intern-number .ensures)))
+    (interned _ _ _ _ _ _ _ _ (s .pre .0) (s .pre .1) (not-false _ (code .if1 .left)) (sym (number .before .is-nan-constant .ensures) ∙ number .if2 .left)
+    (sym (counted .before .is-listed .ensures) ∙ not-false _ (counted .if3 .left)) (sym (below .before .all-below .ensures) ∙ not-false _ (below .if4 .left)) _ (n .before .child-places .ensures) _ (n .new .ensures) _ _ _
+    (interns-in _ _ _ _ _ _ _ _ (c .before .before .before .before .before .intern-number .ensures)))
 
 pub build-sound-spec : {M : Type 1} → statement M
 build-sound-spec =
     tie.close
     (tie.spec
     returns
-    is-listed-requires
+    is-nan-constant-requires
     returns-2
-    all-below-requires
+    is-listed-requires
     returns-3
+    all-below-requires
+    returns-4
     child-places-requires
     new-requires
     intern-number-requires
     answer-in-requires
     same-length
     same-length-2
-    returns-4)
+    returns-5)

@@ -1,7 +1,7 @@
 use mathlib.Core.Path.{refl, sym, ap}
 use mathlib.Core.Option.{some}
 use Rattle.definitions.specs.Controller.{simplifying, pruning}
-use Rattle.calls.specs.Encoding.{callOfCode}
+use Rattle.encoding.specs.Encoding.{callOfCode}
 use Rattle.calls.proofs.CodeCalls.{runs, last-rewriting}
 use borrow.Author.Needs.{needs}
 use Rattle.calls.proofs.calling.call_rewriting.Statement.{statement}

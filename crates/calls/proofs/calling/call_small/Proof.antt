@@ -2,7 +2,7 @@ use mathlib.Core.Path.{refl, sym, ap}
 use mathlib.Core.Option.{some}
 use Rattle.definitions.specs.Machine as M
 use Rattle.definitions.specs.Controller.{building}
-use Rattle.calls.specs.Encoding.{callOfCode}
+use Rattle.encoding.specs.Encoding.{callOfCode}
 use Rattle.calls.proofs.CodeCalls.{runs, last-small}
 use borrow.Author.Needs.{needs}
 use Rattle.calls.proofs.calling.call_small.Statement.{statement}

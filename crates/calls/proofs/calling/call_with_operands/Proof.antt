@@ -1,6 +1,6 @@
 use mathlib.Core.Path.{refl}
 use native.Mathlib.Omega.{arith}
-use Rattle.calls.specs.Encoding.{callOfCode}
+use Rattle.encoding.specs.Encoding.{callOfCode}
 use Rattle.calls.proofs.CodeCalls.{runs}
 use borrow.Author.Needs.{needs}
 use Rattle.calls.proofs.calling.call_with_operands.Statement.{statement}

@@ -2,7 +2,7 @@ use mathlib.Core.Path.{refl}
 use lib.ListN.{length-take, replicate}
 use native.Mathlib.Omega.{arith}
 use Rattle.definitions.specs.Names.{longestName}
-use Rattle.calls.specs.Encoding.{callOfCode}
+use Rattle.encoding.specs.Encoding.{callOfCode}
 use Rattle.calls.proofs.CodeCalls.{runs-names, last-naming}
 use Rattle.calls.proofs.SpelledNames.{interns-spelled, looks-up-spelled, interned-beside, looked-up-beside}
 use borrow.Author.Needs.{needs}
@@ -19,14 +19,14 @@ returns : tie.Need-returns
 unfolding callOfCode
 returns c = runs-names _ 20 _ _ _ _ _ _ _ (c .before .before .before .if1 .taken) (c .before .name .ensures .called) (c .before .name .ensures .beside, c .before .name .ensures .fits) (λ b high low. refl)
 
-spell-requires : tie.Need-spell-requires
-spell-requires c κs = search needs
+spell-name-requires : tie.Need-spell-name-requires
+spell-name-requires c κs = search needs
 
 array-share-prefix-bytes : tie.Need-array-share-prefix-bytes
 array-share-prefix-bytes c = search needs
 
 slice-aggregate-intern : tie.Need-slice-aggregate-intern
-slice-aggregate-intern c = let w = c .before .before .before .before .spell .ensures in let few = w .few in let size = w .size in simp length-take (omega arith)
+slice-aggregate-intern c = let w = c .before .before .before .before .spell-name .ensures in let few = w .few in let size = w .size in simp length-take (omega arith)
 
 intern-requires : tie.Need-intern-requires
 intern-requires c κs = search needs
@@ -36,13 +36,13 @@ same-length-2 c = search needs
 
 returns-2 : tie.Need-returns-2
 unfolding callOfCode
-returns-2 c = runs-names _ 18 _ _ _ _ _ _ _ (c .before .before .before .before .before .if2 .taken) (interns-spelled _ _ (c .before .before .before .before .before .before .before .before .before .before .before .args .operands .now) _ (c .before .before .intern .result .answer) (replicate longestName 0) _ _ (c .before .before .before .before .before .before .before .spell .ensures .is) (c .before .before .intern .ensures)) (interned-beside _ _ _ (c .before .before .intern .result .answer) _ _ (c .before .before .intern .ensures)) (λ b high low. refl)
+returns-2 c = runs-names _ 18 _ _ _ _ _ _ _ (c .before .before .before .before .before .if2 .taken) (interns-spelled _ _ (c .before .before .before .before .before .before .before .before .before .before .before .args .operands .now) _ (c .before .before .intern .result .answer) (replicate longestName 0) _ _ (c .before .before .before .before .before .before .before .spell-name .ensures .is) (c .before .before .intern .ensures)) (interned-beside _ _ _ (c .before .before .intern .result .answer) _ _ (c .before .before .intern .ensures)) (λ b high low. refl)
 
 array-share-prefix-bytes-2 : tie.Need-array-share-prefix-bytes-2
 array-share-prefix-bytes-2 c = search needs
 
 slice-aggregate-lookup : tie.Need-slice-aggregate-lookup
-slice-aggregate-lookup c = let w = c .before .before .before .before .spell .ensures in let few = w .few in let size = w .size in simp length-take (omega arith)
+slice-aggregate-lookup c = let w = c .before .before .before .before .spell-name .ensures in let few = w .few in let size = w .size in simp length-take (omega arith)
 
 lookup-requires : tie.Need-lookup-requires
 lookup-requires c κs = search needs
@@ -52,7 +52,7 @@ same-length-3 c = search needs
 
 returns-3 : tie.Need-returns-3
 unfolding callOfCode
-returns-3 c = runs-names _ 19 _ _ _ _ _ _ _ (last-naming _ (c .before .before .before .before .before .before .before .before .before .pre .0) (c .before .before .before .before .before .before .before .before .before .pre .1) (c .before .before .before .before .before .before .if1 .left) (c .before .before .before .if2 .left)) (looks-up-spelled _ _ (c .before .before .before .before .before .before .before .before .before .args .operands .now) _ (c .lookup .result) (replicate longestName 0) _ _ (c .before .before .before .before .before .spell .ensures .is) (c .lookup .ensures)) (looked-up-beside _ _ _ (c .lookup .result) _ _ (c .lookup .ensures)) (λ b high low. refl)
+returns-3 c = runs-names _ 19 _ _ _ _ _ _ _ (last-naming _ (c .before .before .before .before .before .before .before .before .before .pre .0) (c .before .before .before .before .before .before .before .before .before .pre .1) (c .before .before .before .before .before .before .if1 .left) (c .before .before .before .if2 .left)) (looks-up-spelled _ _ (c .before .before .before .before .before .before .before .before .before .args .operands .now) _ (c .lookup .result) (replicate longestName 0) _ _ (c .before .before .before .before .before .spell-name .ensures .is) (c .lookup .ensures)) (looked-up-beside _ _ _ (c .lookup .result) _ _ (c .lookup .ensures)) (λ b high low. refl)
 
 pub call-names-spec : {M : Type 1} → statement M
 call-names-spec =
@@ -61,7 +61,7 @@ call-names-spec =
     name-requires
     same-length
     returns
-    spell-requires
+    spell-name-requires
     array-share-prefix-bytes
     slice-aggregate-intern
     intern-requires

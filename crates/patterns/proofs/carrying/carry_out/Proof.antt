@@ -10,19 +10,19 @@ enum-known-replacement-2 : tie.Need-enum-known-replacement-2
 enum-known-replacement-2 c = search needs
 
 intern-constant-requires : tie.Need-intern-constant-requires
-intern-constant-requires c κs = search needs
+intern-constant-requires c κs = (Carries.known-low _ (c .before .before .before .replacement2 .given .1) (c .before .before .before .before .before .before .before .pre .0), c .before .before .before .before .before .before .before .pre .1)
 
 enum-known-replacement-3 : tie.Need-enum-known-replacement-3
 enum-known-replacement-3 c = search needs
 
 beside-constant-requires : tie.Need-beside-constant-requires
-beside-constant-requires c κs = (Carries.known-low _ (c .before .before .before .replacement3 .given .1) (c .before .before .before .before .before .before .before .pre .0), c .before .before .before .before .before .before .before .pre .1)
+beside-constant-requires c κs = let low = Carries.known-low _ (c .before .before .before .replacement3 .given .1) (c .before .before .before .before .before .before .before .pre .0) in (low .0, low .1, c .before .before .before .before .before .before .before .pre .1)
 
 enum-known-replacement-4 : tie.Need-enum-known-replacement-4
 enum-known-replacement-4 c = search needs
 
 beside-constant-requires-2 : tie.Need-beside-constant-requires-2
-beside-constant-requires-2 c κs = (Carries.known-low _ (c .before .before .before .replacement4 .given .1) (c .before .before .before .before .before .before .before .pre .0), c .before .before .before .before .before .before .before .pre .1)
+beside-constant-requires-2 c κs = let low = Carries.known-low _ (c .before .before .before .replacement4 .given .1) (c .before .before .before .before .before .before .before .pre .0) in (low .0, low .1, c .before .before .before .before .before .before .before .pre .1)
 
 returns : tie.Need-returns
 returns c = Carries.carries (c .before .replacement .given .1) (Carries.builds-id _ (c .before .before .before .before .before .pre .1) (Carries.known-low _ (c .before .replacement .given .1) (c .before .before .before .before .before .pre .0)))

@@ -4,7 +4,7 @@ use Rattle.patterns.proofs.carrying.intern_constant.Statement.{statemen
 use Rattle.patterns.proofs.carrying.intern_constant.Tie as tie
 
 intern-requires : tie.Need-intern-requires
-intern-requires c κs = (constant-fits _ _, (c .before .before .before .before .pre))
+intern-requires c κs = let ready = c .before .before .before .before .pre in (constant-fits _ _ (ready .0), ready .1)
 
 same-length : tie.Need-same-length
 same-length c = search needs

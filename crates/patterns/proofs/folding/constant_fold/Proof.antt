@@ -39,7 +39,7 @@ enum-told-3 : tie.Need-enum-told-3
 enum-told-3 c = search needs
 
 returns-3 : tie.Need-returns-3
-returns-3 c = Folds.folds (c .before .before .before .before .before .before .before .before .before .before .before .before .before .pre) _ (Values.known (c .before .before .before .before .before .before .before .before .before .x .given .1) (c .before .before .before .before .before .before .before .before .before .before .before .constant-value .ensures)) (Values.known (c .before .before .before .before .before .y .given .1) (c .before .before .before .before .before .before .before .constant-value2 .ensures)) _ (sym (c .before .folded .given .1) ∙ c .before .before .before .fold .ensures .is)
+returns-3 c = Folds.folds (c .before .before .before .before .before .before .before .before .before .before .before .before .before .pre) _ (Values.known (c .before .before .before .before .before .before .before .before .before .x .given .1) (c .before .before .before .before .before .before .before .before .before .before .before .constant-value .ensures)) (Values.known (c .before .before .before .before .before .y .given .1) (c .before .before .before .before .before .before .before .constant-value2 .ensures)) _ _ (c .before .folded .given .1) (c .before .before .before .fold .ensures .is) (c .before .before .before .fold .ensures .number)
 
 returns-4 : tie.Need-returns-4
 returns-4 c = Folds.fold-declined (c .before .before .before .before .before .before .before .before .before .before .before .before .pre) _ (Values.known (c .before .before .before .before .before .before .before .before .x .given .1) (c .before .before .before .before .before .before .before .before .before .before .constant-value .ensures)) (Values.known (c .before .before .before .before .y .given .1) (c .before .before .before .before .before .before .constant-value2 .ensures)) (sym (c .enum-told3 .given .1) ∙ c .before .before .fold .ensures .is)

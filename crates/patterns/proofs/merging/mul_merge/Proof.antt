@@ -42,10 +42,10 @@ enum-told-2 : tie.Need-enum-told-2
 enum-told-2 c = search needs
 
 returns-2 : tie.Need-returns-2
-returns-2 c = Merges.left-factor (c .before .before .before .before .before .before .before .before .before .before .before .pre) (Values.known (c .before .before .before .before .before .before .before .x .given .1) (c .before .before .before .before .before .before .before .before .before .constant-value .ensures)) (Children.known-split (c .before .before .before .y .given .1) (c .before .before .before .before .before .constant-child .ensures .is)) (Children.known-other _ (c .before .before .before .y .given .1) (c .before .before .before .before .before .constant-child .ensures .low)) (c .before .fold .ensures .is) (c .constant-left .ensures)
+returns-2 c = Merges.left-factor (c .before .before .before .before .before .before .before .before .before .before .before .pre) (Values.known (c .before .before .before .before .before .before .before .x .given .1) (c .before .before .before .before .before .before .before .before .before .constant-value .ensures)) (Children.known-split (c .before .before .before .y .given .1) (c .before .before .before .before .before .constant-child .ensures .is)) (Children.known-other _ (c .before .before .before .y .given .1) (c .before .before .before .before .before .constant-child .ensures .low)) (c .before .fold .ensures .is) (c .before .fold .ensures .number) (c .constant-left .ensures)
 
 returns-3 : tie.Need-returns-3
-returns-3 c = Merges.right-factor (c .before .before .before .before .before .before .before .before .before .before .before .pre) (Values.known (c .before .before .before .before .before .before .before .x .given .1) (c .before .before .before .before .before .before .before .before .before .constant-value .ensures)) (Children.known-split (c .before .before .before .y2 .given .1) (c .before .before .before .before .before .constant-child .ensures .is)) (Children.known-other _ (c .before .before .before .y2 .given .1) (c .before .before .before .before .before .constant-child .ensures .low)) (c .before .fold2 .ensures .is) (c .constant-right .ensures)
+returns-3 c = Merges.right-factor (c .before .before .before .before .before .before .before .before .before .before .before .pre) (Values.known (c .before .before .before .before .before .before .before .x .given .1) (c .before .before .before .before .before .before .before .before .before .constant-value .ensures)) (Children.known-split (c .before .before .before .y2 .given .1) (c .before .before .before .before .before .constant-child .ensures .is)) (Children.known-other _ (c .before .before .before .y2 .given .1) (c .before .before .before .before .before .constant-child .ensures .low)) (c .before .fold2 .ensures .is) (c .before .fold2 .ensures .number) (c .constant-right .ensures)
 
 returns-4 : tie.Need-returns-4
 returns-4 c = Merges.no-product (c .before .before .before .before .before .before .before .before .pre) (Values.known (c .before .before .before .before .x .given .1) (c .before .before .before .before .before .before .constant-value .ensures)) (Children.known-split (c .enum-told2 .given .1) (c .before .before .constant-child .ensures .is))

@@ -24,6 +24,7 @@ returns : tie.Need-returns
 returns c =
     let a = c .before .before .before .before .before .args in
     many-refused (memory (now (a .nodes)) (now (a .slots)) (a .arena)) (c .before .before .before .before .before .pre .4) (a .request) (operandsFrom (now (a .sheet)) (a .first) (a .operands)) (now (a .ids)) (a .done) (c .if2 .taken)
+    (c .before .before .before .before .before .pre .5 (c .before .if1 .taken))
     (subst (λ (i : ℕ). mostChildren < i) (sym (operands-length (now (a .sheet)) (a .first) (a .operands))) (c .before .if1 .taken))
 
 -- src/building.rt:89:9

@@ -23,7 +23,7 @@ listed-request-requires c κs = search needs
 build-requires : tie.Need-build-requires
 build-requires c κs =
     let e = c .before .before .before .before .before .before .before .before .before in
-    (omega arith, e .pre .1, e .pre .2, C.asked-as _ _ (c .before .before .listed-request .ensures) (asked-variable _ (search needs)), e .pre .3)
+    (omega arith, e .pre .1, e .pre .2, C.asked-as _ _ (c .before .before .listed-request .ensures) (asked-variable _ (search needs)), e .pre .3, λ h. absurd (omega arith))
 
 enum-known-body-2 : tie.Need-enum-known-body-2
 enum-known-body-2 c = search needs
@@ -34,7 +34,7 @@ listed-request-requires-2 c κs = search needs
 build-requires-2 : tie.Need-build-requires-2
 build-requires-2 c κs =
     let e = c .before .before .before .before .before .before .before .before .before in
-    (omega arith, e .pre .1, e .pre .2, C.asked-as _ _ (c .before .before .listed-request2 .ensures) (asked-constant _), e .pre .3)
+    (omega arith, e .pre .1, e .pre .2, C.asked-as _ _ (c .before .before .listed-request2 .ensures) (asked-constant _), e .pre .3, λ h. absurd (omega arith))
 
 enum-known-body-3 : tie.Need-enum-known-body-3
 enum-known-body-3 c = search needs
@@ -45,7 +45,7 @@ operator-request-requires c κs = search needs
 build-requires-3 : tie.Need-build-requires-3
 build-requires-3 c κs =
     let e = c .before .before .before .before .before .before .before .before .before in
-    (subst (λ (b : Body). OperandsInSheet (length (now (e .args .sheet))) b) (c .before .before .before .before .body3 .given .1) (e .pre .0), e .pre .1, e .pre .2, C.asked-as _ _ (c .before .before .operator-request .ensures) (asked-operator-code _ _ _ refl), e .pre .3)
+    (subst (λ (b : Body). OperandsInSheet (length (now (e .args .sheet))) b) (c .before .before .before .before .body3 .given .1) (e .pre .0), e .pre .1, e .pre .2, C.asked-as _ _ (c .before .before .operator-request .ensures) (asked-operator-code _ _ _ refl), e .pre .3, λ h. C.operator-number _ _ _ (c .before .before .operator-request .ensures))
 
 enum-known-body-4 : tie.Need-enum-known-body-4
 enum-known-body-4 c = search needs
@@ -59,7 +59,7 @@ listed-request-requires-3 c κs = search needs
 build-requires-4 : tie.Need-build-requires-4
 build-requires-4 c κs =
     let e = c .before .before .before .before .before .before .before .before .before in
-    (subst (λ (b : Body). OperandsInSheet (length (now (e .args .sheet))) b) (c .before .before .before .before .body4 .given .1) (e .pre .0), e .pre .1, e .pre .2, C.asked-as _ _ (c .before .before .listed-request3 .ensures) (asked-function _ (search needs)), e .pre .3)
+    (subst (λ (b : Body). OperandsInSheet (length (now (e .args .sheet))) b) (c .before .before .before .before .body4 .given .1) (e .pre .0), e .pre .1, e .pre .2, C.asked-as _ _ (c .before .before .listed-request3 .ensures) (asked-function _ (search needs)), e .pre .3, λ h. C.number-as _ _ (c .before .before .listed-request3 .ensures) refl)
 
 enum-known-body-5 : tie.Need-enum-known-body-5
 enum-known-body-5 c = search needs
@@ -70,7 +70,7 @@ control-request-requires c κs = search needs
 build-requires-5 : tie.Need-build-requires-5
 build-requires-5 c κs =
     let e = c .before .before .before .before .before .before .before .before .before in
-    (subst (λ (b : Body). OperandsInSheet (length (now (e .args .sheet))) b) (c .before .before .before .before .body5 .given .1) (e .pre .0), e .pre .1, e .pre .2, C.asked-as _ _ (c .before .before .control-request .ensures) (asked-control-code _), e .pre .3)
+    (subst (λ (b : Body). OperandsInSheet (length (now (e .args .sheet))) b) (c .before .before .before .before .body5 .given .1) (e .pre .0), e .pre .1, e .pre .2, C.asked-as _ _ (c .before .before .control-request .ensures) (asked-control-code _), e .pre .3, λ h. C.number-as _ _ (c .before .before .control-request .ensures) refl)
 
 enum-known-body-6 : tie.Need-enum-known-body-6
 enum-known-body-6 c = search needs

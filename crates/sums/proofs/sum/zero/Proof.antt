@@ -1,13 +1,19 @@
 -- `pruner::sum::zero` meets its contract. Assumes nothing.
 use borrow.Author.Needs.{needs}
-use lib.Ieee.{toBits}
+use mathlib.Core.Path.{_≡_, refl}
+use mathlib.Core.Bool.{false}
+use lib.Ieee.{binary64, toBits, nanBits}
 use Rattle.definitions.specs.Patterns.{internConstant}
 use Rattle.store.proofs.Fitting.{constant-fits}
 use Rattle.sums.proofs.sum.zero.Statement.{statement}
 use Rattle.sums.proofs.sum.zero.Tie as tie
 
+zero-number : nanBits binary64 0 ≡ false
+unfolding nanBits
+zero-number = refl
+
 intern-requires : tie.Need-intern-requires
-intern-requires c κs = (constant-fits _ _, c .before .before .before .before .pre)
+intern-requires c κs = (constant-fits _ _ zero-number, c .before .before .before .before .pre)
 
 same-length : tie.Need-same-length
 same-length c = search needs

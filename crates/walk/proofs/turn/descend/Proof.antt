@@ -2,6 +2,7 @@
 use mathlib.Core.Path.{sym, _∙_}
 use native.Mathlib.Omega.{arith}
 use borrow.Author.Needs.{needs}
+use Rattle.definitions.specs.Modes.{modeOf}
 use Rattle.walk.proofs.Descending as D
 use Rattle.walk.proofs.turn.descend.Statement.{statement}
 use Rattle.walk.proofs.turn.descend.Tie as tie
@@ -49,7 +50,7 @@ going-requires : tie.Need-going-requires
 going-requires c κs = search needs
 
 returns : tie.Need-returns
-returns c = D.taken _ _ _ (c .before .before .before .before .before .before .before .before .pre) _ (c .before .before .before .child .ensures) (c .before .before .before .before .before .before .before .before .args .progress) (sym (c .before .before .is-taken-unwalked .ensures) ∙ c .before .if1 .taken) _ (c .going .ensures)
+returns c = D.taken _ _ _ (c .before .before .before .before .before .before .before .before .pre) _ (c .before .before .before .child .ensures) (modeOf (c .before .before .before .before .before .before .before .before .args .mode)) (c .before .before .before .before .before .before .before .before .args .progress) (sym (c .before .before .is-taken-unwalked .ensures) ∙ c .before .if1 .taken) _ (c .going .ensures)
 
 mul-ids : tie.Need-mul-ids
 mul-ids c = search needs
@@ -70,7 +71,7 @@ going-requires-2 : tie.Need-going-requires-2
 going-requires-2 c κs = search needs
 
 returns-2 : tie.Need-returns-2
-returns-2 c = D.walked _ _ _ (c .before .before .before .before .before .before .before .before .pre) _ (c .before .before .before .child .ensures) (c .before .before .before .before .before .before .before .before .args .progress) (sym (c .before .before .is-taken-unwalked .ensures) ∙ c .before .if1 .left) _ (c .going2 .ensures)
+returns-2 c = D.walked _ _ _ (c .before .before .before .before .before .before .before .before .pre) _ (c .before .before .before .child .ensures) (modeOf (c .before .before .before .before .before .before .before .before .args .mode)) (c .before .before .before .before .before .before .before .before .args .progress) (sym (c .before .before .is-taken-unwalked .ensures) ∙ c .before .if1 .left) _ (c .going2 .ensures)
 
 pub descend-spec : {M : Type 1} → statement M
 descend-spec =

@@ -2,6 +2,7 @@
 use mathlib.Core.Path.{refl}
 use native.Mathlib.Omega.{arith}
 use borrow.Author.Needs.{needs}
+use Rattle.definitions.specs.Modes.{modeOf}
 use Rattle.walk.proofs.Turning as T
 use Rattle.walk.proofs.turn.turn.Statement.{statement}
 use Rattle.walk.proofs.turn.turn.Tie as tie
@@ -37,7 +38,7 @@ going-requires : tie.Need-going-requires
 going-requires c κs = search needs
 
 returns : tie.Need-returns
-returns c = T.at-limit _ _ _ (c .before .before .before .before .before .before .before .before .pre) (c .before .if1 .taken) _ (c .going .ensures)
+returns c = T.at-limit _ _ _ (c .before .before .before .before .before .before .before .before .pre) (modeOf (c .before .before .before .before .before .before .before .before .args .mode)) (c .before .if1 .taken) _ (c .going .ensures)
 
 arity-requires : tie.Need-arity-requires
 arity-requires c κs = T.may-read _ _ _ (c .before .before .before .before .before .before .before .before .pre)
@@ -49,7 +50,7 @@ same-length : tie.Need-same-length
 same-length c = search needs
 
 returns-2 : tie.Need-returns-2
-returns-2 c = T.descended _ _ _ (c .before .before .before .before .before .before .before .before .before .before .before .before .before .before .before .pre) (c .before .before .before .before .before .before .before .before .if1 .left) _ (c .before .before .before .before .before .before .arity .ensures) (c .before .before .before .before .before .if2 .taken) (c .before .before .before .before .before .before .before .before .before .before .before .before .before .before .before .args .progress) refl _ _ (c .descend .ensures)
+returns-2 c = T.descended _ _ _ (c .before .before .before .before .before .before .before .before .before .before .before .before .before .before .before .pre) (c .before .before .before .before .before .before .before .before .if1 .left) _ (c .before .before .before .before .before .before .arity .ensures) (modeOf (c .before .before .before .before .before .before .before .before .before .before .before .before .before .before .before .args .mode)) (c .before .before .before .before .before .if2 .taken) (c .before .before .before .before .before .before .before .before .before .before .before .before .before .before .before .args .progress) refl _ _ (c .descend .ensures)
 
 gather-requires : tie.Need-gather-requires
 gather-requires c κs = T.may-gather _ _ _ (c .before .before .before .before .before .before .before .before .before .before .before .pre) (c .before .before .before .before .if1 .left) _ (c .before .before .arity .ensures) (c .before .if2 .left)
@@ -82,7 +83,7 @@ same-length-3 : tie.Need-same-length-3
 same-length-3 c = search needs
 
 returns-3 : tie.Need-returns-3
-returns-3 c = T.ends _ _ _ (c .before .before .before .before .before .before .before .before .before .before .before .before .before .before .before .before .before .before .before .before .before .before .before .before .pre) (c .before .before .before .before .before .before .before .before .before .before .before .before .before .before .before .before .before .if1 .left) _ (c .before .before .before .before .before .before .before .before .before .before .before .before .before .before .before .arity .ensures) (c .before .before .before .before .before .before .before .before .before .before .before .before .before .before .if2 .left) _ (c .before .before .before .before .before .before .before .before .before .before .before .before .gather .ensures) _ _ (c .before .before .before .before .before .before .before .before .before .finish .ensures) _ (c .before .before .answer .given .1) _ (c .going2 .ensures)
+returns-3 c = T.ends _ _ _ (c .before .before .before .before .before .before .before .before .before .before .before .before .before .before .before .before .before .before .before .before .before .before .before .before .pre) (c .before .before .before .before .before .before .before .before .before .before .before .before .before .before .before .before .before .if1 .left) _ (c .before .before .before .before .before .before .before .before .before .before .before .before .before .before .before .arity .ensures) (c .before .before .before .before .before .before .before .before .before .before .before .before .before .before .if2 .left) _ (c .before .before .before .before .before .before .before .before .before .before .before .before .gather .ensures) (modeOf (c .before .before .before .before .before .before .before .before .before .before .before .before .before .before .before .before .before .before .before .before .before .before .before .before .args .mode)) _ _ (c .before .before .before .before .before .before .before .before .before .finish .ensures) _ (c .before .before .answer .given .1) _ (c .going2 .ensures)
 
 same-length-4 : tie.Need-same-length-4
 same-length-4 c = search needs
@@ -91,7 +92,7 @@ same-length-5 : tie.Need-same-length-5
 same-length-5 c = search needs
 
 returns-4 : tie.Need-returns-4
-returns-4 c = T.stops _ _ _ (c .before .before .before .before .before .before .before .before .before .before .before .before .before .before .before .before .before .before .before .before .before .before .before .pre) (c .before .before .before .before .before .before .before .before .before .before .before .before .before .before .before .before .if1 .left) _ (c .before .before .before .before .before .before .before .before .before .before .before .before .before .before .arity .ensures) (c .before .before .before .before .before .before .before .before .before .before .before .before .before .if2 .left) _ (c .before .before .before .before .before .before .before .before .before .before .before .gather .ensures) _ _ (c .before .before .before .before .before .before .before .before .finish .ensures) _ (c .before .answer2 .given .1)
+returns-4 c = T.stops _ _ _ (c .before .before .before .before .before .before .before .before .before .before .before .before .before .before .before .before .before .before .before .before .before .before .before .pre) (c .before .before .before .before .before .before .before .before .before .before .before .before .before .before .before .before .if1 .left) _ (c .before .before .before .before .before .before .before .before .before .before .before .before .before .before .arity .ensures) (c .before .before .before .before .before .before .before .before .before .before .before .before .before .if2 .left) _ (c .before .before .before .before .before .before .before .before .before .before .before .gather .ensures) (modeOf (c .before .before .before .before .before .before .before .before .before .before .before .before .before .before .before .before .before .before .before .before .before .before .before .args .mode)) _ _ (c .before .before .before .before .before .before .before .before .finish .ensures) _ (c .before .answer2 .given .1)
 
 pub turn-spec : {M : Type 1} → statement M
 turn-spec =

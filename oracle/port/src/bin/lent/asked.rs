@@ -4,6 +4,10 @@
 use checker::{Call, CallAnswer, TextLists, read_text};
 use generator::{Random, texts};
 
+/// NaNs: quiet and signalling, of either sign.
+const NOT_NUMBERS: [u64; 4] =
+    [0x7FF8_0000_0000_0000, 0x7FF0_0000_0000_0001, 0xFFF8_0000_0000_0000, 0xFFFF_FFFF_FFFF_FFFF];
+
 #[derive(Clone, Debug)]
 pub enum Asked {
     Store(Call),
@@ -106,8 +110,9 @@ fn store_call(random: &mut Random, count: usize) -> Call {
         0 | 1 => Call::Variable { symbol: random.pick(&[0, 1, 2, 3, u32::MAX, 77]) },
         2 | 3 => {
             let number =
-                random.pick(&[0.0, -0.0, 1.0, 2.0, 0.5, -1.0, 0.05, 0.2, 3.25, f64::INFINITY, f64::NAN, 1e-300]);
-            Call::Constant { bits: number.to_bits() }
+                random.pick(&[0.0, -0.0, 1.0, 2.0, 0.5, -1.0, 0.05, 0.2, 3.25, f64::INFINITY, f64::NEG_INFINITY, 1e-300]);
+            let bits = if random.once_in(12) { random.pick(&NOT_NUMBERS) } else { number.to_bits() };
+            Call::Constant { bits }
         }
         4..=7 => {
             let operator = random.pick(&[0, 0, 0, 1, 2, 2, 3, 4, 5, 6, 7, 1 << 20]);

@@ -111,7 +111,7 @@ fn compare(before: &TextLists, asked: &Asked, tally: &mut Tally) -> Result<TextL
     let answer = asked.by_port(&mut ours);
     let right = asked.by_checker(&mut expected);
     tally.note(Some(asked), &answer);
-    let what = if answer != right { Some("answer") } else { difference::of_lists(before, &ours, &expected) };
+    let what = if answer != right { Some("answer") } else { difference::of_lists(&ours, &expected) };
     match what {
         Some(what) => {
             Err(format!("{what}: {asked:?} gave {answer:?}, expected {right:?}\nbefore {before:?}\nafter {ours:?}"))

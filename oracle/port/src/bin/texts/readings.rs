@@ -22,7 +22,7 @@ impl Readings {
         let answer = port::texts::read(&mut ours, text);
         let right = numbered(read_text(&mut expected, text));
         self.note(&answer);
-        let mut what = if answer != right { Some("answer") } else { difference::of_lists(before, &ours, &expected) };
+        let mut what = if answer != right { Some("answer") } else { difference::of_lists(&ours, &expected) };
         if text.len() <= SHORT || by_definition && text.len() <= LONGEST_BY_DEFINITION {
             self.by_definition += 1;
             let mut defined = before.clone();

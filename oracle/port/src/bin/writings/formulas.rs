@@ -125,10 +125,10 @@ fn chain(random: &mut Random, lists: &mut TextLists) {
     }
 }
 
-/// A node that has no text: another kind, flags or number of operands, a NaN, or a symbol without a name.
+/// A node that has no text: another kind, flags or number of operands, or a symbol without a name.
 fn without_text(random: &mut Random, lists: &mut TextLists) {
     let [first, second] = [some_id(random, lists), some_id(random, lists)];
-    let asked = match random.below(10) {
+    let asked = match random.below(9) {
         0 => of(MOD, vec![first, second]),
         1 => Call::Operator { operator: 0, flags: random.pick(&[0, 1, 2]), operands: vec![first, second] },
         2 => Call::Operator { operator: 2, flags: random.pick(&[0, 1, 2]), operands: vec![first, second] },
@@ -143,7 +143,6 @@ fn without_text(random: &mut Random, lists: &mut TextLists) {
         }
         6 => Call::Function { number: 7, operands: vec![first] },
         7 => Call::Control { control: 0, operands: vec![first, second, first] },
-        8 => Call::Constant { bits: random.pick(&[f64::NAN.to_bits(), 0xFFF0_0000_0000_0001]) },
         _ => Call::Variable { symbol: random.pick(&[lists.names.count as u32, u32::MAX]) },
     };
     build(lists, &asked);

@@ -13,6 +13,7 @@ returns c = record {
   one = refl;
   none = refl;
   whole = record { ids = search needs; cursors = search needs; values = search needs };
+  mode-is = refl;
   limit-is = refl;
   arena-is = refl;
   going = refl;

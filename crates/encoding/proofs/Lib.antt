@@ -1,0 +1,5 @@
+pub mod CodeTable
+pub mod Decoding
+pub mod EncodedCalls
+pub mod FirstCalls
+pub mod SpelledBytes

@@ -1,0 +1,3 @@
+pub mod Encoding
+pub mod Finding
+pub mod Spelling

@@ -1,0 +1,30 @@
+-- How deep a formula is, and that a walk at the depth limit is deep enough for every formula of which the program says nothing.
+use Prim.Native.Nat.{ℕ, suc, max, _≤_}
+use mathlib.Core.Bool.{Bool, false}
+use mathlib.Core.List.{List}
+use Rattle.definitions.specs.Formula.{Tree, tree, Forest, nil, cons, formula}
+use Rattle.definitions.specs.Controller.{reading, stored}
+use Rattle.text.specs.Memory.{ControllerMemory, controllerOf, BothSound}
+use Rattle.write_back.specs.declared.Pruning.{Pruning}
+use Rattle.write_back.specs.declared.Outcome.the-variants.{Written}
+use Rattle.write_back.specs.Answers.{depthLimit, Calls, Answers}
+
+-- the levels of nodes that have children
+unfoldable mutual
+  pub levels : Tree → ℕ
+  levels (tree k p f c) = levelsOver c
+
+  pub levelsOver : Forest → ℕ
+  levelsOver nil = 0
+  levelsOver (cons t ts) = max (suc (levels t)) (levelsOver ts)
+
+-- what was typed has no more levels than the walk goes deep
+pub record ShallowText (typed : List ℕ) (m : ControllerMemory) : Type 0 where
+  pub after : ControllerMemory
+  pub id : ℕ
+  pub read : Calls (reading typed) m (stored id) after
+  pub shallow : levels (formula (controllerOf after .nodes) id) ≤ depthLimit
+
+abbrev pub Shallow : Type 0
+Shallow = (typed : List ℕ) (pruning : Pruning) (m m′ : ControllerMemory) (buffer buffer′ : List ℕ) (size steps kept dropped : ℕ) (spent : Bool)
+    → BothSound m → Answers typed pruning m buffer (Written size steps spent false kept dropped) m′ buffer′ → ShallowText typed m
