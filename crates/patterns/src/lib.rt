@@ -95,13 +95,7 @@ fn operator_pattern(
 }
 
 // The first pattern that fits a kind over its children. Only operators have patterns.
-fn pattern(
-    nodes: &[u64],
-    count: u64,
-    mode: Mode,
-    kind: u64,
-    children: &[u32],
-) -> PatternResult
+fn pattern(nodes: &[u64], count: u64, mode: Mode, kind: u64, children: &[u32]) -> PatternResult
     requires { ⌜ Ready (now nodes) count (now children) ⌝ }
     ensures { λ r. ⌜ Decides (now (nodes .entry)) count (λ l ns. applyAs (modeOf mode) l ns kind (now (children .entry))) r ⌝ }
 {
