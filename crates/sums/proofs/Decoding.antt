@@ -6,13 +6,11 @@ use native.Mathlib.Omega.{arith}
 use Rattle.arena.specs.declared.DagArena.{DagArena}
 use Rattle.arena.specs.Layout.{mostNodes}
 use borrow.Author.Tests.{le-leb, lt-leb}
-use Rattle.definitions.specs.Node as N
 use Rattle.definitions.specs.Intern as I
 use Rattle.store.specs.declared.Answer.{Answer}
 use Rattle.store.specs.declared.Answer.the-variants.{Id, Refused}
 use Rattle.store.specs.View.{Low, Builds}
-use Rattle.store.specs.Interning.{Interns}
-use Rattle.store.specs.Number.{numberOf, answerIn, BuildsNumber, InternsNumber}
+use Rattle.sums.specs.Number.{numberOf, answerIn, BuildsNumber}
 
 module _ (words slots : List ℕ) (a : DagArena) (plain : I.Built) (words′ slots′ : List ℕ) (a′ : DagArena) where
   abbrev Answers : Answer → Type 0
@@ -44,11 +42,6 @@ pub builds-in : (words slots : List ℕ) (a : DagArena) (plain : I.Built) (words
     → Builds words slots a plain words′ slots′ (record { answer = answerIn number; arena = a′ })
 builds-in words slots a plain words′ slots′ number a′ b =
     rw (b .is, answer-in (b .answer) (a′ .count) (b .builds .kept .whole .nodes .formed .many) (b .builds .low)) (b .builds)
-
-pub interns-in : (words slots : List ℕ) (a : DagArena) (n : N.Node) (words′ slots′ : List ℕ) (number : ℕ) (a′ : DagArena) → InternsNumber words slots a n words′ slots′ number a′
-    → Interns words slots a n words′ slots′ (record { answer = answerIn number; arena = a′ })
-interns-in words slots a n words′ slots′ number a′ i =
-    rw (i .is, answer-in (i .answer) (a′ .count) (i .interns .builds .kept .whole .nodes .formed .many) (i .interns .builds .low)) (i .interns)
 
 -- a number that answers one call answers another that leaves the same memory with the same answer
 module _ (words slots : List ℕ) (a : DagArena) (plain : I.Built) (words₀ slots₀ : List ℕ) (a₀ : DagArena) (plain₀ : I.Built) (words′ slots′ : List ℕ) (a′ : DagArena) (number : ℕ) (b : BuildsNumber words slots a plain words′ slots′ number a′) where

@@ -1,4 +1,4 @@
--- Interning that answers one number, with the counts behind pointers.
+-- A sum whose answer is one number, with the counts behind pointers.
 use Prim.Native.Nat.{ℕ, _+_, _-_}
 use mathlib.Core.Path.{_≡_}
 use mathlib.Core.Bool.{cond}
@@ -7,11 +7,9 @@ use lib.Dec.{leb}
 use Rattle.arena.specs.declared.DagArena.{DagArena}
 use Rattle.arena.specs.Layout.{mostNodes}
 use Rattle.definitions.specs.Intern as I
 use Rattle.store.specs.declared.Answer.{Answer}
 use Rattle.store.specs.declared.Answer.the-variants.{Id, Refused}
-use Rattle.definitions.specs.Node as N
 use Rattle.store.specs.View.{Builds}
-use Rattle.store.specs.Interning.{Interns}
 
 -- an answer as one number, which is handed on in a register: an id, or past every id a refusal's number
 abbrev pub numberOf : Answer → ℕ
@@ -27,9 +25,3 @@ pub record BuildsNumber (words slots : List ℕ) (arena : DagArena) (plain : I.B
   pub answer : Answer
   pub is : number ≡ numberOf answer
   pub builds : Builds words slots arena plain words′ slots′ (record { answer = answer; arena = arena′ })
-
--- the same of interning one node, where a refusal also changes nothing
-pub record InternsNumber (words slots : List ℕ) (arena : DagArena) (n : N.Node) (words′ slots′ : List ℕ) (number : ℕ) (arena′ : DagArena) : Type 0 where
-  pub answer : Answer
-  pub is : number ≡ numberOf answer
-  pub interns : Interns words slots arena n words′ slots′ (record { answer = answer; arena = arena′ })
