@@ -6,7 +6,7 @@ ghost use Rattle.definitions.specs.Walk.{rebuiltFlags, rebuilt, rebuildAs};
 ghost use Rattle.store.specs.Lookup.{Lookup};
 ghost use Rattle.store.specs.View.{nodesIn, lent, Builds};
 ghost use Rattle.rebuild.specs.Memory.{memory};
-ghost use Rattle.rebuild.specs.Rebuild.{Rebuildable, newChildren, MarkedAs, Finishes};
+ghost use Rattle.rebuild.specs.Rebuild.{Rebuildable, MarkedAs, Finishes};
 use arena::DagArena;
 use arena::REORDERABLE;
 use arena::kind::ADD;
