@@ -33,7 +33,7 @@ fn is_taken_unwalked(nodes: &[u64], count: u64, mode: Mode, id: u64) -> bool
 
 // The values from a place on, as the places of so many children.
 fn gather(values: &[u64; MOST_VALUES], from: usize, arity: usize) -> [u32; MOST_CHILDREN]
-    requires { ⌜ Gatherable from arity ⌝ }
+    requires { ⌜ Gatherable (now values) from arity ⌝ }
     ensures { λ r. ⌜ Gathered (now (values .entry)) from arity r ⌝ }
 {
     let mut children = [0u32; MOST_CHILDREN];
