@@ -24,7 +24,7 @@ rebuilt-flags-requires : tie.Need-rebuilt-flags-requires
 rebuilt-flags-requires c κs = search needs
 
 intern-requires : tie.Need-intern-requires
-intern-requires c κs = 
+intern-requires c κs =
     let s = c .before .before .before .before .before .before .before .before .before .before .before .before .before in
     (B.fits _ _ _ (s .pre) _ _ _ (c .before .before .before .before .before .kind .ensures) (c .before .before .before .payload .ensures) (c .before .before .rebuilt-flags .ensures), s .pre .sound)
 
@@ -35,7 +35,7 @@ same-length-3 : tie.Need-same-length-3
 same-length-3 c = search needs
 
 returns-2 : tie.Need-returns-2
-returns-2 c = 
+returns-2 c =
     let other = c .before .before .before .before .before .before .before .before .before .before .before .before in
     let s = c .before .before .before .before .before .before .before .before .before .before .before .before .before .before .before .before .before .before in
     B.anew _ _ _ (s .pre) _ _ _ (c .before .before .before .before .before .before .before .before .before .before .kind .ensures) (c .before .before .before .before .before .before .before .before .payload .ensures) (c .before .before .before .before .before .before .before .rebuilt-flags .ensures) (sym (other .before .has-children .ensures) ∙ other .if1 .left) _ _ _ (c .before .before .before .before .intern .ensures .builds)

@@ -47,9 +47,11 @@ intern-requires c κs =
     let counted = below .before .before in
     let number = counted .before .before in
     let code = number .before .before in
-    let s = code .before .before .before .before in
-    (fits _ _ _ _ _ _ _ _ (s .pre .0) (s .pre .1) (not-false _ (code .if1 .left)) (sym (number .before .is-nan-constant .ensures) ∙ number .if2 .left)
-    (sym (counted .before .is-listed .ensures) ∙ not-false _ (counted .if3 .left)) (sym (below .before .all-below .ensures) ∙ not-false _ (below .if4 .left)), s .pre .1)
+    let s = code .before .before .before .before in (
+      fits _ _ _ _ _ _ _ _ (s .pre .0) (s .pre .1) (not-false _ (code .if1 .left)) (sym (number .before .is-nan-constant .ensures) ∙ number .if2 .left)
+          (sym (counted .before .is-listed .ensures) ∙ not-false _ (counted .if3 .left)) (sym (below .before .all-below .ensures) ∙ not-false _ (below .if4 .left)),
+      s .pre .1,
+    )
 
 same-length : tie.Need-same-length
 same-length c = search needs
