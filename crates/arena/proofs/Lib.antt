@@ -1,7 +1,10 @@
 pub mod Listing
 pub mod Words
+pub mod Places
 pub mod OneNode
+pub mod Comparing
 pub mod Putting
+pub mod Storing
 pub mod Adding
 pub mod Marking
 pub mod Finding

@@ -1,9 +1,10 @@
 -- A node, and its words in the lent list.
-use Prim.Native.Nat.{ℕ, zero, suc, _+_, _*_, _%_}
+use Prim.Native.Nat.{ℕ, zero, suc, _+_, _-_, _*_, _%_, _≤_}
+use mathlib.Core.Path.{_≡_}
 use mathlib.Core.Bool.{Bool, cond, _&&_}
 use mathlib.Core.List.{List, [], _∷_, _++_}
 use mathlib.Core.Option.{Option, none, some}
-use lib.ListN.{getD, take, drop, set}
+use lib.ListN.{length, getD, take, drop, set, replicate}
 use lib.Dec.{eqb}
 use Rattle.definitions.specs.Node.{constantKind, sameChildren}
 use Rattle.hash.specs.Fnv.{nodeHashOf}
@@ -74,6 +75,27 @@ newNode kind payload flags arity children = record {
   arity = arity;
   children = children;
 }
+
+-- child places that hold these children, and 0 after them
+unfoldable pub placesOf : List ℕ → List ℕ
+placesOf children = children ++ replicate (mostChildren - length children) 0
+
+-- a node over lent children, with its hash and its coefficient
+unfoldable pub nodeOf : ℕ → ℕ → ℕ → List ℕ → DagNode
+nodeOf kind payload flags children = record {
+  kind = kind;
+  payload = payload;
+  hash = nodeHashOf kind payload children;
+  coefficient = coefficient kind payload;
+  flags = flags;
+  arity = length children;
+  children = placesOf children;
+}
+
+-- a key in parts: children that have their places, and the hash
+pub record Key (kind payload hash : ℕ) (children : List ℕ) : Type 0 where
+  pub few : length children ≤ mostChildren
+  pub hashed : hash ≡ nodeHashOf kind payload children
 
 -- the words with a node's mark set
 unfoldable pub marked : List ℕ → ℕ → List ℕ

@@ -5,10 +5,13 @@ pub mod node;
 
 pub use audit::audit_nodes;
 pub use node::DagNode;
+pub use node::has_children;
 pub use node::has_parts;
+pub use node::is_one;
 pub use node::load;
 pub use node::mark;
 pub use node::store_node;
+pub use node::store_parts;
 
 // 01: "A node is 10 words of 64 bits in a lent list: kind, payload, hash, coefficient bits, flags, child
 // count, four child places". Each word's place is counted from the node's first.

@@ -6,9 +6,8 @@ use mathlib.Core.List.{List}
 use lib.ListN.{length}
 use native.Mathlib.Omega.{arith}
 use Rattle.arena.specs.declared.DagArena.{DagArena}
-use Rattle.arena.specs.declared.node.DagNode.{DagNode}
 use Rattle.arena.specs.Kind as Kind
-use Rattle.arena.specs.Node.{newNode}
+use Rattle.arena.proofs.Listing.{listed-few}
 use Rattle.definitions.specs.Node as N
 use Rattle.definitions.specs.Intern as I
 use Rattle.definitions.specs.Refusals.{badOperand, badCode, notANumber, badChildCount}
@@ -18,16 +17,15 @@ use Rattle.store.specs.declared.Built.{Built}
 use Rattle.store.specs.declared.Answer.{Answer}
 use Rattle.store.specs.declared.Answer.the-variants.{Id, Refused}
 use Rattle.store.specs.Sound.{Sound}
-use Rattle.store.specs.View.{plainNode, nodesIn, lent, plainBuilt}
-use Rattle.store.specs.Lookup.{Places, Fits}
+use Rattle.store.specs.View.{nodesIn, lent, plainBuilt}
+use Rattle.store.specs.Lookup.{Fits}
 use Rattle.store.specs.Memory.{Memory, memory, model, answerOf, Leaves}
 use Rattle.store.specs.Interning.{Interns}
-use Rattle.store.proofs.NewNodes.{new-plain}
 use Rattle.store.proofs.Viewing.{plain-length}
 use Rattle.store.proofs.Keeping.{kept-refl}
 use Rattle.store.proofs.Leaving.{leaves-unsound, leaves-kept}
 use Rattle.builder.specs.Stores.{BuildsSound, BuildsAudited, unsound, sound, Asked}
-use Rattle.builder.proofs.Operands.{below-each, place-at}
+use Rattle.builder.proofs.Operands.{below-each}
 
 -- a call that wants what was asked for
 module _ (c : M.Store) (q : M.Request) (e : requested c ≡ q) (m : Memory) where
@@ -88,24 +86,16 @@ module _ (listed : Bool) (kind payload flags : ℕ) (operands w slots : List ℕ
         unfolding storeCall
         refuse-operand r b f = refuses badOperand (rw (l, v, asked .counts l v (length operands), k, plain-length w (s .count), ← b, f) refl)
 
-        module _ (b : allBelow (s .count) operands ≡ true) (places : List ℕ) (p : Places places operands) where
-          pub fits : Fits (s .count) kind payload flags (length operands) places
-          fits = record {
-            listing = k;
-            unmarked = asked .unmarked l;
-            few = p .few;
-            lower = λ j m. rw (place-at places operands p j m) (below-each (s .count) operands b j m);
-            unused = p .unused;
-          }
+        module _ (b : allBelow (s .count) operands ≡ true) where
+          pub fits : Fits (s .count) kind payload flags operands
+          fits = record { listing = k; unmarked = asked .unmarked l; few = listed-few _ _ _ k; lower = below-each (s .count) operands b }
 
           passed : storeCall (lent w slots) ns wanted ≡ storedAs (I.intern (lent w slots) ns (N.node kind payload flags operands))
           unfolding storeCall
           passed = rw (l, v, asked .counts l v (length operands), k, plain-length w (s .count), b) refl
 
           -- the id of the node, 21 or 22
-          pub interned : (key : DagNode) → key ≡ newNode kind payload flags (length operands) places → (w′ slots′ : List ℕ) (r : Built) → Interns w slots s (plainNode key) w′ slots′ r → BuildsSound wanted (memory w slots s) (answerOf (r .answer)) (memory w′ slots′ (r .arena))
-          interned key q w′ slots′ r i =
-              let plain : plainNode key ≡ N.node kind payload flags operands = ap plainNode q ∙ new-plain (s .count) kind payload flags (length operands) places fits ∙ ap (N.node kind payload flags) (p .taken) in
-              let o : storedAs (I.intern (lent w slots) ns (N.node kind payload flags operands)) ≡ outcome (answerOf (r .answer)) (nodesIn w′ (r .arena .count)) =
-              ap (λ (n : N.Node). storedAs (I.intern (lent w slots) ns n)) (sym plain) ∙ ap storedAs (sym (i .builds .answer)) ∙ answered (r .answer) (nodesIn w′ (r .arena .count)) in
+          pub interned : (w′ slots′ : List ℕ) (r : Built) → Interns w slots s (N.node kind payload flags operands) w′ slots′ r → BuildsSound wanted (memory w slots s) (answerOf (r .answer)) (memory w′ slots′ (r .arena))
+          interned w′ slots′ r i =
+              let o : storedAs (I.intern (lent w slots) ns (N.node kind payload flags operands)) ≡ outcome (answerOf (r .answer)) (nodesIn w′ (r .arena .count)) = ap storedAs (sym (i .builds .answer)) ∙ answered (r .answer) (nodesIn w′ (r .arena .count)) in
               record { outcome = sym (passed ∙ o); kept = i .builds .kept; unchanged = λ number a. i .unchanged number (refused-is (r .answer) number a) }

@@ -16,12 +16,11 @@ use Rattle.arena.specs.Nodes.{AllWellFormed, Nodes}
 use Rattle.arena.proofs.Putting.{put-old, put-new}
 use Rattle.arena.proofs.Adding.{nodes-add}
 use Rattle.dedup.specs.declared.Answer.the-variants.{Old, New, Refused}
-use Rattle.dedup.specs.declared.Interned.{Interned}
 use Rattle.definitions.specs.Refusals.{noNodePlace, noSlotPlace}
 use Rattle.definitions.specs.Intern.{capacity}
 use Rattle.dedup.specs.Table.{Table, hashAt}
 use Rattle.dedup.specs.Insert.{FirstFree, Fits, Rehashed}
-use Rattle.dedup.specs.Intern.{answered, newAnswer, internAnswer, wordsAfter, Interns, Absent}
+use Rattle.dedup.specs.Intern.{Interned, answered, newAnswer, internAnswer, wordsAfter, Interns, Absent}
 use Rattle.dedup.proofs.Doubling.{at-least, doubled-twice}
 use Rattle.dedup.proofs.Inserting.{table-add, past-add}
 
@@ -30,7 +29,7 @@ pub old-answer : (w slots : List ℕ) (a : DagArena) (key : DagNode) (id : ℕ) 
 unfolding internAnswer wordsAfter
 old-answer w slots a key id e s t = record { answer = rw e refl; words-after = refl; slots-past = refl; nodes = s; table = t }
 
-module _ (w slots : List ℕ) (a : DagArena) (key : DagNode) (place : ℕ) (x : Absent w slots a key place) where
+module _ (w slots : List ℕ) (a : DagArena) (key : DagNode) (x : Absent w slots a key) where
   abbrev count : ℕ
   count = a .count
 
@@ -74,9 +73,9 @@ module _ (w slots : List ℕ) (a : DagArena) (key : DagNode) (place : ℕ) (x : 
       nodes′ : Nodes w′ (count + 1)
       nodes′ = nodes-add w count key many fits len (x .nodes) (x .formed) (x .absent)
 
-      module _ (load : count < capacity size) where
+      module _ (load : count < capacity size) (place : ℕ) (free : FirstFree slots size (key .hash) place) where
         free′ : FirstFree slots size (hashAt w′ count) place
-        free′ = rw new-hash (x .free)
+        free′ = rw new-hash free
 
         pub added : Interns w slots a key (answered (New count) (count + 1) size) w′ (set slots place (count + 1))
         unfolding newAnswer wordsAfter

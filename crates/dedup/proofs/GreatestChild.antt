@@ -1,23 +1,21 @@
--- A node that is one with a key is not below the key's greatest child, and above it if there is one.
+-- A node over the newest one is none of the nodes.
 use Prim.Native.Nat.{ℕ, zero, suc, _-_, _≤_, _<_, max}
 use mathlib.Core.Path.{_≡_, refl, sym, ap, _∙_}
 use mathlib.Core.Bool.{false, _&&_}
 use mathlib.Core.List.{List, [], _∷_}
-use lib.ListN.{getD, take}
+use lib.ListN.{length, getD, take, List·getD-eq-default}
 use lib.Dec.{ltb}
 use native.Mathlib.Omega.{arith}
 use native.Mathlib.Decide.{decLt}
 use borrow.Author.Tests.{lt-ltb, le-ltb}
 use Rattle.arena.specs.declared.node.DagNode.{DagNode}
-use Rattle.arena.specs.Node.{nodeAt, one}
-use Rattle.arena.specs.Nodes.{LowerChildren, AllWellFormed}
+use Rattle.arena.specs.Node.{nodeAt, one, placesOf, nodeOf}
+use Rattle.arena.specs.Nodes.{AllWellFormed}
 use Rattle.arena.proofs.OneNode.{not-one}
-use Rattle.dedup.specs.declared.probing.Place.{Place}
-use Rattle.dedup.specs.declared.probing.Place.the-variants.{Here, Free, Nowhere}
-use Rattle.dedup.specs.Probe.{greatestChild, holds, Frees, ProbedNear}
-use Rattle.dedup.specs.Insert.{FirstFree, FreeNear}
-use Rattle.dedup.specs.Intern.{OverNewest}
-use Rattle.dedup.proofs.Searching.{holds-known}
+use Rattle.arena.proofs.Places.{places-at}
+use Rattle.dedup.specs.declared.probing.Place.the-variants.{Free}
+use Rattle.dedup.specs.Probe.{greatestChild, holds, Probed, OverNewest}
+use Rattle.dedup.specs.Insert.{FirstFree}
 
 -- ---- the greatest, place by place
 pub greatest-none : greatestChild [] ≡ 0
@@ -36,29 +34,29 @@ unfolding greatestChild
 greatest-within most [] h = omega arith
 greatest-within most (x ∷ xs) h = let l = h 0 in let r = greatest-within most xs (λ j. h (suc j)) in omega arith
 
--- ---- children are lower than their node, and unused places 0
-pub not-above : (id arity : ℕ) (children : List ℕ) → LowerChildren id arity children → greatestChild children ≤ id
-not-above id arity children l = greatest-within id children (λ j. by j (decLt j arity))
-  where
-    by : (j : ℕ) → Dec (j < arity) → getD children j 0 ≤ id
-    by j (yes m) = let b = l .lower j m in omega arith
-    by j (no m) = let z = l .unused j (omega arith) in omega arith
+-- ---- a node with children is above each of them, so that no node is over the newest one, and no slot holds one
+module _ (w : List ℕ) (count kind payload flags : ℕ) (c : List ℕ) (f : AllWellFormed w count) (n : OverNewest count c) where
+  abbrev key : DagNode
+  key = nodeOf kind payload flags c
 
-pub holds-below : (w : List ℕ) (known : ℕ) (key : DagNode) (slot id : ℕ) → 0 < slot → id ≡ slot - 1 → id < known → AllWellFormed w known → id < greatestChild (key .children) → false ≡ holds w known key slot
-holds-below w known key slot id l e m f b = not-one (nodeAt w id) key (λ o. let n = not-above id _ _ (f .each id m .places) in let g = ap greatestChild (o .children) in omega arith) ∙ holds-known w known key slot id l e m
-
--- ---- a node with children is above the greatest of them
-above : (id arity : ℕ) (children : List ℕ) → LowerChildren id arity children → 0 < arity → greatestChild children < id
-above id arity children l p = let z = l .lower 0 p in let g = greatest-within (id - 1) children (λ j. by j (decLt j arity)) in omega arith
-  where
-    by : (j : ℕ) → Dec (j < arity) → getD children j 0 ≤ id - 1
-    by j (yes m) = let b = l .lower j m in omega arith
-    by j (no m) = let e = l .unused j (omega arith) in omega arith
-
--- no node is over the newest, so that no slot holds one
-module _ (w : List ℕ) (count : ℕ) (key : DagNode) (f : AllWellFormed w count) (n : OverNewest count key) where
   not-key : (id : ℕ) → id < count → false ≡ one (nodeAt w id) key
-  not-key id l = not-one (nodeAt w id) key (λ o. let s : 0 < nodeAt w id .arity = rw (o .arity) (n .with-children) in let a = above id _ _ (f .each id l .places) s in let g = ap greatestChild (o .children) in let e = n .newest in omega arith)
+  unfolding nodeOf
+  not-key id l = not-one (nodeAt w id) key (λ o. differs (o .arity) (o .children))
+    where
+      differs : nodeAt w id .arity ≡ length c → nodeAt w id .children ≡ placesOf c → ⊥
+      differs arity children =
+          let p = f .each id l .places in
+          let first = p .lower 0 (let s = n .with-children in omega arith) in
+          let g = greatest-within (id - 1) c (λ j. by j (decLt j (length c))) in
+          let e = n .newest in
+          omega arith
+        where
+          by : (j : ℕ) → Dec (j < length c) → getD c j 0 ≤ id - 1
+          by j (yes m) =
+              let b = f .each id l .places .lower j (omega arith) in
+              let e : getD (nodeAt w id .children) j 0 ≡ getD c j 0 = ap (λ (x : List ℕ). getD x j 0) children ∙ places-at c j in
+              omega arith
+          by j (no m) = let e = List·getD-eq-default c 0 {n = j} (omega arith) in omega arith
 
   in-no-slot : (slot : ℕ) → holds w count key slot ≡ false
   unfolding holds
@@ -70,14 +68,9 @@ module _ (w : List ℕ) (count : ℕ) (key : DagNode) (f : AllWellFormed w count
       by (no l) = rw (le-ltb id count (omega arith)) refl
 
   -- the first free place ends the search for it
-  over-newest-free : (slots : List ℕ) (size place : ℕ) → FirstFree slots size (key .hash) place → Frees w count slots size key place
+  pub over-newest-free : (slots : List ℕ) (size place : ℕ) → FirstFree slots size (key .hash) place → Probed w count slots size key (Free place)
+  unfolding Probed
   over-newest-free slots size place free = record {
     reached = record { far = free .far; near = free .near; is = free .is; passed = record { used = free .used; other = λ d l. in-no-slot _ } };
     empty = free .empty;
   }
-
-  pub over-newest-near : (slots : List ℕ) (size : ℕ) (r : Place) → FreeNear slots size (key .hash) r → ProbedNear w count slots size key r
-  unfolding FreeNear ProbedNear
-  over-newest-near slots size (Here place) n = absurd n
-  over-newest-near slots size (Free place) free = over-newest-free slots size place free
-  over-newest-near slots size Nowhere u = tt

@@ -1,8 +1,8 @@
 pub mod Doubling
 pub mod Rounds
 pub mod Searching
+pub mod KeyParts
 pub mod GreatestChild
-pub mod Nearing
 pub mod Pigeon
 pub mod FreePlaces
 pub mod TrailingZeros
@@ -13,7 +13,6 @@ pub mod Inserting
 pub mod Renewing
 pub mod Keys
 pub mod Answers
-pub mod InRoom
 pub mod Marking
 pub mod UsedSlots
 pub mod OwnSlots

@@ -9,7 +9,6 @@ use native.Mathlib.Decide.{decLt}
 use borrow.Author.Count.{below-more}
 use Rattle.definitions.specs.Says.{Says}
 use Rattle.definitions.proofs.Deciding.{says-yes, says-no}
-use Rattle.arena.specs.declared.node.DagNode.{DagNode}
 use Rattle.arena.specs.Node.{nodeAt, one}
 use Rattle.arena.specs.Nodes.{AllWellFormed}
 use Rattle.arena.proofs.OneNode.{one-sym}
@@ -19,7 +18,7 @@ use Rattle.dedup.specs.Audit.{LowerOther, LowerBefore, MeetsOwn}
 use Rattle.dedup.proofs.Searching.{holds-known}
 
 -- nodes below an id
-pub formed-below : (w : List ℕ) (id count : ℕ) → id < count → AllWellFormed w count → AllWellFormed w id
+pub formed-below : (w : List ℕ) (id count : ℕ) → id ≤ count → AllWellFormed w count → AllWellFormed w id
 formed-below w id count l f = record { many = let m = f .many in omega arith; fits = let m = f .fits in omega arith; each = λ i b. f .each i (omega arith) }
 
 module _ (w slots : List ℕ) (size : ℕ) where
@@ -45,10 +44,7 @@ module _ (w slots : List ℕ) (size : ℕ) where
           let z : suc i ≡ suc j = sym (a .here) ∙ ap (λ (x : ℕ). slotFrom slots size x (a .far)) h ∙ ap (slotFrom slots size (hashAt w j)) e ∙ b .here in
           omega arith
 
-  module _ (id : ℕ) (n : DagNode) (is : n ≡ nodeAt w id) where
-    hash-is : n .hash ≡ hashAt w id
-    hash-is = ap (λ (x : DagNode). x .hash) is
-
+  module _ (id : ℕ) where
     module _ (far : ℕ) (before : LowerBefore w slots size id far) where
       -- the own slot is none of those passed
       not-before : (m : MeetsOwn w slots size id) → m .far < far → ⊥
@@ -57,9 +53,9 @@ module _ (w slots : List ℕ) (size : ℕ) where
       pub meets-nowhere : far ≡ size → Says false (MeetsOwn w slots size id)
       meets-nowhere e = says-no (λ m. not-before m (let l = m .near in omega arith))
 
-      module _ (at : ℕ) (place : at ≡ (n .hash + far) % size) where
+      module _ (at : ℕ) (place : at ≡ (hashAt w id + far) % size) where
         there : getD slots at 0 ≡ slotFrom slots size (hashAt w id) far
-        there = ap (λ (x : ℕ). getD slots x 0) (place ∙ ap (λ (h : ℕ). (h + far) % size) hash-is)
+        there = ap (λ (x : ℕ). getD slots x 0) place
 
         pub meets-here : far < size → getD slots at 0 ≡ suc id → Says true (MeetsOwn w slots size id)
         meets-here l e = says-yes (record { far = far; near = l; here = sym there ∙ e; before = before })
@@ -80,11 +76,11 @@ module _ (w slots : List ℕ) (size : ℕ) where
         meets-greater l = meets-other (λ e. omega arith) (λ o. let u = o .lower in omega arith)
 
         module _ (used : 0 < getD slots at 0) (lower : getD slots at 0 ≤ id) where
-          compared : one (nodeAt w (getD slots at 0 - 1)) (nodeAt w id) ≡ holds w id n (getD slots at 0)
-          compared = ap (λ (x : DagNode). one (nodeAt w (getD slots at 0 - 1)) x) (sym is) ∙ holds-known w id n (getD slots at 0) (getD slots at 0 - 1) used refl (omega arith)
+          compared : one (nodeAt w (getD slots at 0 - 1)) (nodeAt w id) ≡ holds w id (nodeAt w id) (getD slots at 0)
+          compared = holds-known w id (nodeAt w id) (getD slots at 0) (getD slots at 0 - 1) used refl (omega arith)
 
-          pub meets-one : holds w id n (getD slots at 0) ≡ true → Says false (MeetsOwn w slots size id)
+          pub meets-one : holds w id (nodeAt w id) (getD slots at 0) ≡ true → Says false (MeetsOwn w slots size id)
           meets-one h = meets-other (λ e. omega arith) (λ o. false≢true (sym (o .other) ∙ compared ∙ h))
 
-          pub one-more : holds w id n (getD slots at 0) ≡ false → LowerBefore w slots size id (far + 1)
+          pub one-more : holds w id (nodeAt w id) (getD slots at 0) ≡ false → LowerBefore w slots size id (far + 1)
           one-more h = below-more _ _ before (subst (LowerOther w id) there (record { used = used; lower = lower; other = compared ∙ h }))

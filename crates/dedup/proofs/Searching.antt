@@ -17,7 +17,7 @@ use Rattle.arena.proofs.OneNode.{not-one, one-is, one-hash}
 use Rattle.dedup.specs.declared.probing.Place.{Place}
 use Rattle.dedup.specs.declared.probing.Place.the-variants.{Here, Free, Nowhere}
 use Rattle.dedup.specs.Table.{slotFrom}
-use Rattle.dedup.specs.Probe.{holds, Passed, Reaches, Frees, Finds, Probed, ProbedNear}
+use Rattle.dedup.specs.Probe.{holds, Passed, Reaches, Frees, Finds, Probed}
 
 -- ---- a slot in use
 module _ (w : List ℕ) (known : ℕ) (key : DagNode) where
@@ -77,27 +77,14 @@ module _ (w : List ℕ) (known : ℕ) (slots : List ℕ) (size : ℕ) (key : Dag
   unfolding Probed
   ends-nowhere far e ps = subst (Passed w known slots size key) e ps
 
-  -- a search that ends nowhere may say nothing
-  pub probed-near : (r : Place) → Probed w known slots size key r → ProbedNear w known slots size key r
-  unfolding Probed ProbedNear
-  probed-near (Here at) p = p
-  probed-near (Free at) p = p
-  probed-near Nowhere p = tt
-
   -- ---- what a search's end says
-  pub was-here-near : (r : Place) (at : ℕ) → r ≡ Here at → ProbedNear w known slots size key r → Finds w known slots size key at
-  unfolding ProbedNear
-  was-here-near r at e p = subst (ProbedNear w known slots size key) e p
-
-  pub was-free-near : (r : Place) (at : ℕ) → r ≡ Free at → ProbedNear w known slots size key r → Frees w known slots size key at
-  unfolding ProbedNear
-  was-free-near r at e p = subst (ProbedNear w known slots size key) e p
-
   pub was-here : (r : Place) (at : ℕ) → r ≡ Here at → Probed w known slots size key r → Finds w known slots size key at
-  was-here r at e p = was-here-near r at e (probed-near r p)
+  unfolding Probed
+  was-here r at e p = subst (Probed w known slots size key) e p
 
   pub was-free : (r : Place) (at : ℕ) → r ≡ Free at → Probed w known slots size key r → Frees w known slots size key at
-  was-free r at e p = was-free-near r at e (probed-near r p)
+  unfolding Probed
+  was-free r at e p = subst (Probed w known slots size key) e p
 
   pub was-nowhere : (r : Place) → r ≡ Nowhere → Probed w known slots size key r → Passed w known slots size key size
   unfolding Probed

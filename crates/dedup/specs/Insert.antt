@@ -4,8 +4,6 @@ use mathlib.Core.Path.{_≡_}
 use mathlib.Core.List.{List}
 use lib.ListN.{length, getD, set, drop}
 use Rattle.definitions.specs.Intern.{capacity}
-use Rattle.dedup.specs.declared.probing.Place.{Place}
-use Rattle.dedup.specs.declared.probing.Place.the-variants.{Here, Free, Nowhere}
 use Rattle.dedup.specs.Table.{TableSize, Table, InUse}
 
 -- some slot is empty
@@ -33,12 +31,6 @@ pub record FirstFree (slots : List ℕ) (size hash place : ℕ) : Type 0 where
   pub is : place ≡ (hash + far) % size
   pub empty : getD slots place 0 ≡ 0
   pub used : InUse slots size hash far
-
--- it, or nowhere, which says nothing
-unfoldable pub FreeNear : List ℕ → ℕ → ℕ → Place → Type 0
-FreeNear slots size hash (Here place) = ⊥
-FreeNear slots size hash (Free place) = FirstFree slots size hash place
-FreeNear slots size hash Nowhere = Unit {0}
 
 -- an id in the first free place from its hash
 pub record Taken (slots : List ℕ) (size hash id : ℕ) (slots′ : List ℕ) : Type 0 where

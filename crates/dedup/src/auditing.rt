@@ -1,18 +1,22 @@
 // The audit of a store's nodes and slots, for refusal 20.
 ghost use mathlib.Core.Path.{_≡_};
-ghost use Prim.Native.Nat.{_≤_, _<_};
+ghost use Prim.Native.Nat.{suc, _≤_, _<_};
 ghost use lib.ListN.{length};
 ghost use Rattle.definitions.specs.Says.{Says};
+ghost use Rattle.arena.specs.Node.{nodeAt};
 ghost use Rattle.arena.specs.Nodes.{AllWellFormed, Nodes};
 ghost use Rattle.dedup.specs.Table.{Table, hashAt};
+ghost use Rattle.dedup.specs.Probe.{holds};
 ghost use Rattle.dedup.specs.Audit.{usedSlots, Fit, MeetsOwn, AllMeetOwn};
-use crate::probing::slot_holds;
+use crate::probing::slot_id;
 use crate::sizes::is_table_size;
 use crate::sizes::load_limit;
 use crate::sizes::modulo_size;
 use arena::DagArena;
+use arena::HASH;
+use arena::NODE_WORDS;
 use arena::audit_nodes;
-use arena::load;
+use arena::is_one;
 
 // How many of the first `size` slots are in use.
 fn used_slots(slots: &[u32], size: usize) -> usize
@@ -30,15 +34,27 @@ fn used_slots(slots: &[u32], size: usize) -> usize
     used
 }
 
+// Whether the node of a lower id, by its slot, is one with that of an id. The hash is compared first.
+fn is_one_with(nodes: &[u64], slot: u32, id: u64, hash: u64) -> bool
+    requires { ⌜ (0 < slot) × (slot ≤ id) × AllWellFormed (now nodes) (suc id) × (hash ≡ hashAt (now nodes) id) ⌝ }
+    ensures { λ r. ⌜ r ≡ holds (now (nodes .entry)) id (nodeAt (now (nodes .entry)) id) slot ⌝ }
+{
+    let other = slot_id(slot);
+    if nodes[other as usize * NODE_WORDS + HASH] != hash {
+        return false;
+    }
+    is_one(nodes, other, id)
+}
+
 // Whether the search for a node meets the slot of its own id, and before it only slots of lower ids, whose nodes are others.
 fn meets_own(nodes: &[u64], slots: &[u32], arena: DagArena, id: u64) -> bool
     requires { ⌜ (id < arena .count) × AllWellFormed (now nodes) (arena .count) × Fit (now slots) (arena .size) ⌝ }
     ensures { λ r. ⌜ Says r (MeetsOwn (now (nodes .entry)) (now (slots .entry)) (arena .size) id) ⌝ }
 {
     let size = arena.size;
-    let key = load(nodes, id);
+    let hash = nodes[id as usize * NODE_WORDS + HASH];
     let own = (id + 1) as u32;
-    let mut at = modulo_size(key.hash as usize, size);
+    let mut at = modulo_size(hash as usize, size);
     let mut passed: usize = 0;
     while passed < size {
         let slot = slots[at];
@@ -51,7 +67,7 @@ fn meets_own(nodes: &[u64], slots: &[u32], arena: DagArena, id: u64) -> bool
         if own < slot {
             return false;
         }
-        if slot_holds(nodes, slot, key, id) {
+        if is_one_with(nodes, slot, id, hash) {
             return false;
         }
         at = modulo_size(at + 1, size);

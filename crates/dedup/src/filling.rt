@@ -5,9 +5,8 @@ ghost use Prim.Native.Nat.{_+_, _*_, _≤_, _<_};
 ghost use lib.ListN.{length, replicate, drop};
 ghost use Rattle.arena.specs.Layout.{nodeWords, mostNodes};
 ghost use Rattle.arena.specs.Nodes.{AllWellFormed};
-ghost use Rattle.dedup.specs.Table.{TableSize, hashAt};
-ghost use Rattle.dedup.specs.Insert.{Room, FirstFree, FreeNear, Taken, Fits, Rehashed};
-use crate::probing::Place;
+ghost use Rattle.dedup.specs.Table.{hashAt};
+ghost use Rattle.dedup.specs.Insert.{Room, FirstFree, Taken, Fits, Rehashed};
 use crate::sizes::modulo_size;
 use crate::window::FREE_WINDOW;
 use crate::window::first_empty;
@@ -30,7 +29,7 @@ fn free_from(slots: &[u32], size: usize, home: usize) -> usize
 }
 
 // The first free place from a hash on, round the end. A window that ends within the table is looked at first.
-fn free_place(slots: &[u32], size: usize, hash: u64) -> usize
+pub(crate) fn free_place(slots: &[u32], size: usize, hash: u64) -> usize
     requires { ⌜ Room (now slots) size ⌝ }
     ensures { λ r. ⌜ FirstFree (now (slots .entry)) size hash r ⌝ }
 {
@@ -42,22 +41,6 @@ fn free_place(slots: &[u32], size: usize, hash: u64) -> usize
         }
     }
     free_from(slots, size, home)
-}
-
-// The first free place from a hash on, by windows one after another, if one that ends within the table has it.
-pub(crate) fn free_near(slots: &[u32], size: usize, hash: u64) -> Place
-    requires { ⌜ TableSize size × (size ≤ length (now slots)) ⌝ }
-    ensures { λ r. ⌜ FreeNear (now (slots .entry)) size hash r ⌝ }
-{
-    let mut at = modulo_size(hash as usize, size);
-    while FREE_WINDOW <= size - at {
-        let first = first_empty(slots, at);
-        if first < FREE_WINDOW {
-            return Place::Free(at + first);
-        }
-        at += FREE_WINDOW;
-    }
-    Place::Nowhere
 }
 
 // An id in the first free place from its hash.

@@ -3,7 +3,7 @@
 ghost use Prim.Native.Nat.{_*_, _%_, _^_};
 ghost use mathlib.Core.Path.{_≡_};
 ghost use mathlib.Core.List.{[], _∷_};
-ghost use Rattle.hash.specs.Fnv.{printed, fnvFrom, bytes32, bytes64, childrenBytes, nodeHashOf};
+ghost use Rattle.hash.specs.Fnv.{offsetBasis, printed, fnvFrom, bytes32, bytes64, childrenBytes, nodeHashOf};
 use std::num::wrapping_add_u64;
 
 const OFFSET_BASIS: u64 = 14_695_981_039_346_656_037;
@@ -89,11 +89,37 @@ fn add_children(h: u64, children: &[u64]) -> u64
     sum
 }
 
+// The kind byte and the payload.
+fn start(kind: u64, payload: u64) -> u64
+    ensures { λ r. ⌜ r ≡ fnvFrom offsetBasis (kind ∷ bytes64 payload) ⌝ }
+{
+    let with_kind = add_byte(OFFSET_BASIS, kind);
+    add_u64(with_kind, payload)
+}
+
 // The hash of a node.
 pub fn node_hash(kind: u64, payload: u64, children: &[u64]) -> u64
     ensures { λ r. ⌜ r ≡ nodeHashOf kind payload (now (children .entry)) ⌝ }
 {
-    let with_kind = add_byte(OFFSET_BASIS, kind);
-    let with_payload = add_u64(with_kind, payload);
-    add_children(with_payload, children)
+    add_children(start(kind, payload), children)
+}
+
+// The children, each as four bytes, lent as ids.
+fn add_ids(h: u64, children: &[u32]) -> u64
+    ensures { λ r. ⌜ r ≡ fnvFrom h (childrenBytes (now (children .entry))) ⌝ }
+{
+    let mut sum = h;
+    let mut i: usize = 0;
+    while i < children.len() {
+        sum = add_u32(sum, children[i] as u64);
+        i += 1;
+    }
+    sum
+}
+
+// The hash of a node whose children are lent as ids.
+pub fn key_hash(kind: u64, payload: u64, children: &[u32]) -> u64
+    ensures { λ r. ⌜ r ≡ nodeHashOf kind payload (now (children .entry)) ⌝ }
+{
+    add_ids(start(kind, payload), children)
 }

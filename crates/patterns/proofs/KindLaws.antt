@@ -5,12 +5,10 @@ use mathlib.Core.Bool.{true, false}
 use mathlib.Core.List.{List, [], _∷_}
 use mathlib.Core.Option.{Option, none, some}
 use mathlib.Core.Logic.{_⊎_, inl, inr}
-use lib.ListN.{length, getD, take}
-use lib.Seq.{length-take-le}
+use lib.ListN.{length, getD}
 use lib.Ieee.{Float}
 use native.Mathlib.Omega.{arith}
 use borrow.Author.Tests.{ne-eqb}
-use Rattle.definitions.specs.Limits.{mostChildren}
 use Rattle.definitions.specs.Node.{Node, at, addKind, subKind, mulKind, divKind, powKind, negKind}
 use Rattle.definitions.specs.Intern.{Lent, Built}
 use Rattle.definitions.specs.Walk.{Mode, standard, strict}
@@ -125,14 +123,17 @@ no-pattern strict l ns k (a ∷ []) u v = rw (ne-eqb k negKind (u refl)) refl
 no-pattern strict l ns k (a ∷ b ∷ []) u v = no-strict-binary l ns k a b (v refl)
 no-pattern strict l ns k (a ∷ b ∷ c ∷ r) u v = refl
 
--- the four child places, written out
-pub four-places : (c : List ℕ) → length c ≡ mostChildren → c ≡ getD c 0 0 ∷ getD c 1 0 ∷ getD c 2 0 ∷ getD c 3 0 ∷ []
-four-places [] e = absurd (omega arith)
-four-places (a ∷ []) e = absurd (omega arith)
-four-places (a ∷ b ∷ []) e = absurd (omega arith)
-four-places (a ∷ b ∷ c ∷ []) e = absurd (omega arith)
-four-places (a ∷ b ∷ c ∷ d ∷ []) e = refl
-four-places (a ∷ b ∷ c ∷ d ∷ x ∷ l) e = absurd (omega arith)
+-- one child, and two, written out
+one-of : (c : List ℕ) → length c ≡ 1 → c ≡ getD c 0 0 ∷ []
+one-of [] e = absurd (omega arith)
+one-of (a ∷ []) e = refl
+one-of (a ∷ b ∷ c) e = absurd (omega arith)
+
+two-of : (c : List ℕ) → length c ≡ 2 → c ≡ getD c 0 0 ∷ getD c 1 0 ∷ []
+two-of [] e = absurd (omega arith)
+two-of (a ∷ []) e = absurd (omega arith)
+two-of (a ∷ b ∷ []) e = refl
+two-of (a ∷ b ∷ c ∷ d) e = absurd (omega arith)
 
 -- an operator of two operands in a mode
 pub standard-applies : {m : Mode} → m ≡ standard → (k : ℕ) (c : List ℕ) (l : Lent) (ns : List Node) → tryApply l ns k c ≡ applyAs m l ns k c
@@ -143,20 +144,18 @@ pub strict-applies : {m : Mode} → m ≡ strict → (k : ℕ) (c : List ℕ) (l
 unfolding applyAs
 strict-applies e k c l ns = rw e refl
 
-module _ (m : Mode) (k n : ℕ) (c : List ℕ) (len : length c ≡ 4) where
+module _ (m : Mode) (k : ℕ) (c : List ℕ) where
   negated : (m : Mode) (l : Lent) (ns : List Node) (a : ℕ) → negDouble ns a ≡ applyAs m l ns negKind (a ∷ [])
   unfolding applyAs tryApply strictApply
   negated standard l ns a = refl
   negated strict l ns a = refl
 
-  pub one-child : n ≡ 1 → k ≡ negKind → (l : Lent) (ns : List Node) → negDouble ns (getD c 0 0) ≡ applyAs m l ns k (take n c)
-  one-child e h l ns = rw (e, h) (negated m l ns (getD c 0 0) ∙ ap (λ (d : List ℕ). applyAs m l ns negKind (take 1 d)) (sym (four-places c len)))
+  pub one-child : length c ≡ 1 → k ≡ negKind → (l : Lent) (ns : List Node) → negDouble ns (getD c 0 0) ≡ applyAs m l ns k c
+  one-child e h l ns = rw h (negated m l ns (getD c 0 0) ∙ ap (applyAs m l ns negKind) (sym (one-of c e)))
 
-  pub two-children : n ≡ 2 → (l : Lent) (ns : List Node) → applyAs m l ns k (getD c 0 0 ∷ getD c 1 0 ∷ []) ≡ applyAs m l ns k (take n c)
-  two-children e l ns = rw e (ap (λ (d : List ℕ). applyAs m l ns k (take 2 d)) (sym (four-places c len)))
+  pub two-children : length c ≡ 2 → (l : Lent) (ns : List Node) → applyAs m l ns k (getD c 0 0 ∷ getD c 1 0 ∷ []) ≡ applyAs m l ns k c
+  two-children e l ns = ap (applyAs m l ns k) (sym (two-of c e))
 
   -- no pattern for the number of children, or for the kind
-  pub nothing-fits : n ≤ 4 → (n ≡ 1 → k ≡ negKind → ⊥) → (n ≡ 2 → (k < addKind) ⊎ (powKind < k)) → (l : Lent) (ns : List Node) → none ≡ applyAs m l ns k (take n c)
-  nothing-fits h u v l ns =
-      let e : length (take n c) ≡ n = length-take-le n c (omega arith) in
-      no-pattern m l ns k (take n c) (λ x. u (sym e ∙ x)) (λ x. v (sym e ∙ x))
+  pub nothing-fits : (length c ≡ 1 → k ≡ negKind → ⊥) → (length c ≡ 2 → (k < addKind) ⊎ (powKind < k)) → (l : Lent) (ns : List Node) → none ≡ applyAs m l ns k c
+  nothing-fits u v l ns = no-pattern m l ns k c u v

@@ -3,7 +3,7 @@ use Prim.Native.Nat.{ℕ, _<_, _≤_}
 use mathlib.Core.Path.{_≡_}
 use mathlib.Core.List.{List}
 use mathlib.Core.Option.{Option, none, some}
-use lib.ListN.{getD}
+use lib.ListN.{length, getD}
 use Rattle.arena.specs.declared.DagArena.{DagArena}
 use Rattle.definitions.specs.Limits.{mostChildren}
 use Rattle.definitions.specs.Node.{Node}
@@ -18,14 +18,14 @@ use Rattle.patterns.specs.declared.Matched.{Matched}
 use Rattle.patterns.specs.declared.Matched.the-variants.{Declined, Id, Refused}
 
 -- the children are nodes of the store, as many as a node may have at most
-pub record Operands (count arity : ℕ) (children : List ℕ) : Type 0 where
-  pub few : arity ≤ mostChildren
-  pub low : (j : ℕ) → j < arity → getD children j 0 < count
+pub record Operands (count : ℕ) (children : List ℕ) : Type 0 where
+  pub few : length children ≤ mostChildren
+  pub low : (j : ℕ) → j < length children → getD children j 0 < count
 
 -- the same, for reading
-pub record Ready (w : List ℕ) (count arity : ℕ) (children : List ℕ) : Type 0 where
-  pub few : arity ≤ mostChildren
-  pub lookup : (j : ℕ) → j < arity → Lookup w count (getD children j 0)
+pub record Ready (w : List ℕ) (count : ℕ) (children : List ℕ) : Type 0 where
+  pub few : length children ≤ mostChildren
+  pub lookup : (j : ℕ) → j < length children → Lookup w count (getD children j 0)
 
 -- an answer over the nodes after it: no pattern fits, or the nodes with the id, or the nodes with the refusal
 abbrev pub plainMatched : Matched → List Node → Option I.Built

@@ -4,7 +4,6 @@ ghost use Rattle.store.specs.View.{Sound};
 ghost use Rattle.patterns.specs.Carrying.{BuildsBy, constantOf, operatorOf, besideConstant, carried, Number, ReplacementLow, Operand, TwoOperands};
 use crate::Replacement;
 use arena::DagArena;
-use arena::MOST_CHILDREN;
 use arena::REORDERABLE;
 use arena::kind::CONSTANT;
 use store::Answer;
@@ -14,16 +13,7 @@ fn intern_constant(nodes: &mut [u64], slots: &mut [u32], arena: DagArena, bits: 
     requires { ⌜ Number bits × Sound (now nodes) (now slots) arena ⌝ }
     ensures { λ r. ⌜ BuildsBy (constantOf bits) (now (nodes .entry)) (now (slots .entry)) arena (now (nodes .exit)) (now (slots .exit)) r ⌝ }
 {
-    store::intern(
-        nodes,
-        slots,
-        arena,
-        CONSTANT,
-        bits,
-        0,
-        0,
-        [0; MOST_CHILDREN],
-    )
+    store::intern(nodes, slots, arena, CONSTANT, bits, 0, &[])
 }
 
 // An Add or a Mul of two operands.
@@ -38,16 +28,8 @@ fn intern_operator(
     requires { ⌜ TwoOperands (arena .count) kind lhs rhs × Sound (now nodes) (now slots) arena ⌝ }
     ensures { λ r. ⌜ BuildsBy (operatorOf kind (lhs ∷ rhs ∷ [])) (now (nodes .entry)) (now (slots .entry)) arena (now (nodes .exit)) (now (slots .exit)) r ⌝ }
 {
-    store::intern(
-        nodes,
-        slots,
-        arena,
-        kind,
-        0,
-        REORDERABLE,
-        2,
-        [lhs, rhs, 0, 0],
-    )
+    let operands = [lhs as u32, rhs as u32];
+    store::intern(nodes, slots, arena, kind, 0, REORDERABLE, &operands)
 }
 
 // A constant, and then an operator over it and another operand, the constant on the left or on the right. Stopped in between, the

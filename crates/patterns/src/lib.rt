@@ -17,7 +17,6 @@ ghost use Rattle.patterns.specs.Deciding.{Both, Decides, declines};
 ghost use Rattle.patterns.specs.Applied.{Operands, Ready, Applies, appliedOf};
 ghost use Rattle.patterns.specs.Strictly.{applyAs};
 use arena::DagArena;
-use arena::MOST_CHILDREN;
 use arena::kind::ADD;
 use arena::kind::MOD;
 use arena::kind::NEG;
@@ -96,28 +95,28 @@ fn operator_pattern(
 }
 
 // The first pattern that fits a kind over its children. Only operators have patterns.
-fn pattern(
-    nodes: &[u64],
-    count: u64,
-    mode: Mode,
-    kind: u64,
-    children: [u64; MOST_CHILDREN],
-    arity: u64,
-) -> PatternResult
-    requires { ⌜ Ready (now nodes) count arity children ⌝ }
-    ensures { λ r. ⌜ Decides (now (nodes .entry)) count (λ l ns. applyAs (modeOf mode) l ns kind (take arity children)) r ⌝ }
+fn pattern(nodes: &[u64], count: u64, mode: Mode, kind: u64, children: &[u32]) -> PatternResult
+    requires { ⌜ Ready (now nodes) count (now children) ⌝ }
+    ensures { λ r. ⌜ Decides (now (nodes .entry)) count (λ l ns. applyAs (modeOf mode) l ns kind (now (children .entry))) r ⌝ }
 {
     match kind {
         NEG => {
-            if arity == 1 {
-                identities::neg_double(nodes, count, children[0])
+            if children.len() == 1 {
+                identities::neg_double(nodes, count, children[0] as u64)
             } else {
                 PatternResult::Declined
             }
         }
         ADD..=MOD => {
-            if arity == 2 {
-                operator_pattern(nodes, count, mode, kind, children[0], children[1])
+            if children.len() == 2 {
+                operator_pattern(
+                    nodes,
+                    count,
+                    mode,
+                    kind,
+                    children[0] as u64,
+                    children[1] as u64,
+                )
             } else {
                 PatternResult::Declined
             }
@@ -151,14 +150,13 @@ pub fn try_apply(
     arena: DagArena,
     mode: Mode,
     kind: u64,
-    children: [u64; MOST_CHILDREN],
-    arity: u64,
+    children: &[u32],
 ) -> Applied
-    requires { ⌜ Operands (arena .count) arity children × Sound (now nodes) (now slots) arena ⌝ }
-    ensures { λ r. ⌜ Applies (now (nodes .entry)) (now (slots .entry)) arena (applyAs (modeOf mode) (lent (now (nodes .entry)) (now (slots .entry))) (nodesIn (now (nodes .entry)) (arena .count)) kind (take arity children)) (now (nodes .exit)) (now (slots .exit)) r ⌝ }
+    requires { ⌜ Operands (arena .count) (now children) × Sound (now nodes) (now slots) arena ⌝ }
+    ensures { λ r. ⌜ Applies (now (nodes .entry)) (now (slots .entry)) arena (applyAs (modeOf mode) (lent (now (nodes .entry)) (now (slots .entry))) (nodesIn (now (nodes .entry)) (arena .count)) kind (now (children .entry))) (now (nodes .exit)) (now (slots .exit)) r ⌝ }
 {
     let count = arena.count;
-    let result = pattern(nodes, count, mode, kind, children, arity);
+    let result = pattern(nodes, count, mode, kind, children);
     match result {
         PatternResult::Fits(replacement) => answered(carrying::carry_out(
             nodes,

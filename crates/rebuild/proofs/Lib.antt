@@ -1,2 +1,1 @@
-pub mod ChildPlaces
 pub mod Rebuilding

@@ -1,8 +1,8 @@
 -- What a finished frame gives.
-use Prim.Native.Nat.{ℕ, _<_, _≤_}
+use Prim.Native.Nat.{ℕ, _<_}
 use mathlib.Core.Path.{_≡_}
 use mathlib.Core.List.{List, _∷_}
-use lib.ListN.{length, getD, take, set}
+use lib.ListN.{length, getD, set}
 use Rattle.definitions.specs.Node.{Node, at}
 use Rattle.definitions.specs.Walk as W
 use Rattle.definitions.specs.Walk.{Mode, marked, rebuildAs, Frame, Turn, go, stop}
@@ -13,16 +13,12 @@ use Rattle.store.specs.declared.Answer.{Answer}
 use Rattle.store.specs.declared.Answer.the-variants.{Id, Refused}
 use Rattle.rebuild.specs.Memory.{Memory, Sound, nodesOf, lentOf, Keeps}
 
--- new children of a node, in four places: as many as it has, of the store, and unused places 0
-pub record Rebuildable (m : Memory) (id : ℕ) (places : List ℕ) : Type 0 where
+-- new children of a node: as many as it has, of the store
+pub record Rebuildable (m : Memory) (id : ℕ) (children : List ℕ) : Type 0 where
   pub sound : Sound m
   pub below : id < m .arena .count
-  pub lower : (place : ℕ) → place < length (at (nodesOf m) id .children) → getD places place 0 < m .arena .count
-  pub unused : (place : ℕ) → length (at (nodesOf m) id .children) ≤ place → getD places place 0 ≡ 0
-
--- the new children
-abbrev pub newChildren : Memory → ℕ → List ℕ → List ℕ
-newChildren m id places = take (length (at (nodesOf m) id .children)) places
+  pub many : length children ≡ length (at (nodesOf m) id .children)
+  pub lower : (place : ℕ) → place < length children → getD children place 0 < m .arena .count
 
 -- the result as a value, or the refusal
 abbrev pub finished : Answer → List Node → List Frame → List ℕ → Turn
@@ -35,7 +31,7 @@ pub record MarkedAs (mode : Mode) (words : List ℕ) (count id : ℕ) (words′ 
   pub kept : (slots : List ℕ) (arena : DagArena) → arena .count ≡ count → View.Sound words slots arena → Kept words slots arena words′ slots arena
 
 -- "A finished frame is rebuilt and its result marked" as its mode has it, whatever frames and values lie under it
-pub record Finishes (mode : Mode) (m : Memory) (id : ℕ) (places : List ℕ) (answer : Answer) (m′ : Memory) : Type 0 where
-  pub plainly : (fs : List Frame) (vs : List ℕ) → finished answer (nodesOf m′) fs vs ≡ W.finish mode fs vs (rebuildAs mode (lentOf m) (nodesOf m) id (newChildren m id places))
+pub record Finishes (mode : Mode) (m : Memory) (id : ℕ) (children : List ℕ) (answer : Answer) (m′ : Memory) : Type 0 where
+  pub plainly : (fs : List Frame) (vs : List ℕ) → finished answer (nodesOf m′) fs vs ≡ W.finish mode fs vs (rebuildAs mode (lentOf m) (nodesOf m) id children)
   pub kept : Keeps m m′
   pub low : Low answer (m′ .arena .count)

@@ -1,15 +1,13 @@
 // What a finished frame of the walk gives (01, "engine: the walk"): rebuild_or_match, and the result's mark.
 ghost use mathlib.Core.Path.{_≡_};
 ghost use mathlib.Core.Option.{none};
-ghost use Rattle.definitions.specs.Node.{sameChildren};
 ghost use Rattle.definitions.specs.Modes.{modeOf};
 ghost use Rattle.definitions.specs.Walk.{rebuiltFlags, rebuilt, rebuildAs};
 ghost use Rattle.store.specs.Lookup.{Lookup};
 ghost use Rattle.store.specs.View.{nodesIn, lent, Builds};
 ghost use Rattle.rebuild.specs.Memory.{memory};
-ghost use Rattle.rebuild.specs.Rebuild.{Rebuildable, newChildren, MarkedAs, Finishes};
+ghost use Rattle.rebuild.specs.Rebuild.{Rebuildable, MarkedAs, Finishes};
 use arena::DagArena;
-use arena::MOST_CHILDREN;
 use arena::REORDERABLE;
 use arena::kind::ADD;
 use arena::kind::MUL;
@@ -40,36 +38,19 @@ fn rebuilt_flags(kind: u64, arity: u64) -> u64
     OTHER_FLAGS
 }
 
-// Whether two times four child places agree.
-fn same_places(a: [u64; MOST_CHILDREN], b: [u64; MOST_CHILDREN]) -> bool
-    ensures { λ r. ⌜ r ≡ sameChildren a b ⌝ }
-{
-    if a[0] != b[0] {
-        return false;
-    }
-    if a[1] != b[1] {
-        return false;
-    }
-    if a[2] != b[2] {
-        return false;
-    }
-    a[3] == b[3]
-}
-
 // The node itself where the children are the old ones, or a node anew.
 fn rebuild(
     nodes: &mut [u64],
     slots: &mut [u32],
     arena: DagArena,
     id: u64,
-    children: [u64; MOST_CHILDREN],
+    children: &[u32],
 ) -> Built
-    requires { ⌜ Rebuildable (memory (now nodes) (now slots) arena) id children ⌝ }
-    ensures { λ r. ⌜ Builds (now (nodes .entry)) (now (slots .entry)) arena (rebuilt (lent (now (nodes .entry)) (now (slots .entry))) (nodesIn (now (nodes .entry)) (arena .count)) id (newChildren (memory (now (nodes .entry)) (now (slots .entry)) arena) id children) none) (now (nodes .exit)) (now (slots .exit)) r ⌝ }
+    requires { ⌜ Rebuildable (memory (now nodes) (now slots) arena) id (now children) ⌝ }
+    ensures { λ r. ⌜ Builds (now (nodes .entry)) (now (slots .entry)) arena (rebuilt (lent (now (nodes .entry)) (now (slots .entry))) (nodesIn (now (nodes .entry)) (arena .count)) id (now (children .entry)) none) (now (nodes .exit)) (now (slots .exit)) r ⌝ }
 {
     let count = arena.count;
-    let old = store::children(nodes, count, id);
-    if same_places(old, children) {
+    if store::has_children(nodes, count, id, children) {
         return Built {
             answer: Answer::Id(id),
             arena,
@@ -77,9 +58,8 @@ fn rebuild(
     }
     let kind = store::kind(nodes, count, id);
     let payload = store::payload(nodes, count, id);
-    let arity = store::arity(nodes, count, id);
-    let flags = rebuilt_flags(kind, arity);
-    store::intern(nodes, slots, arena, kind, payload, flags, arity, children)
+    let flags = rebuilt_flags(kind, children.len() as u64);
+    store::intern(nodes, slots, arena, kind, payload, flags, children)
 }
 
 // The first pattern of a mode that fits a node over new children, or the node rebuilt.
@@ -89,15 +69,14 @@ fn rebuild_or_match(
     arena: DagArena,
     mode: Mode,
     id: u64,
-    children: [u64; MOST_CHILDREN],
+    children: &[u32],
 ) -> Built
-    requires { ⌜ Rebuildable (memory (now nodes) (now slots) arena) id children ⌝ }
-    ensures { λ r. ⌜ Builds (now (nodes .entry)) (now (slots .entry)) arena (rebuildAs (modeOf mode) (lent (now (nodes .entry)) (now (slots .entry))) (nodesIn (now (nodes .entry)) (arena .count)) id (newChildren (memory (now (nodes .entry)) (now (slots .entry)) arena) id children)) (now (nodes .exit)) (now (slots .exit)) r ⌝ }
+    requires { ⌜ Rebuildable (memory (now nodes) (now slots) arena) id (now children) ⌝ }
+    ensures { λ r. ⌜ Builds (now (nodes .entry)) (now (slots .entry)) arena (rebuildAs (modeOf mode) (lent (now (nodes .entry)) (now (slots .entry))) (nodesIn (now (nodes .entry)) (arena .count)) id (now (children .entry))) (now (nodes .exit)) (now (slots .exit)) r ⌝ }
 {
     let count = arena.count;
     let kind = store::kind(nodes, count, id);
-    let arity = store::arity(nodes, count, id);
-    let applied = patterns::try_apply(nodes, slots, arena, mode, kind, children, arity);
+    let applied = patterns::try_apply(nodes, slots, arena, mode, kind, children);
     let after = applied.arena;
     let matched = applied.matched;
     match matched {
@@ -131,10 +110,10 @@ pub fn finish(
     arena: DagArena,
     mode: Mode,
     id: u64,
-    children: [u64; MOST_CHILDREN],
+    children: &[u32],
 ) -> Built
-    requires { ⌜ Rebuildable (memory (now nodes) (now slots) arena) id children ⌝ }
-    ensures { λ r. ⌜ Finishes (modeOf mode) (memory (now (nodes .entry)) (now (slots .entry)) arena) id children (r .answer) (memory (now (nodes .exit)) (now (slots .exit)) (r .arena)) ⌝ }
+    requires { ⌜ Rebuildable (memory (now nodes) (now slots) arena) id (now children) ⌝ }
+    ensures { λ r. ⌜ Finishes (modeOf mode) (memory (now (nodes .entry)) (now (slots .entry)) arena) id (now (children .entry)) (r .answer) (memory (now (nodes .exit)) (now (slots .exit)) (r .arena)) ⌝ }
 {
     let built = rebuild_or_match(nodes, slots, arena, mode, id, children);
     let after = built.arena;

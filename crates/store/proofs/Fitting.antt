@@ -1,5 +1,5 @@
 -- Nodes that may be interned: a constant, and an operator of two operands with the flags that `add` and `mul` give.
-use Prim.Native.Nat.{ℕ, zero, suc, _≤_, _<_}
+use Prim.Native.Nat.{ℕ, zero, suc, _<_}
 use mathlib.Core.Path.{_≡_, refl, ap}
 use mathlib.Core.Bool.{Bool, true, false, not, _&&_}
 use mathlib.Core.List.{[], _∷_}
@@ -19,27 +19,19 @@ no-children (suc (suc zero)) = refl
 no-children (suc (suc (suc zero))) = refl
 no-children (suc (suc (suc (suc j)))) = refl
 
-pub constant-fits : (count b : ℕ) → nanBits binary64 b ≡ false → Fits count constantKind b 0 0 (0 ∷ 0 ∷ 0 ∷ 0 ∷ [])
+pub constant-fits : (count b : ℕ) → nanBits binary64 b ≡ false → Fits count constantKind b 0 []
 unfolding listed operatorArity
-constant-fits count b n = record { listing = ap (λ (t : Bool). not t && true) n; unmarked = omega arith; few = omega arith; lower = λ j h. absurd (omega arith); unused = λ j h. no-children j }
+constant-fits count b n = record { listing = ap (λ (t : Bool). not t && true) n; unmarked = omega arith; few = omega arith; lower = λ j h. absurd (omega arith) }
 
-both-low : (a b count : ℕ) → a < count → b < count → (j : ℕ) → j < 2 → getD (a ∷ b ∷ 0 ∷ 0 ∷ []) j 0 < count
+both-low : (a b count : ℕ) → a < count → b < count → (j : ℕ) → j < 2 → getD (a ∷ b ∷ []) j 0 < count
 both-low a b count x y zero l = x
 both-low a b count x y (suc zero) l = y
 both-low a b count x y (suc (suc j)) l = absurd (omega arith)
 
-none-after : (a b j : ℕ) → 2 ≤ j → getD (a ∷ b ∷ 0 ∷ 0 ∷ []) j 0 ≡ 0
-none-after a b zero h = absurd (omega arith)
-none-after a b (suc zero) h = absurd (omega arith)
-none-after a b (suc (suc zero)) h = refl
-none-after a b (suc (suc (suc zero))) h = refl
-none-after a b (suc (suc (suc (suc j)))) h = refl
-
-pub operator-fits : (count k a b : ℕ) → listed k 0 2 ≡ true → a < count → b < count → Fits count k 0 bothFlags 2 (a ∷ b ∷ 0 ∷ 0 ∷ [])
+pub operator-fits : (count k a b : ℕ) → listed k 0 2 ≡ true → a < count → b < count → Fits count k 0 bothFlags (a ∷ b ∷ [])
 operator-fits count k a b listing left right = record {
   listing = listing;
   unmarked = omega arith;
   few = omega arith;
   lower = both-low a b count left right;
-  unused = none-after a b;
 }

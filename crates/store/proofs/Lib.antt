@@ -3,9 +3,7 @@ pub mod Sizes
 pub mod Keeping
 pub mod Stored
 pub mod Refining
-pub mod Stopping
-pub mod Numbers
-pub mod Decoding
+pub mod Likely
 pub mod Reading
 pub mod NewNodes
 pub mod Fitting

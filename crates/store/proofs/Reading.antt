@@ -14,11 +14,11 @@ use Rattle.arena.specs.Layout.{nodeWords, mostChildren, kindWord, payloadWord, 
 use Rattle.arena.specs.Node.{wordsFrom, nodeAt, canonical}
 use Rattle.arena.specs.Nodes.{WellFormed}
 use Rattle.arena.proofs.Listing.{listed-few, listed-number}
-use Rattle.arena.proofs.Words.{words-length, words-at}
+use Rattle.arena.proofs.Words.{words-length, words-at, words-are}
 use Rattle.definitions.specs.Node as N
 use Rattle.store.specs.Sound.{Sound}
 use Rattle.store.specs.View.{plainNode, nodesIn, listed}
-use Rattle.store.specs.Lookup.{Lookup, Places}
+use Rattle.store.specs.Lookup.{Lookup}
 use Rattle.store.proofs.Viewing.{at-plain}
 
 module _ (w : List ℕ) (count i : ℕ) (k : Lookup w count i) where
@@ -72,22 +72,9 @@ module _ (w : List ℕ) (count i : ℕ) (k : Lookup w count i) where
   unfolding nodeAt
   child-low j h = subst (λ (x : ℕ). x < i) (sym (taken j h)) (formed .places .lower j (omega (arith, arity-is)))
 
-  unused-words : (j : ℕ) → arity ≤ j → getD places j 0 ≡ 0
-  unfolding nodeAt
-  unused-words = formed .places .unused
-
-  pub places-are : Places places (n .children)
-  places-are = record {
-    four = words-length mostChildren w (i * nodeWords + childrenWord);
-    taken = ap (λ (a : ℕ). take a places) (sym arity-is) ∙ sym children-are;
-    few = few;
-    unused = λ j h. unused-words j (omega (arith, arity-is));
-  }
-
-  -- the places of the node by value
-  pub places-of : (m : DagNode) → m ≡ nodeAt w i → Places (m .children) (n .children)
-  unfolding nodeAt
-  places-of m e = subst (λ (x : DagNode). Places (x .children) (n .children)) (sym e) places-are
+  -- the words of the children, and the children
+  pub used-are : wordsFrom (length (n .children)) w (i * nodeWords + childrenWord) ≡ n .children
+  used-are = sym (words-are (length (n .children)) w (i * nodeWords + childrenWord) (n .children) refl (λ j l. sym (child-is j l)))
 
 -- ids of a sound store may be looked up, and their nodes are as listed
 module _ (w slots : List ℕ) (s : DagArena) (h : Sound w slots s) (i : ℕ) (l : i < s .count) where

@@ -18,12 +18,11 @@ use Rattle.arena.specs.Node.{put}
 use Rattle.arena.specs.Nodes.{WellFormed}
 use Rattle.arena.proofs.Putting.{put-past, put-old, put-new}
 use Rattle.arena.proofs.Finding.{found-at}
-use Rattle.dedup.specs.declared.Interned.{Interned}
 use Rattle.dedup.specs.declared.Answer as DA
 use Rattle.dedup.specs.declared.Answer.the-variants as DV
 use Rattle.dedup.specs.Table.{Table, hashAt}
 use Rattle.dedup.specs.Intern as D
-use Rattle.dedup.specs.Intern.{answered, newAnswer, internAnswer, wordsAfter}
+use Rattle.dedup.specs.Intern.{Interned, answered, newAnswer, internAnswer, wordsAfter}
 use Rattle.dedup.proofs.Inserting.{slots-one}
 use Rattle.definitions.specs.Node as N
 use Rattle.definitions.specs.Refusals.{noNodePlace, noSlotPlace}

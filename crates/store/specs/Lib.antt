@@ -4,4 +4,3 @@ pub mod Lookup
 pub mod Stored
 pub mod Memory
 pub mod Interning
-pub mod Number

@@ -3,7 +3,7 @@ use Prim.Native.Nat.{ℕ, _<_, _≤_}
 use mathlib.Core.Path.{_≡_}
 use mathlib.Core.Bool.{true}
 use mathlib.Core.List.{List}
-use lib.ListN.{length, getD, take, set}
+use lib.ListN.{length, getD, set}
 use Rattle.definitions.specs.Node.{at}
 use Rattle.definitions.specs.Walk.{standard, marked}
 use Rattle.arena.specs.declared.DagArena.{DagArena}
@@ -18,22 +18,14 @@ pub record Lookup (words : List ℕ) (count id : ℕ) : Type 0 where
   pub below : id < count
   pub nodes : Nodes words count
 
--- child places that hold a list of children, unused places 0
-pub record Places (places children : List ℕ) : Type 0 where
-  pub four : length places ≡ mostChildren
-  pub taken : take (length children) places ≡ children
-  pub few : length children ≤ mostChildren
-  pub unused : (j : ℕ) → length children ≤ j → getD places j 0 ≡ 0
-
 -- the nodes with one more mark
 pub record Marked (words : List ℕ) (count id : ℕ) (words′ : List ℕ) : Type 0 where
   pub is : nodesIn words′ count ≡ set (nodesIn words count) id (marked standard (at (nodesIn words count) id))
   pub kept : (slots : List ℕ) (arena : DagArena) → arena .count ≡ count → Sound words slots arena → Kept words slots arena words′ slots arena
 
--- a node that may be interned: kind, payload and child count as listed, children of the store, unused places 0
-pub record Fits (count kind payload flags arity : ℕ) (children : List ℕ) : Type 0 where
-  pub listing : listed kind payload arity ≡ true
+-- a node that may be interned: kind, payload and child count as listed, children of the store
+pub record Fits (count kind payload flags : ℕ) (children : List ℕ) : Type 0 where
+  pub listing : listed kind payload (length children) ≡ true
   pub unmarked : flags < canonical
-  pub few : arity ≤ mostChildren
-  pub lower : (j : ℕ) → j < arity → getD children j 0 < count
-  pub unused : (j : ℕ) → arity ≤ j → getD children j 0 ≡ 0
+  pub few : length children ≤ mostChildren
+  pub lower : (j : ℕ) → j < length children → getD children j 0 < count

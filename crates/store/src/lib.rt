@@ -4,25 +4,16 @@ pub mod lookup;
 
 pub use interning::intern;
 pub use interning::intern_likely;
-pub use interning::intern_node;
-pub use interning::intern_number;
-pub use interning::intern_over_newest;
 pub use lookup::arity;
 pub use lookup::child;
-pub use lookup::children;
+pub use lookup::has_children;
 pub use lookup::is_canonical;
 pub use lookup::kind;
 pub use lookup::mark;
 pub use lookup::payload;
-ghost use mathlib.Core.Path.{_≡_};
 ghost use Rattle.definitions.specs.Says.{Says};
-ghost use Rattle.store.specs.Number.{answerIn};
 ghost use Rattle.store.specs.Sound.{Sound};
 use arena::DagArena;
-use arena::MOST_NODES;
-
-// An answer as one number: an id is below this, and a refusal's number is added to it.
-pub const REFUSALS: u64 = MOST_NODES;
 
 // The id of a node, or the number of a refusal.
 pub enum Answer {
@@ -34,17 +25,6 @@ pub enum Answer {
 pub struct Built {
     pub answer: Answer,
     pub arena: DagArena,
-}
-
-// The answer that a number stands for.
-pub fn answer_in(number: u64) -> Answer
-    ensures { λ r. ⌜ r ≡ answerIn number ⌝ }
-{
-    if REFUSALS <= number {
-        Answer::Refused(number - REFUSALS)
-    } else {
-        Answer::Id(number)
-    }
 }
 
 // Whether the store is sound.

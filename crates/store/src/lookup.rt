@@ -4,16 +4,14 @@ ghost use Prim.Native.Nat.{ℕ, _<_};
 ghost use lib.ListN.{length, getD};
 ghost use Rattle.definitions.specs.Node as N;
 ghost use Rattle.store.specs.View.{nodesIn};
-ghost use Rattle.store.specs.Lookup.{Lookup, Places, Marked};
+ghost use Rattle.store.specs.Lookup.{Lookup, Marked};
 use arena::ARITY;
 use arena::CANONICAL;
 use arena::CHILDREN;
 use arena::FLAGS;
 use arena::KIND;
-use arena::MOST_CHILDREN;
 use arena::NODE_WORDS;
 use arena::PAYLOAD;
-use arena::load;
 
 // The kind of a node.
 pub fn kind(nodes: &[u64], count: u64, id: u64) -> u64
@@ -55,13 +53,12 @@ pub fn child(nodes: &[u64], count: u64, id: u64, place: usize) -> u64
     nodes[id as usize * NODE_WORDS + CHILDREN + place]
 }
 
-// The child places of a node.
-pub fn children(nodes: &[u64], count: u64, id: u64) -> [u64; MOST_CHILDREN]
-    requires { ⌜ Lookup (now nodes) count id ⌝ }
-    ensures { λ r. ⌜ Places r (N.at (nodesIn (now (nodes .entry)) count) id .children) ⌝ }
+// Whether a node's children are these, as many as it has.
+pub fn has_children(nodes: &[u64], count: u64, id: u64, children: &[u32]) -> bool
+    requires { ⌜ (length (now children) ≡ length (N.at (nodesIn (now nodes) count) id .children)) × Lookup (now nodes) count id ⌝ }
+    ensures { λ r. ⌜ r ≡ N.sameChildren (N.at (nodesIn (now (nodes .entry)) count) id .children) (now (children .entry)) ⌝ }
 {
-    let node = load(nodes, id);
-    node.children
+    arena::has_children(nodes, id as usize * NODE_WORDS + CHILDREN, children)
 }
 
 // A node's mark set.

@@ -8,6 +8,6 @@ use Rattle.store.specs.View.{listed}
 use Rattle.store.specs.Lookup.{Fits}
 use Rattle.store.proofs.Fitting.{operator-fits}
 
-pub add-fits : (count left right : ℕ) → left < count → right < count → Fits count addKind 0 bothFlags 2 (left ∷ right ∷ 0 ∷ 0 ∷ [])
+pub add-fits : (count left right : ℕ) → left < count → right < count → Fits count addKind 0 bothFlags (left ∷ right ∷ [])
 unfolding listed operatorArity
 add-fits count left right = operator-fits count addKind left right refl

@@ -14,7 +14,7 @@ use Rattle.store.specs.declared.Answer.{Answer}
 use Rattle.store.specs.declared.Answer.the-variants.{Id, Refused}
 use Rattle.store.specs.View.{nodesIn, lent, Sound, Kept, Builds}
 use Rattle.store.proofs.Keeping.{kept-refl, kept-trans}
-use Rattle.store.proofs.Decoding.{is-id, is-refused}
+use Rattle.sums.proofs.Decoding.{is-id, is-refused}
 use Rattle.sums.specs.Sums.{AddsNumber, Summed, Joined, ended, refused, waits, added, Joins}
 
 -- a kept store has the same places

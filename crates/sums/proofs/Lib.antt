@@ -1,3 +1,6 @@
+pub mod Stopping
+pub mod Numbers
+pub mod Decoding
 pub mod Halving
 pub mod Parts
 pub mod Resuming

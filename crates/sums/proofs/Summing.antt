@@ -18,9 +18,9 @@ use Rattle.store.specs.declared.Built.{Built}
 use Rattle.store.specs.declared.Answer.{Answer}
 use Rattle.store.specs.declared.Answer.the-variants.{Id, Refused}
 use Rattle.store.specs.View.{nodesIn, lent, Sound, Kept, Builds}
-use Rattle.store.specs.Number.{numberOf, BuildsNumber}
+use Rattle.sums.specs.Number.{numberOf, BuildsNumber}
 use Rattle.store.proofs.Keeping.{kept-refl, kept-trans}
-use Rattle.store.proofs.Decoding.{is-id, number-stays, refusal-stays}
+use Rattle.sums.proofs.Decoding.{is-id, number-stays, refusal-stays}
 use Rattle.sums.specs.Sums.{mostPending, part, Inside, Summable, Zero, Sums, AddsNumber, SumsNumber, Splits, Summed, Joined, Joins}
 use Rattle.sums.proofs.Parts.{part-length, term-below, part-below}
 use Rattle.sums.proofs.Halving.{sum-of-none}

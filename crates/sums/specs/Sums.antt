@@ -12,7 +12,7 @@ use Rattle.definitions.specs.Prune.{sumOfKept}
 use Rattle.arena.specs.declared.DagArena.{DagArena}
 use Rattle.store.specs.declared.Built.{Built}
 use Rattle.store.specs.View.{nodesIn, lent, Sound, Builds}
-use Rattle.store.specs.Number.{BuildsNumber}
+use Rattle.sums.specs.Number.{BuildsNumber}
 use Rattle.chains.specs.Terms.{AllBelow}
 
 -- ---- terms in an array

@@ -4,16 +4,17 @@ ghost use mathlib.Core.Path.{_≡_};
 ghost use lib.ListN.{length};
 ghost use Rattle.arena.specs.Layout.{arenaOf};
 ghost use Rattle.store.specs.View.{Sound};
+ghost use Rattle.sums.specs.Number.{answerIn};
 ghost use Rattle.sums.specs.Sums.{mostPending, part, Inside, Summable, Zero, Sums, AddsNumber, SumsNumber, Few, Splits, Summed, Joins};
 use arena::DagArena;
+use arena::MOST_NODES;
 use arena::REORDERABLE;
 use arena::kind::ADD;
 use arena::kind::CONSTANT;
 use chains::MOST_TERMS;
 use fold::BITS_OF_ZERO;
+use store::Answer;
 use store::Built;
-use store::REFUSALS;
-use store::answer_in;
 
 // At most so many halvings of at most 4,096 terms are not done at a time.
 const MOST_PENDING: usize = 12;
@@ -26,21 +27,26 @@ fn zero(nodes: &mut [u64], slots: &mut [u32], arena: DagArena) -> Built
     requires { ⌜ Sound (now nodes) (now slots) arena ⌝ }
     ensures { λ r. ⌜ Zero (now (nodes .entry)) (now (slots .entry)) arena (now (nodes .exit)) (now (slots .exit)) r ⌝ }
 {
-    store::intern(
-        nodes,
-        slots,
-        arena,
-        CONSTANT,
-        BITS_OF_ZERO,
-        0,
-        0,
-        [0, 0, 0, 0],
-    )
+    store::intern(nodes, slots, arena, CONSTANT, BITS_OF_ZERO, 0, &[])
 }
 
-// The sum of two terms, as a number. Sums made one after another have ids one after another, so that a prune done again
+// An answer as one number: an id is below this, and a refusal's number is added to it.
+const REFUSALS: u64 = MOST_NODES;
+
+// The answer that a number stands for.
+fn answer_in(number: u64) -> Answer
+    ensures { λ r. ⌜ r ≡ answerIn number ⌝ }
+{
+    if REFUSALS <= number {
+        Answer::Refused(number - REFUSALS)
+    } else {
+        Answer::Id(number)
+    }
+}
+
+// The sum of two terms or of two sums, as a number. Sums made one after another have ids one after another, so that a prune done again
 // finds most sums at the id after the last one: it is looked at first.
-fn add_terms(
+fn add(
     nodes: &mut [u64],
     slots: &mut [u32],
     count: &mut u64,
@@ -52,8 +58,8 @@ fn add_terms(
     requires { ⌜ (left < now count) × (right < now count) × Sound (now nodes) (now slots) (arenaOf (now count) (now size)) ⌝ }
     ensures { λ r. ⌜ AddsNumber (now (nodes .entry)) (now (slots .entry)) (arenaOf (now (count .entry)) (now (size .entry))) left right (now (nodes .exit)) (now (slots .exit)) r (arenaOf (now (count .exit)) (now (size .exit))) ⌝ }
 {
-    let likely = *next;
-    let number = store::intern_likely(
+    let operands = [left as u32, right as u32];
+    let answer = store::intern_likely(
         nodes,
         slots,
         count,
@@ -61,42 +67,16 @@ fn add_terms(
         ADD,
         0,
         ADD_FLAGS,
-        2,
-        [left, right, 0, 0],
-        likely,
+        &operands,
+        *next,
     );
-    *next = number + 1;
-    number
-}
-
-// The same for sums of halves, of which the second most often is the newest node.
-fn add_sums(
-    nodes: &mut [u64],
-    slots: &mut [u32],
-    count: &mut u64,
-    size: &mut usize,
-    next: &mut u64,
-    left: u64,
-    right: u64,
-) -> u64
-    requires { ⌜ (left < now count) × (right < now count) × Sound (now nodes) (now slots) (arenaOf (now count) (now size)) ⌝ }
-    ensures { λ r. ⌜ AddsNumber (now (nodes .entry)) (now (slots .entry)) (arenaOf (now (count .entry)) (now (size .entry))) left right (now (nodes .exit)) (now (slots .exit)) r (arenaOf (now (count .exit)) (now (size .exit))) ⌝ }
-{
-    let likely = *next;
-    let number = store::intern_over_newest(
-        nodes,
-        slots,
-        count,
-        size,
-        ADD,
-        0,
-        ADD_FLAGS,
-        2,
-        [left, right, 0, 0],
-        likely,
-    );
-    *next = number + 1;
-    number
+    match answer {
+        Answer::Id(id) => {
+            *next = id + 1;
+            id
+        }
+        Answer::Refused(number) => REFUSALS + number,
+    }
 }
 
 // `n` terms halved, and their first half, and so on to one or two terms: the sizes of the second halves are put from a depth on,
@@ -135,7 +115,7 @@ fn sum_of_few(
         return first;
     }
     let second = terms[from + 1] as u64;
-    add_terms(nodes, slots, count, size, next, first, second)
+    add(nodes, slots, count, size, next, first, second)
 }
 
 // A sum added to the sums of the first halves whose second half it ends. The answer is the depth after them, where the
@@ -162,7 +142,7 @@ fn join(
             return from;
         }
         from -= 1;
-        number = add_sums(nodes, slots, count, size, next, lefts[from], number);
+        number = add(nodes, slots, count, size, next, lefts[from], number);
         if REFUSALS <= number {
             lefts[0] = number;
             return 0;

@@ -5,6 +5,7 @@ use mathlib.Core.Bool.{Bool, true, false, cond}
 use mathlib.Core.List.{List, [], _∷_}
 use lib.ListN.{length, getD, take, drop, set, length-set}
 use lib.Dec.{leb, ltb}
+use lib.Seq.{getD-take, length-take-le}
 use native.Mathlib.Omega.{arith}
 use borrow.Author.Tests.{le-leb, lt-leb, lt-ltb, le-ltb}
 use Rattle.definitions.specs.Limits.{mostChildren}
@@ -24,7 +25,7 @@ use Rattle.walk.specs.declared.state.Progress.{Progress}
 use Rattle.walk.specs.declared.state.Status.{Status}
 use Rattle.walk.specs.declared.state.Status.the-variants.{Going, Stopped}
 use Rattle.rebuild.specs.Memory.{Memory, memory, Sound, nodesOf, lentOf, Keeps}
-use Rattle.rebuild.specs.Rebuild.{Rebuildable, newChildren, finished, Finishes}
+use Rattle.rebuild.specs.Rebuild.{Rebuildable, finished, Finishes}
 use Rattle.walk.specs.Stack.{mostFrames, mostValues, Stack, stack, framesOf, valuesOf, framesIn, valuesIn, topId, topCursor, topFrame, framesUnder, ValuesBelow, held, Valid, Whole, Invariant, Gatherable, Gathered}
 use Rattle.walk.specs.Turns.{Descendable, Descends, Ready, turned, turnOf, Turns}
 use Rattle.walk.proofs.Stacks as S
@@ -228,32 +229,35 @@ module _ (m : Memory) (limit : ℕ) (k : Stack) (r : Ready m limit k) where
       from-on : from + cursor ≡ k .filled
       from-on = omega (arith, filled-is)
 
-      pub may-gather : Gatherable (k .filled - topCursor k) (topCursor k)
-      may-gather = record { few = bounds .small; within = omega (arith, from-on, bounds .room) }
+      value-low : (j : ℕ) → j < cursor → getD (k .values) (from + j) 0 < m .arena .count
+      value-low j i = subst (λ (x : ℕ). getD (k .values) (from + j) 0 < x) count-is (S.below-at (length ns) (k .values) (k .filled) (from + j) (valid .4) (omega (arith, from-on)))
+
+      pub may-gather : Gatherable (k .values) (k .filled - topCursor k) (topCursor k)
+      may-gather = record { few = bounds .small; within = omega (arith, from-on, bounds .room); low = λ j i. omega (arith, value-low j i, r .sound .nodes .formed .many) }
 
       module _ (places : List ℕ) (g : Gathered (k .values) (k .filled - topCursor k) (topCursor k) places) where
-        pub rebuildable : Rebuildable m (topId k) places
+        taken-length : length (take cursor places) ≡ cursor
+        taken-length = length-take-le cursor places (omega (arith, g .long, bounds .small))
+
+        pub rebuildable : Rebuildable m (topId k) (take (topCursor k) places)
         rebuildable = record {
           sound = r .sound;
           below = below;
-          lower = λ j q. let i : j < cursor = omega (arith, all-taken) in
-              subst (λ (x : ℕ). x < m .arena .count) (sym (g .taken j i))
-              (subst (λ (x : ℕ). getD (k .values) (from + j) 0 < x) count-is (S.below-at (length ns) (k .values) (k .filled) (from + j) (valid .4) (omega (arith, from-on))));
-          unused = λ j q. g .unused j (omega (arith, all-taken));
+          many = taken-length ∙ sym all-taken;
+          lower = λ j q. let i : j < cursor = omega (arith, taken-length) in subst (λ (x : ℕ). x < m .arena .count) (sym (getD-take cursor places j 0 i ∙ g .taken j i)) (value-low j i);
         }
 
-        children-are : newChildren m id places ≡ reverseOnto (take cursor vs) []
+        children-are : take cursor places ≡ reverseOnto (take cursor vs) []
         children-are =
-            ap (λ (x : ℕ). take x places) all-taken
-            ∙ S.gathered (k .values) from cursor places (let b = bounds in omega (arith, from-on)) (bounds .small) g
+            S.gathered (k .values) from cursor places (let b = bounds in omega (arith, from-on)) (bounds .small) g
             ∙ ap (λ (x : ℕ). reverseOnto (take cursor (valuesOf (k .values) x)) []) from-on
 
-        module _ (mode : Mode) (m′ : Memory) (answer : Answer) (f : Finishes mode m (topId k) places answer m′) where
+        module _ (mode : Mode) (m′ : Memory) (answer : Answer) (f : Finishes mode m (topId k) (take (topCursor k) places) answer m′) where
           finishing : turn mode (lentOf m) limit ns (topFrame k) fs vs ≡ finished answer (nodesOf m′) fs (valuesOf (k .values) from)
           finishing =
               ascending mode (lentOf m) limit ns (topFrame k) fs vs h all-taken
               ∙ ap (λ (x : List ℕ). finish mode fs (drop cursor vs) (rebuildAs mode (lentOf m) ns id x)) (sym children-are)
-              ∙ ap (λ (x : List ℕ). finish mode fs x (rebuildAs mode (lentOf m) ns id (newChildren m id places))) under
+              ∙ ap (λ (x : List ℕ). finish mode fs x (rebuildAs mode (lentOf m) ns id (take cursor places))) under
               ∙ sym (f .plainly fs (valuesOf (k .values) from))
 
           answered : (x : Answer) → answer ≡ x → turn mode (lentOf m) limit ns (topFrame k) fs vs ≡ finished x (nodesOf m′) fs (valuesOf (k .values) from)

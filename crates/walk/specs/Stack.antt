@@ -3,7 +3,7 @@ use Prim.Native.Nat.{ℕ, zero, suc, _+_, _-_, _≤_, _<_}
 use mathlib.Core.Path.{_≡_}
 use mathlib.Core.List.{List, [], _∷_}
 use lib.ListN.{length, getD}
-use Rattle.definitions.specs.Limits.{mostDepth, mostChildren}
+use Rattle.definitions.specs.Limits.{mostDepth, mostChildren, mostNodes}
 use Rattle.definitions.specs.Node.{Node, at}
 use Rattle.definitions.specs.Walk.{Frame, frame}
 
@@ -91,9 +91,10 @@ pub record Invariant (ns : List Node) (limit : ℕ) (k : Stack) : Type 0 where
   pub valid : Valid ns (framesIn k) (valuesIn k)
 
 -- n values from a place on, to be the places of so many children
-pub record Gatherable (from n : ℕ) : Type 0 where
+pub record Gatherable (values : List ℕ) (from n : ℕ) : Type 0 where
   pub few : n ≤ mostChildren
   pub within : from + n ≤ mostValues
+  pub low : (place : ℕ) → place < n → getD values (from + place) 0 < mostNodes
 
 -- the child places that hold them
 pub record Gathered (values : List ℕ) (from n : ℕ) (places : List ℕ) : Type 0 where

@@ -32,14 +32,14 @@ fn is_taken_unwalked(nodes: &[u64], count: u64, mode: Mode, id: u64) -> bool
 }
 
 // The values from a place on, as the places of so many children.
-fn gather(values: &[u64; MOST_VALUES], from: usize, arity: usize) -> [u64; MOST_CHILDREN]
-    requires { ⌜ Gatherable from arity ⌝ }
+fn gather(values: &[u64; MOST_VALUES], from: usize, arity: usize) -> [u32; MOST_CHILDREN]
+    requires { ⌜ Gatherable (now values) from arity ⌝ }
     ensures { λ r. ⌜ Gathered (now (values .entry)) from arity r ⌝ }
 {
-    let mut children = [0u64; MOST_CHILDREN];
+    let mut children = [0u32; MOST_CHILDREN];
     let mut place: usize = 0;
     while place < arity {
-        children[place] = values[from + place];
+        children[place] = values[from + place] as u32;
         place += 1;
     }
     children
@@ -115,7 +115,7 @@ pub(crate) fn turn(
         return descend(nodes, ids, cursors, values, mode, progress);
     }
     let children = gather(values, base, cursor);
-    let built = rebuild::finish(nodes, slots, arena, mode, id, children);
+    let built = rebuild::finish(nodes, slots, arena, mode, id, &children[..cursor]);
     let after = built.arena;
     let answer = built.answer;
     match answer {

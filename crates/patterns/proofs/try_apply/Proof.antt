@@ -5,13 +5,13 @@ use Rattle.patterns.proofs.try_apply.Statement.{statement}
 use Rattle.patterns.proofs.try_apply.Tie as tie
 
 pattern-requires : tie.Need-pattern-requires
-pattern-requires c κs = record { few = c .before .before .before .pre .0 .few; lookup = λ j h. S.lookup-of _ _ _ (c .before .before .before .pre .1) _ (c .before .before .before .pre .0 .low j h) }
+pattern-requires c κs = let s = c .before .before .before .before in record { few = s .pre .0 .few; lookup = λ j h. S.lookup-of _ _ _ (s .pre .1) _ (s .pre .0 .low j h) }
 
 enum-known-result : tie.Need-enum-known-result
 enum-known-result c = search needs
 
 carry-out-requires : tie.Need-carry-out-requires
-carry-out-requires c κs = (Carries.known-result-low _ (c .before .before .before .result .given .1) (c .before .before .before .before .before .pattern .ensures .low), c .before .before .before .before .before .before .before .before .before .pre .1)
+carry-out-requires c κs = (Carries.known-result-low _ (c .before .before .before .result .given .1) (c .before .before .before .before .before .pattern .ensures .low), c .before .before .before .before .before .before .before .before .before .before .pre .1)
 
 answered-requires : tie.Need-answered-requires
 answered-requires c κs = search needs
@@ -32,7 +32,7 @@ same-length-3 : tie.Need-same-length-3
 same-length-3 c = search needs
 
 returns-2 : tie.Need-returns-2
-returns-2 c = Carries.applies-none (c .enum-told .given .1) (c .before .before .pattern .ensures .is _) (c .before .before .before .before .before .before .pre .1)
+returns-2 c = Carries.applies-none (c .enum-told .given .1) (c .before .before .pattern .ensures .is _) (c .before .before .before .before .before .before .before .pre .1)
 
 pub try-apply-spec : {M : Type 1} → statement M
 try-apply-spec =

@@ -1,31 +1,21 @@
 -- By what the patterns answer.
-use Prim.Native.Nat.{ℕ}
-use mathlib.Core.Path.{_≡_}
-use lib.ListN.{length}
-use borrow.Author.Needs.{needs}
-use Rattle.definitions.specs.Limits.{mostChildren}
 use Rattle.definitions.specs.Modes.{modeOf}
 use Rattle.rebuild.proofs.Rebuilding as B
+use borrow.Author.Needs.{needs}
 use Rattle.rebuild.proofs.rebuild_or_match.Statement.{statement}
 use Rattle.rebuild.proofs.rebuild_or_match.Tie as tie
-
-four : (s : tie.Start) → length (s .args .children) ≡ mostChildren
-four s = search needs
 
 kind-requires : tie.Need-kind-requires
 kind-requires c κs = search needs
 
-arity-requires : tie.Need-arity-requires
-arity-requires c κs = search needs
-
 try-apply-requires : tie.Need-try-apply-requires
-try-apply-requires c κs = (B.operands _ _ _ (four (c .before .before .before .before .before .before .before .before)) (c .before .before .before .before .before .before .before .before .pre) _ _ (c .before .before .before .before .kind .ensures) (c .before .before .arity .ensures), c .before .before .before .before .before .before .before .before .pre .sound)
+try-apply-requires c κs = (B.operands _ _ _ (c .before .before .before .before .before .before .before .pre), c .before .before .before .before .before .before .before .pre .sound)
 
 enum-told : tie.Need-enum-told
 enum-told c = search needs
 
 rebuild-requires : tie.Need-rebuild-requires
-rebuild-requires c κs = B.still _ _ _ (four (c .before .before .before .before .before .before .before .before .before .before .before .before .before .before .before .before .before .before)) (c .before .before .before .before .before .before .before .before .before .before .before .before .before .before .before .before .before .before .pre) _ _ (c .before .before .before .before .before .before .before .before .before .before .before .before .before .before .kind .ensures) (c .before .before .before .before .before .before .before .before .before .before .before .before .arity .ensures) (modeOf (c .before .before .before .before .before .before .before .before .before .before .before .before .before .before .before .before .before .before .args .mode)) _ _ _ (c .before .before .before .before .before .before .before .before .before .try-apply .ensures) (c .before .before .enum-told .given .1)
+rebuild-requires c κs = let s = c .before .before .before .before .before .before .before .before .before .before .before .before .before .before .before .before .before in B.still _ _ _ (s .pre) _ (c .before .before .before .before .before .before .before .before .before .before .before .before .kind .ensures) (modeOf (s .args .mode)) _ _ _ (c .before .before .before .before .before .before .before .before .before .try-apply .ensures) (c .before .before .enum-told .given .1)
 
 enum-known-matched : tie.Need-enum-known-matched
 enum-known-matched c = search needs
@@ -40,7 +30,7 @@ same-length-2 : tie.Need-same-length-2
 same-length-2 c = search needs
 
 returns : tie.Need-returns
-returns c = B.declined _ _ _ (four (c .before .before .before .before .before .before .before .before .before .before .before .before .before .before .before .before .before .before .before .before .before .before .before)) (c .before .before .before .before .before .before .before .before .before .before .before .before .before .before .before .before .before .before .before .before .before .before .before .pre) _ _ (c .before .before .before .before .before .before .before .before .before .before .before .before .before .before .before .before .before .before .before .kind .ensures) (c .before .before .before .before .before .before .before .before .before .before .before .before .before .before .before .before .before .arity .ensures) (modeOf (c .before .before .before .before .before .before .before .before .before .before .before .before .before .before .before .before .before .before .before .before .before .before .before .args .mode)) _ _ _ (c .before .before .before .before .before .before .before .before .before .before .before .before .before .before .try-apply .ensures) (c .before .before .before .before .before .before .before .enum-told .given .1) _ _ _ (c .before .before .before .before .rebuild .ensures)
+returns c = let s = c .before .before .before .before .before .before .before .before .before .before .before .before .before .before .before .before .before .before .before .before .before .before in B.declined _ _ _ (s .pre) _ (c .before .before .before .before .before .before .before .before .before .before .before .before .before .before .before .before .before .kind .ensures) (modeOf (s .args .mode)) _ _ _ (c .before .before .before .before .before .before .before .before .before .before .before .before .before .before .try-apply .ensures) (c .before .before .before .before .before .before .before .enum-told .given .1) _ _ _ (c .before .before .before .before .rebuild .ensures)
 
 same-length-3 : tie.Need-same-length-3
 same-length-3 c = search needs
@@ -49,7 +39,7 @@ same-length-4 : tie.Need-same-length-4
 same-length-4 c = search needs
 
 returns-2 : tie.Need-returns-2
-returns-2 c = B.result _ _ _ (four (c .before .before .before .before .before .before .before .before .before .before .before .before .before .before .before .before .before)) (c .before .before .before .before .before .before .before .before .before .before .before .before .before .before .before .before .before .pre) _ _ (c .before .before .before .before .before .before .before .before .before .before .before .before .before .kind .ensures) (c .before .before .before .before .before .before .before .before .before .before .before .arity .ensures) (modeOf (c .before .before .before .before .before .before .before .before .before .before .before .before .before .before .before .before .before .args .mode)) _ _ _ (c .before .before .before .before .before .before .before .before .try-apply .ensures) _ (c .before .matched .given .1)
+returns-2 c = let s = c .before .before .before .before .before .before .before .before .before .before .before .before .before .before .before .before in B.result _ _ _ (s .pre) _ (c .before .before .before .before .before .before .before .before .before .before .before .kind .ensures) (modeOf (s .args .mode)) _ _ _ (c .before .before .before .before .before .before .before .before .try-apply .ensures) _ (c .before .matched .given .1)
 
 same-length-5 : tie.Need-same-length-5
 same-length-5 c = search needs
@@ -58,14 +48,13 @@ same-length-6 : tie.Need-same-length-6
 same-length-6 c = search needs
 
 returns-3 : tie.Need-returns-3
-returns-3 c = B.refusal _ _ _ (four (c .before .before .before .before .before .before .before .before .before .before .before .before .before .before .before .before .before)) (c .before .before .before .before .before .before .before .before .before .before .before .before .before .before .before .before .before .pre) _ _ (c .before .before .before .before .before .before .before .before .before .before .before .before .before .kind .ensures) (c .before .before .before .before .before .before .before .before .before .before .before .arity .ensures) (modeOf (c .before .before .before .before .before .before .before .before .before .before .before .before .before .before .before .before .before .args .mode)) _ _ _ (c .before .before .before .before .before .before .before .before .try-apply .ensures) _ (c .before .matched2 .given .1)
+returns-3 c = let s = c .before .before .before .before .before .before .before .before .before .before .before .before .before .before .before .before in B.refusal _ _ _ (s .pre) _ (c .before .before .before .before .before .before .before .before .before .before .before .kind .ensures) (modeOf (s .args .mode)) _ _ _ (c .before .before .before .before .before .before .before .before .try-apply .ensures) _ (c .before .matched2 .given .1)
 
 pub rebuild-or-match-spec : {M : Type 1} → statement M
 rebuild-or-match-spec =
     tie.close
     (tie.spec
     kind-requires
-    arity-requires
     try-apply-requires
     enum-told
     rebuild-requires

@@ -1,9 +1,10 @@
 -- `arena::node::has_parts` meets its contract: each test that fails is a part in which the nodes differ.
 use mathlib.Core.Path.{_∙_}
 use native.Mathlib.Omega.{arith}
-use borrow.Author.Needs.{needs}
-use Rattle.arena.specs.Node.{nodeAt, newNode}
+use Rattle.arena.specs.Node.{nodeAt, nodeOf}
 use Rattle.arena.proofs.OneNode.{not-one, one-children}
+use Rattle.arena.proofs.Comparing.{used-compared}
+use borrow.Author.Needs.{needs}
 use Rattle.arena.proofs.node.has_parts.Statement.{statement}
 use Rattle.arena.proofs.node.has_parts.Tie as tie
 
@@ -20,7 +21,7 @@ shared-slice-read-if1 : tie.Need-shared-slice-read-if1
 shared-slice-read-if1 c = search needs
 
 returns : tie.Need-returns
-unfolding nodeAt newNode
+unfolding nodeAt nodeOf
 returns c = not-one _ _ (λ o. c .if1 .taken (o .kind))
 
 add-if2 : tie.Need-add-if2
@@ -33,7 +34,7 @@ shared-slice-read-if2 : tie.Need-shared-slice-read-if2
 shared-slice-read-if2 c = search needs
 
 returns-2 : tie.Need-returns-2
-unfolding nodeAt newNode
+unfolding nodeAt nodeOf
 returns-2 c = not-one _ _ (λ o. c .if2 .taken (o .payload))
 
 add-if3 : tie.Need-add-if3
@@ -46,7 +47,7 @@ shared-slice-read-if3 : tie.Need-shared-slice-read-if3
 shared-slice-read-if3 c = search needs
 
 returns-3 : tie.Need-returns-3
-unfolding nodeAt newNode
+unfolding nodeAt nodeOf
 returns-3 c = not-one _ _ (λ o. c .if3 .taken (o .flags))
 
 add-if4 : tie.Need-add-if4
@@ -59,18 +60,20 @@ shared-slice-read-if4 : tie.Need-shared-slice-read-if4
 shared-slice-read-if4 c = search needs
 
 returns-4 : tie.Need-returns-4
-unfolding nodeAt newNode
+unfolding nodeAt nodeOf
 returns-4 c = not-one _ _ (λ o. c .if4 .taken (o .arity))
 
 add-has-children : tie.Need-add-has-children
 add-has-children c = search needs
 
 has-children-requires : tie.Need-has-children-requires
-has-children-requires c κs = search needs
+has-children-requires c κs = let p = c .before .before .before .before .before .before .before .before .before .before .pre in let few = p .2 in let fits = p .0 in omega arith
 
 returns-5 : tie.Need-returns-5
-unfolding nodeAt newNode
-returns-5 c = c .has-children .ensures ∙ one-children _ _ (c .before .before .before .before .before .before .before .if1 .left) (c .before .before .before .before .before .if2 .left) (c .before .before .before .if3 .left) (c .before .if4 .left)
+unfolding nodeAt nodeOf
+returns-5 c =
+    let s = c .before .before .before .before .before .before .before .before .before .before .before in
+    c .has-children .ensures ∙ used-compared (s .args .nodes .now) (s .args .id) (s .args .children .now) (s .pre .2) (c .before .if4 .left) (s .pre .1) ∙ one-children _ _ (c .before .before .before .before .before .before .before .if1 .left) (c .before .before .before .before .before .if2 .left) (c .before .before .before .if3 .left) (c .before .if4 .left)
 
 pub has-parts-spec : {M : Type 1} → statement M
 has-parts-spec =

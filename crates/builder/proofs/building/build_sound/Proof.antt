@@ -1,10 +1,6 @@
 -- `builder::building::build_sound` meets its contract: one law for each answer.
-use mathlib.Core.Path.{sym, subst, _∙_}
+use mathlib.Core.Path.{sym, _∙_}
 use borrow.Author.Tests.{not-true, not-false}
-use Rattle.arena.specs.Nodes.{WellFormed}
-use Rattle.arena.proofs.Listing.{listed-few}
-use Rattle.store.proofs.NewNodes.{new-formed}
-use Rattle.store.proofs.Decoding.{interns-in}
 use Rattle.builder.proofs.Requesting.{refuse-code, refuse-nan, refuse-count, refuse-operand, fits, interned}
 use borrow.Author.Needs.{needs}
 use Rattle.builder.proofs.building.build_sound.Statement.{statement}
@@ -45,27 +41,17 @@ returns-4 c =
     refuse-operand _ _ _ _ _ _ _ _ (s .pre .0) (s .pre .1) (not-false _ (code .if1 .left)) (sym (number .before .is-nan-constant .ensures) ∙ number .if2 .left)
     (sym (counted .before .is-listed .ensures) ∙ not-false _ (counted .if3 .left)) _ (c .before .all-below .ensures) (not-true _ (c .if4 .taken))
 
-child-places-requires : tie.Need-child-places-requires
-child-places-requires c κs = let counted = c .before .before in listed-few _ _ _ (sym (counted .before .is-listed .ensures) ∙ not-false _ (counted .if3 .left))
-
-new-requires : tie.Need-new-requires
-new-requires c κs = search needs
-
-intern-number-requires : tie.Need-intern-number-requires
-intern-number-requires c κs =
-    let n = c .before .before .before .before in
-    let below = n .before .before in
+intern-requires : tie.Need-intern-requires
+intern-requires c κs =
+    let below = c .before .before in
     let counted = below .before .before in
     let number = counted .before .before in
     let code = number .before .before in
     let s = code .before .before .before .before in (
-      subst (WellFormed _) (sym (n .new .ensures)) (new-formed _ _ _ _ _ _ (fits _ _ _ _ _ _ _ _ (s .pre .0) (s .pre .1) (not-false _ (code .if1 .left)) (sym (number .before .is-nan-constant .ensures) ∙ number .if2 .left)
-          (sym (counted .before .is-listed .ensures) ∙ not-false _ (counted .if3 .left)) (sym (below .before .all-below .ensures) ∙ not-false _ (below .if4 .left)) _ (n .before .child-places .ensures))),
+      fits _ _ _ _ _ _ _ _ (s .pre .0) (s .pre .1) (not-false _ (code .if1 .left)) (sym (number .before .is-nan-constant .ensures) ∙ number .if2 .left)
+          (sym (counted .before .is-listed .ensures) ∙ not-false _ (counted .if3 .left)) (sym (below .before .all-below .ensures) ∙ not-false _ (below .if4 .left)),
       s .pre .1,
     )
-
-answer-in-requires : tie.Need-answer-in-requires
-answer-in-requires c κs = search needs
 
 same-length : tie.Need-same-length
 same-length c = search needs
@@ -75,16 +61,13 @@ same-length-2 c = search needs
 
 returns-5 : tie.Need-returns-5
 returns-5 c =
-    let n = c .before .before .before .before .before .before .before .before .before .before in
-    let below = n .before .before in
+    let below = c .before .before .before .before .before .before .before in
     let counted = below .before .before in
     let number = counted .before .before in
     let code = number .before .before in
     let s = code .before .before .before .before in
-    rw (c .answer-in .ensures)
-    (interned _ _ _ _ _ _ _ _ (s .pre .0) (s .pre .1) (not-false _ (code .if1 .left)) (sym (number .before .is-nan-constant .ensures) ∙ number .if2 .left)
-    (sym (counted .before .is-listed .ensures) ∙ not-false _ (counted .if3 .left)) (sym (below .before .all-below .ensures) ∙ not-false _ (below .if4 .left)) _ (n .before .child-places .ensures) _ (n .new .ensures) _ _ _
-    (interns-in _ _ _ _ _ _ _ _ (c .before .before .before .before .before .intern-number .ensures)))
+    interned _ _ _ _ _ _ _ _ (s .pre .0) (s .pre .1) (not-false _ (code .if1 .left)) (sym (number .before .is-nan-constant .ensures) ∙ number .if2 .left)
+    (sym (counted .before .is-listed .ensures) ∙ not-false _ (counted .if3 .left)) (sym (below .before .all-below .ensures) ∙ not-false _ (below .if4 .left)) _ _ _ (c .before .before .before .before .intern .ensures)
 
 pub build-sound-spec : {M : Type 1} → statement M
 build-sound-spec =
@@ -97,10 +80,7 @@ build-sound-spec =
     returns-3
     all-below-requires
     returns-4
-    child-places-requires
-    new-requires
-    intern-number-requires
-    answer-in-requires
+    intern-requires
     same-length
     same-length-2
     returns-5)

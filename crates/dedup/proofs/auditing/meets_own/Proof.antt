@@ -1,42 +1,55 @@
 -- `dedup::auditing::meets_own` meets its contract. The invariant: the slots passed hold lower ids, of other nodes.
-use Prim.Native.Nat.{ℕ, _+_, _%_, _-_, _≤_, _<_}
-use mathlib.Core.Path.{_≡_, sym, _∙_, ap}
+use Prim.Native.Nat.{ℕ, suc, _+_, _%_, _-_, _≤_, _<_}
+use mathlib.Core.Path.{_≡_, refl, sym, _∙_, ap}
 use native.Mathlib.Omega.{arith}
 use native.Mathlib.Nat.{mod-lt}
-use borrow.Author.Needs.{needs}
+use Rattle.arena.specs.Node.{nodeAt}
+use Rattle.dedup.specs.Table.{hashAt}
 use Rattle.dedup.specs.Audit.{LowerBefore}
 use Rattle.dedup.proofs.Doubling.{positive}
 use Rattle.dedup.proofs.Rounds.{round-next}
 use Rattle.dedup.proofs.OwnSlots.{formed-below, meets-here, meets-empty, meets-greater, meets-one, one-more, meets-nowhere}
+use borrow.Author.Needs.{needs}
 use Rattle.dedup.proofs.auditing.meets_own.Statement.{statement}
 use Rattle.dedup.proofs.auditing.meets_own.Tie as tie
 
 abbrev Inv-loop : tie.InvT-loop
-Inv-loop nodes slots id size key own at₀ passed₀ at passed = (at ≡ (key .hash + passed) % size) × (at < size) × (passed ≤ size) × LowerBefore nodes slots size id passed
+Inv-loop nodes slots id size hash own at₀ passed₀ at passed = (at ≡ (hashAt nodes id + passed) % size) × (at < size) × (passed ≤ size) × LowerBefore nodes slots size id passed × (hash ≡ hashAt nodes id)
 
 abbrev μ-loop : tie.MeasureT-loop
-μ-loop nodes slots id size key own at₀ passed₀ at passed = size - passed
+μ-loop nodes slots id size hash own at₀ passed₀ at passed = size - passed
 
-load-requires : tie.Need-load-requires Inv-loop μ-loop
-load-requires c κs = let start = c .before .before in let f = start .pre .1 .fits in let l = start .pre .0 in omega arith
+mul-hash : tie.Need-mul-hash Inv-loop μ-loop
+mul-hash c = let f = c .before .before .pre .1 .fits in let l = c .before .before .pre .0 in search needs
+
+add-hash : tie.Need-add-hash Inv-loop μ-loop
+add-hash c = let f = c .before .before .pre .1 .fits in let l = c .before .before .pre .0 in search needs
+
+mul-hash-2 : tie.Need-mul-hash-2 Inv-loop μ-loop
+mul-hash-2 c = let f = c .before .before .pre .1 .fits in let l = c .before .before .pre .0 in search needs
+
+shared-slice-read-hash : tie.Need-shared-slice-read-hash Inv-loop μ-loop
+shared-slice-read-hash c = let f = c .before .before .before .pre .1 .fits in let l = c .before .before .before .pre .0 in omega arith
 
 add-own : tie.Need-add-own Inv-loop μ-loop
-add-own c = let start = c .before .before .before in let f = start .pre .1 .many in let l = start .pre .0 in search needs
+add-own c = let f = c .before .before .before .pre .1 .many in let l = c .before .before .before .pre .0 in search needs
 
 cast-own : tie.Need-cast-own Inv-loop μ-loop
-cast-own c = let start = c .before .before .before in let f = start .pre .1 .many in let l = start .pre .0 in search needs
+cast-own c = let f = c .before .before .before .pre .1 .many in let l = c .before .before .before .pre .0 in search needs
 
 modulo-size-requires : tie.Need-modulo-size-requires Inv-loop μ-loop
 modulo-size-requires c κs = c .before .before .before .pre .2 .doubled
 
 loop-holds : tie.Need-loop-holds Inv-loop μ-loop
+unfolding nodeAt
 loop-holds c =
-    let start = c .before .before .before .before in
-    let key = c .before .load .result in (
-      c .modulo-size .ensures ∙ ap (λ (x : ℕ). x % start .args .arena .size) (let same : key .hash ≡ key .hash + 0 = omega arith in same),
-      rw (c .modulo-size .ensures) (mod-lt _ (positive _ (start .pre .2 .doubled))),
+    let s = c .before .before .before .before in
+    let hash = hashAt (s .args .nodes .now) (s .args .id) in (
+      c .modulo-size .ensures ∙ ap (λ (x : ℕ). x % s .args .arena .size) (let same : hash ≡ hash + 0 = omega arith in same),
+      rw (c .modulo-size .ensures) (mod-lt _ (positive _ (s .pre .2 .doubled))),
       omega arith,
       λ d l. absurd (omega arith),
+      refl,
     )
 
 mul-slot : tie.Need-mul-slot Inv-loop μ-loop
@@ -46,26 +59,21 @@ shared-slice-read-slot : tie.Need-shared-slice-read-slot Inv-loop μ-loop
 shared-slice-read-slot c = let l = c .before .before .before .before .before .before .before .pre .2 .sized in omega arith
 
 returns : tie.Need-returns Inv-loop μ-loop
-returns c =
-    let i = c .before .before .before .loop .inv in
-    meets-here _ _ _ _ _ (c .before .before .before .before .before .load .ensures) _ (i .3) _ (i .0) (c .before .before .loop-test .taken) (let e = c .if1 .taken in omega arith)
+returns c = let i = c .before .before .before .loop .inv in meets-here _ _ _ _ _ (i .3) _ (i .0) (c .before .before .loop-test .taken) (let e = c .if1 .taken in omega arith)
 
 returns-2 : tie.Need-returns-2 Inv-loop μ-loop
-returns-2 c =
-    let i = c .before .before .before .before .loop .inv in
-    meets-empty _ _ _ _ _ (c .before .before .before .before .before .before .load .ensures) _ (i .3) _ (i .0) (c .if2 .taken)
+returns-2 c = let i = c .before .before .before .before .loop .inv in meets-empty _ _ _ _ _ (i .3) _ (i .0) (c .if2 .taken)
 
 returns-3 : tie.Need-returns-3 Inv-loop μ-loop
-returns-3 c =
-    let i = c .before .before .before .before .before .loop .inv in
-    meets-greater _ _ _ _ _ (c .before .before .before .before .before .before .before .load .ensures) _ (i .3) _ (i .0) (let l = c .if3 .taken in omega arith)
+returns-3 c = let i = c .before .before .before .before .before .loop .inv in meets-greater _ _ _ _ _ (i .3) _ (i .0) (let l = c .if3 .taken in omega arith)
 
-slot-holds-requires : tie.Need-slot-holds-requires Inv-loop μ-loop
-slot-holds-requires c κs =
-    let start = c .before .before .before .before .before .before .before .before .before .before in
-    let formed = start .pre .1 in
+is-one-with-requires : tie.Need-is-one-with-requires Inv-loop μ-loop
+is-one-with-requires c κs =
+    let s = c .before .before .before .before .before .before .before .before .before .before in
     let used = c .before .if2 .left in
-    (omega arith, formed-below _ _ _ (start .pre .0) formed, rw (c .before .before .before .before .before .before .before .load .ensures) (formed .each _ (start .pre .0) .hashed))
+    let lower = c .if3 .left in
+    let own = c .before .before .if1 .left in
+    (omega arith, omega arith, formed-below (s .args .nodes .now) (suc (s .args .id)) (s .args .arena .count) (s .pre .0) (s .pre .1), c .before .before .before .before .before .loop .inv .4)
 
 returns-4 : tie.Need-returns-4 Inv-loop μ-loop
 returns-4 c =
@@ -73,7 +81,7 @@ returns-4 c =
     let used = c .before .before .before .if2 .left in
     let lower = c .before .before .if3 .left in
     let own = c .before .before .before .before .if1 .left in
-    meets-one _ _ _ _ _ (c .before .before .before .before .before .before .before .before .before .load .ensures) _ (i .3) _ (i .0) (omega arith) (omega arith) (sym (c .before .slot-holds .ensures) ∙ c .if4 .taken)
+    meets-one _ _ _ _ _ (i .3) _ (i .0) (omega arith) (omega arith) (sym (c .before .is-one-with .ensures) ∙ c .if4 .taken)
 
 add-modulo-size : tie.Need-add-modulo-size Inv-loop μ-loop
 add-modulo-size c = let l = c .before .before .before .before .before .before .before .before .before .before .before .before .pre .2 .sized in search needs
@@ -89,19 +97,20 @@ loop-less c = search needs
 
 loop-again : tie.Need-loop-again Inv-loop μ-loop
 loop-again c =
-    let start = c .before .before .before .before .before .before .before .before .before .before .before .before .before in
+    let s = c .before .before .before .before .before .before .before .before .before .before .before .before .before in
     let i = c .before .before .before .before .before .before .before .before .loop .inv in
     let used = c .before .before .before .before .if2 .left in
     let lower = c .before .before .before .if3 .left in
     let own = c .before .before .before .before .before .if1 .left in (
-      c .modulo-size2 .ensures ∙ ap (λ (x : ℕ). (x + 1) % start .args .arena .size) (i .0) ∙ round-next _ _ _,
-      rw (c .modulo-size2 .ensures) (mod-lt _ (positive _ (start .pre .2 .doubled))),
+      c .modulo-size2 .ensures ∙ ap (λ (x : ℕ). (x + 1) % s .args .arena .size) (i .0) ∙ round-next _ _ _,
+      rw (c .modulo-size2 .ensures) (mod-lt _ (positive _ (s .pre .2 .doubled))),
       omega arith,
-      one-more (start .args .nodes .now) (start .args .slots .now) (start .args .arena .size) (start .args .id) _ (c .before .before .before .before .before .before .before .before .before .before .load .ensures) _ (i .3) _ (i .0) (omega arith) (omega arith) (sym (c .before .before .slot-holds .ensures) ∙ c .before .if4 .left),
+      one-more (s .args .nodes .now) (s .args .slots .now) (s .args .arena .size) (s .args .id) _ (i .3) _ (i .0) (omega arith) (omega arith) (sym (c .before .before .is-one-with .ensures) ∙ c .before .if4 .left),
+      i .4,
     )
 
 returns-5 : tie.Need-returns-5 Inv-loop μ-loop
-returns-5 c = meets-nowhere _ _ _ _ _ (c .before .before .before .load .ensures) _ (c .before .loop .inv .3) (let l = c .before .loop .inv .2 in omega arith)
+returns-5 c = meets-nowhere _ _ _ _ _ (c .before .loop .inv .3) (let l = c .before .loop .inv .2 in omega arith)
 
 pub meets-own-spec : {M : Type 1} → statement M
 meets-own-spec =
@@ -109,7 +118,10 @@ meets-own-spec =
     (tie.spec
     Inv-loop
     μ-loop
-    load-requires
+    mul-hash
+    add-hash
+    mul-hash-2
+    shared-slice-read-hash
     add-own
     cast-own
     modulo-size-requires
@@ -119,7 +131,7 @@ meets-own-spec =
     returns
     returns-2
     returns-3
-    slot-holds-requires
+    is-one-with-requires
     returns-4
     add-modulo-size
     modulo-size-requires-2

@@ -1,17 +1,10 @@
-use mathlib.Core.Path.{_≡_, sym, subst}
-use Rattle.arena.specs.Nodes.{WellFormed}
-use Rattle.store.proofs.NewNodes.{new-formed, new-plain}
+-- `store::interning::intern` meets its contract.
 use borrow.Author.Needs.{needs}
 use Rattle.store.proofs.interning.intern.Statement.{statement}
 use Rattle.store.proofs.interning.intern.Tie as tie
 
-new-requires : tie.Need-new-requires
-new-requires c κs = search needs
-
-intern-node-requires : tie.Need-intern-node-requires
-intern-node-requires c κs =
-    let e = c .before .before .before .before .before in
-    (subst (WellFormed _) (sym (c .before .before .new .ensures)) (new-formed _ _ _ _ _ _ (e .pre .0)), e .pre .1)
+intern-counted-requires : tie.Need-intern-counted-requires
+intern-counted-requires c κs = (c .before .before .before .before .before .before .before .pre .0, c .before .before .before .before .before .before .before .pre .1)
 
 same-length : tie.Need-same-length
 same-length c = search needs
@@ -20,10 +13,13 @@ same-length-2 : tie.Need-same-length-2
 same-length-2 c = search needs
 
 returns : tie.Need-returns
-returns c =
-    let e = c .before .before .before .before .before .before .before .before .before .before in
-    rw (← new-plain _ _ _ _ _ _ (e .pre .0), ← c .before .before .before .before .before .before .before .new .ensures) (c .before .before .before .before .intern-node .ensures .builds)
+returns c = c .before .before .before .before .intern-counted .ensures
 
 pub intern-spec : {M : Type 1} → statement M
 intern-spec =
-    tie.close (tie.spec new-requires intern-node-requires same-length same-length-2 returns)
+    tie.close
+    (tie.spec
+    intern-counted-requires
+    same-length
+    same-length-2
+    returns)

@@ -1,38 +1,28 @@
 -- `store::interning::intern_likely` meets its contract: the likely id's node is one with the key, or the call goes on as without it.
-use mathlib.Core.Path.{_≡_, sym, subst, _∙_}
-use lib.ListN.{length}
-use borrow.Author.Needs.{needs}
+use mathlib.Core.Path.{sym, _∙_}
 use borrow.Author.Tests.{ltb-true}
 use Rattle.definitions.proofs.Deciding.{both}
-use Rattle.arena.specs.Layout.{mostChildren}
-use Rattle.arena.specs.Node.{newNode}
-use Rattle.arena.specs.Nodes.{WellFormed}
-use Rattle.store.proofs.NewNodes.{new-formed, new-plain}
-use Rattle.store.proofs.Numbers.{likely-builds, builds-number}
+use Rattle.store.proofs.NewNodes.{new-formed, new-plain, new-places}
+use Rattle.store.proofs.Likely.{likely-interns}
+use borrow.Author.Needs.{needs}
 use Rattle.store.proofs.interning.intern_likely.Statement.{statement}
 use Rattle.store.proofs.interning.intern_likely.Tie as tie
 
-four : (s : tie.Start) → length (s .args .t9) ≡ mostChildren
-four s = search needs
-
 is-node-requires : tie.Need-is-node-requires
-is-node-requires c κs = search needs
+is-node-requires c κs = (c .before .before .before .before .before .pre .1 .nodes .formed, c .before .before .before .before .before .pre .0 .few)
 
 same-length : tie.Need-same-length
 same-length c = search needs
 
 returns : tie.Need-returns
-unfolding newNode
 returns c =
-    let e = c .before .before .before .before .before .before .before in
+    let s = c .before .before .before .before .before .before .before in
+    let f = s .pre .0 in
     let test = both _ _ (sym (c .before .is-node .ensures) ∙ c .if1 .taken) in
-    rw (← new-plain _ _ _ _ _ _ (e .pre .0)) (likely-builds _ _ _ _ (four e) (new-formed _ _ _ _ _ _ (e .pre .0)) (e .pre .1) _ (ltb-true _ _ (test .0)) (test .1))
+    rw (← new-plain _ _ _ _ _ f) (likely-interns _ _ _ _ _ (new-places _ _ _ _ _ f) (new-formed _ _ _ _ _ f) (s .pre .1) _ (ltb-true _ _ (test .0)) (test .1))
 
-new-requires : tie.Need-new-requires
-new-requires c κs = search needs
-
-intern-absent-first-requires : tie.Need-intern-absent-first-requires
-intern-absent-first-requires c κs = let e = c .before .before .before .before .before .before .before .before .before .before .before .before in (subst (WellFormed _) (sym (c .before .before .before .before .new .ensures)) (new-formed _ _ _ _ _ _ (e .pre .0)), e .pre .1)
+intern-counted-requires : tie.Need-intern-counted-requires
+intern-counted-requires c κs = (c .before .before .before .before .before .before .before .before .before .before .before .pre .0, c .before .before .before .before .before .before .before .before .before .before .before .pre .1)
 
 same-length-2 : tie.Need-same-length-2
 same-length-2 c = search needs
@@ -41,9 +31,16 @@ same-length-3 : tie.Need-same-length-3
 same-length-3 c = search needs
 
 returns-2 : tie.Need-returns-2
-returns-2 c =
-    let e = c .before .before .before .before .before .before .before .before .before .before .before .before .before .before .before .before .before in
-    rw (← new-plain _ _ _ _ _ _ (e .pre .0), ← c .before .before .before .before .before .before .before .before .before .new .ensures) (builds-number _ _ _ _ _ _ _ _ (c .before .before .before .before .intern-absent-first .ensures))
+returns-2 c = c .before .before .before .before .intern-counted .ensures
 
 pub intern-likely-spec : {M : Type 1} → statement M
-intern-likely-spec = tie.close (tie.spec is-node-requires same-length returns new-requires intern-absent-first-requires same-length-2 same-length-3 returns-2)
+intern-likely-spec =
+    tie.close
+    (tie.spec
+    is-node-requires
+    same-length
+    returns
+    intern-counted-requires
+    same-length-2
+    same-length-3
+    returns-2)

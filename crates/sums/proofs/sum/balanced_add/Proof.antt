@@ -1,7 +1,7 @@
 -- `pruner::sum::balanced_add` meets its contract: by the number of terms.
 use native.Mathlib.Omega.{arith}
 use borrow.Author.Needs.{needs}
-use Rattle.store.proofs.Decoding.{builds-in}
+use Rattle.sums.proofs.Decoding.{builds-in}
 use Rattle.sums.proofs.Parts.{part-length}
 use Rattle.sums.proofs.Summing.{sums-none}
 use Rattle.sums.proofs.sum.balanced_add.Statement.{statement}

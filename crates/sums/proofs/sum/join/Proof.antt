@@ -47,14 +47,14 @@ returns c = Q.stays _ _ _ _ _ _ _ _ _ _ _ _ _ (c .before .before .before .loop .
 sub-from : tie.Need-sub-from Inv-loop μ-loop
 sub-from c = omega arith
 
-mul-add-sums : tie.Need-mul-add-sums Inv-loop μ-loop
-mul-add-sums c = omega (arith, c .before .before .before .before .before .before .before .before .loop .inv .shorter, c .before .before .before .before .before .before .before .before .before .before .before .pre .0)
+mul-add : tie.Need-mul-add Inv-loop μ-loop
+mul-add c = omega (arith, c .before .before .before .before .before .before .before .before .loop .inv .shorter, c .before .before .before .before .before .before .before .before .before .before .before .pre .0)
 
-element-copy-out-add-sums : tie.Need-element-copy-out-add-sums Inv-loop μ-loop
-element-copy-out-add-sums c = omega (arith, c .before .before .before .before .before .before .before .before .loop .inv .shorter, c .before .before .before .before .before .before .before .before .before .before .before .pre .0)
+element-copy-out-add : tie.Need-element-copy-out-add Inv-loop μ-loop
+element-copy-out-add c = omega (arith, c .before .before .before .before .before .before .before .before .loop .inv .shorter, c .before .before .before .before .before .before .before .before .before .before .before .pre .0)
 
-add-sums-requires : tie.Need-add-sums-requires Inv-loop μ-loop
-add-sums-requires c κs =
+add-requires : tie.Need-add-requires Inv-loop μ-loop
+add-requires c κs =
     let other = c .before .before .before .before .before .before in
     let test = other .before .before in
     let a = Q.addable _ _ _ _ _ _ _ _ _ _ _ _ _ (test .before .loop .inv) (test .loop-test .taken) (other .if1 .left) (c .before .before .before .before .before .before .before .before .before .before .before .before .pre .3) in
@@ -73,7 +73,7 @@ returns-2 : tie.Need-returns-2 Inv-loop μ-loop
 returns-2 c =
     let other = c .before .before .before .before .before .before .before .before .before .before .before .before in
     let test = other .before .before in
-    Q.stops _ _ _ _ _ _ _ _ _ _ _ _ _ (test .before .loop .inv) (test .loop-test .taken) (other .if1 .left) _ _ _ _ (c .before .before .before .before .before .add-sums .ensures) (c .if2 .taken)
+    Q.stops _ _ _ _ _ _ _ _ _ _ _ _ _ (test .before .loop .inv) (test .loop-test .taken) (other .if1 .left) _ _ _ _ (c .before .before .before .before .before .add .ensures) (c .if2 .taken)
 
 loop-less : tie.Need-loop-less Inv-loop μ-loop
 loop-less c = omega arith
@@ -82,7 +82,7 @@ loop-again : tie.Need-loop-again Inv-loop μ-loop
 loop-again c =
     let other = c .before .before .before .before .before .before .before .before .before .before .before .before in
     let test = other .before .before in
-    Q.goes-on _ _ _ _ _ _ _ _ _ _ _ _ _ (test .before .loop .inv) (test .loop-test .taken) (other .if1 .left) _ _ _ _ (c .before .before .before .before .before .add-sums .ensures) (c .if2 .left)
+    Q.goes-on _ _ _ _ _ _ _ _ _ _ _ _ _ (test .before .loop .inv) (test .loop-test .taken) (other .if1 .left) _ _ _ _ (c .before .before .before .before .before .add .ensures) (c .if2 .left)
 
 element-write-lefts-3 : tie.Need-element-write-lefts-3 Inv-loop μ-loop
 element-write-lefts-3 c = omega arith
@@ -113,9 +113,9 @@ join-spec =
     same-length-2
     returns
     sub-from
-    mul-add-sums
-    element-copy-out-add-sums
-    add-sums-requires
+    mul-add
+    element-copy-out-add
+    add-requires
     element-write-lefts-2
     same-length-3
     same-length-4

@@ -32,8 +32,8 @@ cast-second c =
     let p = other .before .before .before .before .pre in
     omega (arith, Q.addable _ _ _ _ _ _ (p .0) (p .2) (p .3) (p .1) (other .if1 .left) .1, p .3 .sound .nodes .formed .many)
 
-add-terms-requires : tie.Need-add-terms-requires
-add-terms-requires c κs =
+add-requires : tie.Need-add-requires
+add-requires c κs =
     let other = c .before .before .before .before .before .before in
     let p = other .before .before .before .before .pre in
     Q.addable _ _ _ _ _ _ (p .0) (p .2) (p .3) (p .1) (other .if1 .left)
@@ -49,7 +49,7 @@ returns-2 c =
     let called = c .before .before .before .before in
     let other = called .before .before .before .before .before .before .before in
     let p = other .before .before .before .before .pre in
-    Q.sums-two _ _ _ _ _ _ (p .0) (p .2) (p .3) (p .1) (other .if1 .left) _ _ _ _ (called .add-terms .ensures)
+    Q.sums-two _ _ _ _ _ _ (p .0) (p .2) (p .3) (p .1) (other .if1 .left) _ _ _ _ (called .add .ensures)
 
 pub sum-of-few-spec : {M : Type 1} → statement M
 sum-of-few-spec =
@@ -63,7 +63,7 @@ sum-of-few-spec =
     mul-second
     element-copy-out-second
     cast-second
-    add-terms-requires
+    add-requires
     same-length
     same-length-2
     returns-2)

@@ -12,8 +12,11 @@ zero-number : nanBits binary64 0 ≡ false
 unfolding nanBits
 zero-number = refl
 
+slice-aggregate-intern : tie.Need-slice-aggregate-intern
+slice-aggregate-intern c = search needs
+
 intern-requires : tie.Need-intern-requires
-intern-requires c κs = (constant-fits _ _ zero-number, c .before .before .before .before .pre)
+intern-requires c κs = (constant-fits _ _ zero-number, c .before .before .before .before .before .pre)
 
 same-length : tie.Need-same-length
 same-length c = search needs
@@ -23,7 +26,7 @@ same-length-2 c = search needs
 
 returns : tie.Need-returns
 unfolding internConstant toBits
-returns c = c .before .before .before .before .intern .ensures
+returns c = c .before .before .before .before .intern .ensures .builds
 
 pub zero-spec : {M : Type 1} → statement M
-zero-spec = tie.close (tie.spec intern-requires same-length same-length-2 returns)
+zero-spec = tie.close (tie.spec slice-aggregate-intern intern-requires same-length same-length-2 returns)

@@ -25,6 +25,9 @@ mul-children c = search needs
 element-copy-out-children : tie.Need-element-copy-out-children Inv-loop μ-loop
 element-copy-out-children c = search needs
 
+cast-children : tie.Need-cast-children Inv-loop μ-loop
+cast-children c = let v = c .before .before .before .pre .low _ (c .before .loop-test .taken) in omega arith
+
 mul-children-2 : tie.Need-mul-children-2 Inv-loop μ-loop
 mul-children-2 c = search needs
 
@@ -53,6 +56,7 @@ gather-spec =
     add-children
     mul-children
     element-copy-out-children
+    cast-children
     mul-children-2
     array-write-children
     add-place

@@ -1,5 +1,6 @@
 -- The bounds come from the walk's invariant; each way out cites its case of Turning.
-use mathlib.Core.Path.{refl}
+use mathlib.Core.Path.{refl, sym}
+use lib.Seq.{length-take-le}
 use native.Mathlib.Omega.{arith}
 use borrow.Author.Needs.{needs}
 use Rattle.definitions.specs.Modes.{modeOf}
@@ -55,20 +56,26 @@ returns-2 c = T.descended _ _ _ (c .before .before .before .before .before .befo
 gather-requires : tie.Need-gather-requires
 gather-requires c κs = T.may-gather _ _ _ (c .before .before .before .before .before .before .before .before .before .before .before .pre) (c .before .before .before .before .if1 .left) _ (c .before .before .arity .ensures) (c .before .if2 .left)
 
+array-share-prefix-children : tie.Need-array-share-prefix-children
+array-share-prefix-children c = let b = T.bounds _ _ _ (c .before .before .before .before .before .before .before .before .before .before .before .before .before .before .pre) in let small = b .small in search needs
+
+slice-aggregate-finish : tie.Need-slice-aggregate-finish
+slice-aggregate-finish c = sym (length-take-le _ _ (let long = c .before .before .before .gather .ensures .long in let small = T.bounds _ _ _ (c .before .before .before .before .before .before .before .before .before .before .before .before .before .before .before .pre) .small in omega arith))
+
 finish-requires : tie.Need-finish-requires
-finish-requires c κs = T.rebuildable _ _ _ (c .before .before .before .before .before .before .before .before .before .before .before .before .before .before .pre) (c .before .before .before .before .before .before .before .if1 .left) _ (c .before .before .before .before .before .arity .ensures) (c .before .before .before .before .if2 .left) _ (c .before .before .gather .ensures)
+finish-requires c κs = T.rebuildable _ _ _ (c .before .before .before .before .before .before .before .before .before .before .before .before .before .before .before .pre) (c .before .before .before .before .before .before .before .before .if1 .left) _ (c .before .before .before .before .before .before .arity .ensures) (c .before .before .before .before .before .if2 .left) _ (c .before .before .before .gather .ensures)
 
 enum-known-answer : tie.Need-enum-known-answer
 enum-known-answer c = search needs
 
 mul-values-2 : tie.Need-mul-values-2
-mul-values-2 c = let b = T.bounds _ _ _ (c .before .before .before .before .before .before .before .before .before .before .before .before .before .before .before .before .before .before .before .before .before .before .before .pre) in search needs
+mul-values-2 c = let b = T.bounds _ _ _ (c .before .before .before .before .before .before .before .before .before .before .before .before .before .before .before .before .before .before .before .before .before .before .before .before .pre) in search needs
 
 element-write-values-2 : tie.Need-element-write-values-2
-element-write-values-2 c = let b = T.bounds _ _ _ (c .before .before .before .before .before .before .before .before .before .before .before .before .before .before .before .before .before .before .before .before .before .before .before .pre) in search needs
+element-write-values-2 c = let b = T.bounds _ _ _ (c .before .before .before .before .before .before .before .before .before .before .before .before .before .before .before .before .before .before .before .before .before .before .before .before .pre) in search needs
 
 add-going-2 : tie.Need-add-going-2
-add-going-2 c = let b = T.bounds _ _ _ (c .before .before .before .before .before .before .before .before .before .before .before .before .before .before .before .before .before .before .before .before .before .before .before .pre) in omega arith
+add-going-2 c = let b = T.bounds _ _ _ (c .before .before .before .before .before .before .before .before .before .before .before .before .before .before .before .before .before .before .before .before .before .before .before .before .pre) in omega arith
 
 going-requires-2 : tie.Need-going-requires-2
 going-requires-2 c κs = search needs
@@ -83,7 +90,7 @@ same-length-3 : tie.Need-same-length-3
 same-length-3 c = search needs
 
 returns-3 : tie.Need-returns-3
-returns-3 c = T.ends _ _ _ (c .before .before .before .before .before .before .before .before .before .before .before .before .before .before .before .before .before .before .before .before .before .before .before .before .pre) (c .before .before .before .before .before .before .before .before .before .before .before .before .before .before .before .before .before .if1 .left) _ (c .before .before .before .before .before .before .before .before .before .before .before .before .before .before .before .arity .ensures) (c .before .before .before .before .before .before .before .before .before .before .before .before .before .before .if2 .left) _ (c .before .before .before .before .before .before .before .before .before .before .before .before .gather .ensures) (modeOf (c .before .before .before .before .before .before .before .before .before .before .before .before .before .before .before .before .before .before .before .before .before .before .before .before .args .mode)) _ _ (c .before .before .before .before .before .before .before .before .before .finish .ensures) _ (c .before .before .answer .given .1) _ (c .going2 .ensures)
+returns-3 c = T.ends _ _ _ (c .before .before .before .before .before .before .before .before .before .before .before .before .before .before .before .before .before .before .before .before .before .before .before .before .before .pre) (c .before .before .before .before .before .before .before .before .before .before .before .before .before .before .before .before .before .before .if1 .left) _ (c .before .before .before .before .before .before .before .before .before .before .before .before .before .before .before .before .arity .ensures) (c .before .before .before .before .before .before .before .before .before .before .before .before .before .before .before .if2 .left) _ (c .before .before .before .before .before .before .before .before .before .before .before .before .before .gather .ensures) (modeOf (c .before .before .before .before .before .before .before .before .before .before .before .before .before .before .before .before .before .before .before .before .before .before .before .before .before .args .mode)) _ _ (c .before .before .before .before .before .before .before .before .before .finish .ensures) _ (c .before .before .answer .given .1) _ (c .going2 .ensures)
 
 same-length-4 : tie.Need-same-length-4
 same-length-4 c = search needs
@@ -92,7 +99,7 @@ same-length-5 : tie.Need-same-length-5
 same-length-5 c = search needs
 
 returns-4 : tie.Need-returns-4
-returns-4 c = T.stops _ _ _ (c .before .before .before .before .before .before .before .before .before .before .before .before .before .before .before .before .before .before .before .before .before .before .before .pre) (c .before .before .before .before .before .before .before .before .before .before .before .before .before .before .before .before .if1 .left) _ (c .before .before .before .before .before .before .before .before .before .before .before .before .before .before .arity .ensures) (c .before .before .before .before .before .before .before .before .before .before .before .before .before .if2 .left) _ (c .before .before .before .before .before .before .before .before .before .before .before .gather .ensures) (modeOf (c .before .before .before .before .before .before .before .before .before .before .before .before .before .before .before .before .before .before .before .before .before .before .before .args .mode)) _ _ (c .before .before .before .before .before .before .before .before .finish .ensures) _ (c .before .answer2 .given .1)
+returns-4 c = T.stops _ _ _ (c .before .before .before .before .before .before .before .before .before .before .before .before .before .before .before .before .before .before .before .before .before .before .before .before .pre) (c .before .before .before .before .before .before .before .before .before .before .before .before .before .before .before .before .before .if1 .left) _ (c .before .before .before .before .before .before .before .before .before .before .before .before .before .before .before .arity .ensures) (c .before .before .before .before .before .before .before .before .before .before .before .before .before .before .if2 .left) _ (c .before .before .before .before .before .before .before .before .before .before .before .before .gather .ensures) (modeOf (c .before .before .before .before .before .before .before .before .before .before .before .before .before .before .before .before .before .before .before .before .before .before .before .before .args .mode)) _ _ (c .before .before .before .before .before .before .before .before .finish .ensures) _ (c .before .answer2 .given .1)
 
 pub turn-spec : {M : Type 1} → statement M
 turn-spec =
@@ -114,6 +121,8 @@ turn-spec =
     same-length
     returns-2
     gather-requires
+    array-share-prefix-children
+    slice-aggregate-finish
     finish-requires
     enum-known-answer
     mul-values-2
