@@ -18,8 +18,8 @@ operatorArity kind arity = operatorChildren kind arity
 unfoldable pub controlArity : ℕ → ℕ → Bool
 controlArity payload arity = leb payload forLoopControl && controlChildren payload arity
 
--- 01: "In every sound store kinds, payloads (symbols and function numbers below 2^32), child counts .. are as listed"; 02 (b): "The audit (20)
--- turns back a store that holds a NaN"
+-- 01: "In every sound store kinds, payloads (symbols and function numbers below 2^32), child counts .. are as listed"; 02 (b): "The audit
+-- (20) turns back a store that holds a NaN"
 unfoldable pub listed : ℕ → ℕ → ℕ → Bool
 listed kind payload arity =
     cond (eqb kind variableKind) (isSymbolNumber payload && eqb arity 0)

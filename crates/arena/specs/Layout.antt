@@ -1,4 +1,5 @@
--- The words of a node. 01: "A node is 10 words of 64 bits in a lent list: kind, payload, hash, coefficient bits, flags, child count, four child places".
+-- The words of a node. 01: "A node is 10 words of 64 bits in a lent list: kind, payload, hash, coefficient bits, flags, child count, four
+-- child places".
 use Prim.Native.Nat.{ℕ}
 use Rattle.arena.specs.declared.DagArena.{DagArena}
 pub use Rattle.definitions.specs.Limits.{mostChildren, mostNodes}

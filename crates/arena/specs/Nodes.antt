@@ -14,7 +14,8 @@ pub record LowerChildren (id arity : ℕ) (children : List ℕ) : Type 0 where
   pub lower : (j : ℕ) → j < arity → getD children j 0 < id
   pub unused : (j : ℕ) → arity ≤ j → getD children j 0 ≡ 0
 
--- 01: "kinds, payloads .., child counts and unused places are as listed, children have lower ids than their node, .. hashes and coefficients are as here, flags are 0 to 7"
+-- 01: "kinds, payloads .., child counts and unused places are as listed, children have lower ids than their node, .. hashes and
+-- coefficients are as here, flags are 0 to 7"
 pub record WellFormed (id : ℕ) (n : DagNode) : Type 0 where
   pub kinds : listed (n .kind) (n .payload) (n .arity) ≡ true
   pub places : LowerChildren id (n .arity) (n .children)

@@ -206,7 +206,8 @@ pub fn has_parts(
     flags: u64,
     children: &[u32],
 ) -> bool
-    requires { ⌜ (id * nodeWords + nodeWords ≤ length (now nodes)) × WellFormed id (nodeAt (now nodes) id) × (length (now children) ≤ mostChildren) ⌝ }
+    requires { ⌜ (id * nodeWords + nodeWords ≤ length (now nodes)) × WellFormed id (nodeAt (now nodes) id) ×
+        (length (now children) ≤ mostChildren) ⌝ }
     ensures { λ r. ⌜ r ≡ one (nodeAt (now (nodes .entry)) id) (nodeOf kind payload flags (now (children .entry))) ⌝ }
 {
     let at = id as usize * NODE_WORDS;

@@ -14,7 +14,8 @@ pub fn function(
     number: u32,
     operands: &[u32],
 ) -> Built
-    ensures { λ r. ⌜ Stores (M.function number (now (operands .entry))) (now (nodes .entry)) (now (slots .entry)) arena (now (nodes .exit)) (now (slots .exit)) r ⌝ }
+    ensures { λ r. ⌜ Stores (M.function number (now (operands .entry))) (now (nodes .entry)) (now (slots .entry)) arena (now (nodes .exit))
+        (now (slots .exit)) r ⌝ }
 {
     build(
         nodes,

@@ -96,7 +96,8 @@ pub fn operator(
     flags: u32,
     operands: &[u32],
 ) -> Built
-    ensures { λ r. ⌜ Stores (M.operator code flags (now (operands .entry))) (now (nodes .entry)) (now (slots .entry)) arena (now (nodes .exit)) (now (slots .exit)) r ⌝ }
+    ensures { λ r. ⌜ Stores (M.operator code flags (now (operands .entry))) (now (nodes .entry)) (now (slots .entry)) arena
+        (now (nodes .exit)) (now (slots .exit)) r ⌝ }
 {
     let code = code as u64;
     let flags = flags as u64;

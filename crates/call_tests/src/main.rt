@@ -1,6 +1,6 @@
-// Runs scripts of calls. The arguments name the files, which stand in data/. A line that begins with a blank is a command; any other is a title or
-// says what the next commands show. Each line is written as it stands, and behind a command what it answers and leaves. What is written is held to
-// the file `stdout`; docs/ARCHITECTURE.md has the commands.
+// Runs scripts of calls. The arguments name the files, which stand in data/. A line that begins with a blank is a command; any other is a
+// title or says what the next commands show. Each line is written as it stands, and behind a command what it answers and leaves. What is
+// written is held to the file `stdout`; docs/ARCHITECTURE.md has the commands.
 ghost use Prim.Native.Nat.{_≤_};
 
 mod calling;

@@ -19,8 +19,8 @@ use Rattle.text.specs.Memory.{ControllerMemory, controllerMemory, lentControlle
 use Rattle.text.specs.Reading.{Reads}
 use Rattle.text.specs.Calling.{answered}
 
--- What the contract of each public call says of the whole memory: a store, simplify or prune call is lent no names, and a name call no store; a
--- reading is lent both.
+-- What the contract of each public call says of the whole memory: a store, simplify or prune call is lent no names, and a name call no
+-- store; a reading is lent both.
 pub data CallLeaves : ControllerCall → ControllerMemory → ControllerAnswer → ControllerMemory → Type 0 where
   by-store : {c : Machine.Call} {s s′ : Memory} {a : Machine.Answer} {n : NameMemory} → Leaves c s a s′
       → CallLeaves (asked c) (beside model nameModel s n) (fromStore a) (beside model nameModel s′ n)
@@ -39,8 +39,8 @@ pub data LeavesInTurn : ControllerMemory → List ControllerCall → List Contro
 abbrev pub freshControllerMemory : List ℕ → List ℕ → List ℕ → ControllerMemory
 freshControllerMemory words slots bytes = beside model nameModel (freshMemory words slots) (nameMemory bytes 0)
 
--- Whatever a caller does from a fresh memory with the constructors of nodes, simplify, the two prunes, the three name calls and readings keeps
--- the promise of demand 3, and the store and the names are sound on the way.
+-- Whatever a caller does from a fresh memory with the constructors of nodes, simplify, the two prunes, the three name calls and readings
+-- keeps the promise of demand 3, and the store and the names are sound on the way.
 abbrev pub KeepsPromise : Type 0
 KeepsPromise = (m : ControllerMemory) (cs : List ControllerCall) (al : List ControllerAnswer) (ms : List ControllerMemory)
     → FreshController lentController m → LeavesInTurn m cs al ms

@@ -1,5 +1,5 @@
-// One call of a controller by its code, on a store and a name list: the codes are those of specs/Encoding.antt of encoding, and what a call leaves is what the
-// public call that it stands for does.
+// One call of a controller by its code, on a store and a name list: the codes are those of specs/Encoding.antt of encoding, and what a call
+// leaves is what the public call that it stands for does.
 pub mod calling;
 pub mod handing;
 pub mod naming;

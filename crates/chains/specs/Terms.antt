@@ -27,8 +27,8 @@ pub record Readable (words : List ℕ) (count : ℕ) : Type 0 where
 abbrev pub AllBelow : ℕ → List ℕ → Type 0
 AllBelow count ids = (place : ℕ) → place < length ids → getD ids place 0 < count
 
--- How the children of an Add before its last are put after the ids that wait before `top`: before a place, so that those from `free` on stay, or
--- nowhere, since there are more children than places.
+-- How the children of an Add before its last are put after the ids that wait before `top`: before a place, so that those from `free` on
+-- stay, or nowhere, since there are more children than places.
 abbrev pub Pushes : List ℕ → ℕ → ℕ → List ℕ → Waiting → List ℕ → Type 0
 Pushes children top free array (Before to) array′ =
     (to ≤ free) × (to + 1 ≡ top + length children) × (take to array′ ≡ take top array ++ take (length children - 1) children) × (drop free array′ ≡ drop free array) × (length array′ ≡ mostTerms)
@@ -49,8 +49,8 @@ Closes found front back array (Terms from found′ kept) array′ =
     (found′ ≡ found) × (kept ≡ front + back) × (from + kept ≤ mostTerms) × (take kept (drop from array′) ≡ take front array ++ drop (mostTerms - back) array) × (length array′ ≡ mostTerms)
 Closes found front back array TooMany array′ = ⊥
 
--- The number of the chain's terms, and those kept, "a term is kept if its magnitude is at least the threshold", in order from a place of the
--- array on; or, "over 4,096 terms", kept or not, the answer that there are too many.
+-- The number of the chain's terms, and those kept, "a term is kept if its magnitude is at least the threshold", in order from a place of
+-- the array on; or, "over 4,096 terms", kept or not, the answer that there are too many.
 abbrev pub Holds : List ℕ → (ℕ → Bool) → Flattened → List ℕ → Type 0
 Holds terms keep (Terms from found kept) array =
     (found ≡ length terms) × (found ≤ mostTerms) × (kept ≡ length (filter keep terms)) × (from + kept ≤ mostTerms) × (take kept (drop from array) ≡ filter keep terms)

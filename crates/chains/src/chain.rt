@@ -44,7 +44,8 @@ fn push_first(
     top: usize,
     free: usize,
 ) -> Waiting
-    requires { ⌜ Lookup (now nodes) count id × (length (childrenIn (now nodes) count id) ≡ 2) × (top ≤ free) × (free ≤ mostTerms) × (length (now terms) ≡ mostTerms) ⌝ }
+    requires { ⌜ Lookup (now nodes) count id × (length (childrenIn (now nodes) count id) ≡ 2) × (top ≤ free) × (free ≤ mostTerms) ×
+        (length (now terms) ≡ mostTerms) ⌝ }
     ensures { λ r. ⌜ Pushes (childrenIn (now (nodes .entry)) count id) top free (now (terms .entry)) r (now (terms .exit)) ⌝ }
 {
     if free <= top {
@@ -64,7 +65,8 @@ fn push_siblings(
     top: usize,
     free: usize,
 ) -> Waiting
-    requires { ⌜ Lookup (now nodes) count id × (0 < length (childrenIn (now nodes) count id)) × (top ≤ free) × (free ≤ mostTerms) × (length (now terms) ≡ mostTerms) ⌝ }
+    requires { ⌜ Lookup (now nodes) count id × (0 < length (childrenIn (now nodes) count id)) × (top ≤ free) × (free ≤ mostTerms) ×
+        (length (now terms) ≡ mostTerms) ⌝ }
     ensures { λ r. ⌜ Pushes (childrenIn (now (nodes .entry)) count id) top free (now (terms .entry)) r (now (terms .exit)) ⌝ }
 {
     let last = store::arity(nodes, count, id) as usize - 1;
@@ -105,7 +107,8 @@ fn put_term(
     id: u64,
 ) -> bool
     requires { ⌜ Lookup (now nodes) count id × (place < mostTerms) × (length (now terms) ≡ mostTerms) ⌝ }
-    ensures { λ r. ⌜ Puts (Prune.keeps (nodesIn (now (nodes .entry)) count) (ofBits binary64 threshold) id) place id (now (terms .entry)) r (now (terms .exit)) ⌝ }
+    ensures { λ r. ⌜ Puts (Prune.keeps (nodesIn (now (nodes .entry)) count) (ofBits binary64 threshold) id) place id (now (terms .entry)) r
+        (now (terms .exit)) ⌝ }
 {
     terms[place] = id as u32;
     keeps(nodes, count, threshold, id)
@@ -147,7 +150,8 @@ pub fn flatten(
     terms: &mut [u32; MOST_TERMS],
 ) -> Flattened
     requires { ⌜ (root < count) × Readable (now nodes) count × (length (now terms) ≡ mostTerms) ⌝ }
-    ensures { λ r. ⌜ Flattens (chain (nodesIn (now (nodes .entry)) count) root) (Prune.keeps (nodesIn (now (nodes .entry)) count) (ofBits binary64 threshold)) r (now (terms .exit)) ⌝ }
+    ensures { λ r. ⌜ Flattens (chain (nodesIn (now (nodes .entry)) count) root)
+        (Prune.keeps (nodesIn (now (nodes .entry)) count) (ofBits binary64 threshold)) r (now (terms .exit)) ⌝ }
 {
     let mut found: usize = 0;
     let mut front: usize = 0;

@@ -17,7 +17,10 @@ pub extern "C" fn curvalique_function(
     operands: &[u32],
     id: &mut u64,
 ) -> u64
-    ensures { λ r. ⌜ Leaves (M.store (M.function number (now (operands .entry)))) (lentMemory (now (nodes .entry)) (now (slots .entry)) (now (count .entry)) (now (size .entry))) (unlessRefused r (M.stored (now (id .exit)))) (lentMemory (now (nodes .exit)) (now (slots .exit)) (now (count .exit)) (now (size .exit))) ⌝ }
+    ensures { λ r. ⌜ Leaves (M.store (M.function number (now (operands .entry))))
+        (lentMemory (now (nodes .entry)) (now (slots .entry)) (now (count .entry)) (now (size .entry)))
+        (unlessRefused r (M.stored (now (id .exit)))) (lentMemory (now (nodes .exit)) (now (slots .exit)) (now (count .exit))
+        (now (size .exit))) ⌝ }
     ensures { λ r. ⌜ OutputsStay r (now (id .entry) ∷ []) (now (id .exit) ∷ []) ⌝ }
 {
     let arena = DagArena {
@@ -40,7 +43,9 @@ pub extern "C" fn curvalique_select(
     c: u32,
     id: &mut u64,
 ) -> u64
-    ensures { λ r. ⌜ Leaves (M.store (M.select a b c)) (lentMemory (now (nodes .entry)) (now (slots .entry)) (now (count .entry)) (now (size .entry))) (unlessRefused r (M.stored (now (id .exit)))) (lentMemory (now (nodes .exit)) (now (slots .exit)) (now (count .exit)) (now (size .exit))) ⌝ }
+    ensures { λ r. ⌜ Leaves (M.store (M.select a b c)) (lentMemory (now (nodes .entry)) (now (slots .entry)) (now (count .entry))
+        (now (size .entry))) (unlessRefused r (M.stored (now (id .exit))))
+        (lentMemory (now (nodes .exit)) (now (slots .exit)) (now (count .exit)) (now (size .exit))) ⌝ }
     ensures { λ r. ⌜ OutputsStay r (now (id .entry) ∷ []) (now (id .exit) ∷ []) ⌝ }
 {
     let arena = DagArena {
@@ -63,7 +68,9 @@ pub extern "C" fn curvalique_if_else(
     c: u32,
     id: &mut u64,
 ) -> u64
-    ensures { λ r. ⌜ Leaves (M.store (M.ifElse a b c)) (lentMemory (now (nodes .entry)) (now (slots .entry)) (now (count .entry)) (now (size .entry))) (unlessRefused r (M.stored (now (id .exit)))) (lentMemory (now (nodes .exit)) (now (slots .exit)) (now (count .exit)) (now (size .exit))) ⌝ }
+    ensures { λ r. ⌜ Leaves (M.store (M.ifElse a b c)) (lentMemory (now (nodes .entry)) (now (slots .entry)) (now (count .entry))
+        (now (size .entry))) (unlessRefused r (M.stored (now (id .exit))))
+        (lentMemory (now (nodes .exit)) (now (slots .exit)) (now (count .exit)) (now (size .exit))) ⌝ }
     ensures { λ r. ⌜ OutputsStay r (now (id .entry) ∷ []) (now (id .exit) ∷ []) ⌝ }
 {
     let arena = DagArena {
@@ -87,7 +94,9 @@ pub extern "C" fn curvalique_for_loop(
     d: u32,
     id: &mut u64,
 ) -> u64
-    ensures { λ r. ⌜ Leaves (M.store (M.forLoop a b c d)) (lentMemory (now (nodes .entry)) (now (slots .entry)) (now (count .entry)) (now (size .entry))) (unlessRefused r (M.stored (now (id .exit)))) (lentMemory (now (nodes .exit)) (now (slots .exit)) (now (count .exit)) (now (size .exit))) ⌝ }
+    ensures { λ r. ⌜ Leaves (M.store (M.forLoop a b c d)) (lentMemory (now (nodes .entry)) (now (slots .entry)) (now (count .entry))
+        (now (size .entry))) (unlessRefused r (M.stored (now (id .exit))))
+        (lentMemory (now (nodes .exit)) (now (slots .exit)) (now (count .exit)) (now (size .exit))) ⌝ }
     ensures { λ r. ⌜ OutputsStay r (now (id .entry) ∷ []) (now (id .exit) ∷ []) ⌝ }
 {
     let arena = DagArena {
@@ -109,7 +118,10 @@ pub extern "C" fn curvalique_control(
     operands: &[u32],
     id: &mut u64,
 ) -> u64
-    ensures { λ r. ⌜ Leaves (M.store (M.control code (now (operands .entry)))) (lentMemory (now (nodes .entry)) (now (slots .entry)) (now (count .entry)) (now (size .entry))) (unlessRefused r (M.stored (now (id .exit)))) (lentMemory (now (nodes .exit)) (now (slots .exit)) (now (count .exit)) (now (size .exit))) ⌝ }
+    ensures { λ r. ⌜ Leaves (M.store (M.control code (now (operands .entry))))
+        (lentMemory (now (nodes .entry)) (now (slots .entry)) (now (count .entry)) (now (size .entry)))
+        (unlessRefused r (M.stored (now (id .exit)))) (lentMemory (now (nodes .exit)) (now (slots .exit)) (now (count .exit))
+        (now (size .exit))) ⌝ }
     ensures { λ r. ⌜ OutputsStay r (now (id .entry) ∷ []) (now (id .exit) ∷ []) ⌝ }
 {
     let arena = DagArena {

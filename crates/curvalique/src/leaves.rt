@@ -16,7 +16,9 @@ pub extern "C" fn curvalique_variable(
     symbol: u32,
     id: &mut u64,
 ) -> u64
-    ensures { λ r. ⌜ Leaves (M.store (M.variable symbol)) (lentMemory (now (nodes .entry)) (now (slots .entry)) (now (count .entry)) (now (size .entry))) (unlessRefused r (M.stored (now (id .exit)))) (lentMemory (now (nodes .exit)) (now (slots .exit)) (now (count .exit)) (now (size .exit))) ⌝ }
+    ensures { λ r. ⌜ Leaves (M.store (M.variable symbol)) (lentMemory (now (nodes .entry)) (now (slots .entry)) (now (count .entry))
+        (now (size .entry))) (unlessRefused r (M.stored (now (id .exit))))
+        (lentMemory (now (nodes .exit)) (now (slots .exit)) (now (count .exit)) (now (size .exit))) ⌝ }
     ensures { λ r. ⌜ OutputsStay r (now (id .entry) ∷ []) (now (id .exit) ∷ []) ⌝ }
 {
     let arena = DagArena {
@@ -37,7 +39,9 @@ pub extern "C" fn curvalique_constant(
     bits: u64,
     id: &mut u64,
 ) -> u64
-    ensures { λ r. ⌜ Leaves (M.store (M.constant bits)) (lentMemory (now (nodes .entry)) (now (slots .entry)) (now (count .entry)) (now (size .entry))) (unlessRefused r (M.stored (now (id .exit)))) (lentMemory (now (nodes .exit)) (now (slots .exit)) (now (count .exit)) (now (size .exit))) ⌝ }
+    ensures { λ r. ⌜ Leaves (M.store (M.constant bits)) (lentMemory (now (nodes .entry)) (now (slots .entry)) (now (count .entry))
+        (now (size .entry))) (unlessRefused r (M.stored (now (id .exit))))
+        (lentMemory (now (nodes .exit)) (now (slots .exit)) (now (count .exit)) (now (size .exit))) ⌝ }
     ensures { λ r. ⌜ OutputsStay r (now (id .entry) ∷ []) (now (id .exit) ∷ []) ⌝ }
 {
     let arena = DagArena {

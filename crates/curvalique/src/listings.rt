@@ -31,8 +31,13 @@ pub extern "C" fn curvalique_read_listing(
     record: &mut u64,
     line: &mut u64,
 ) -> u64
-    ensures { λ r. ⌜ Reading (now (bytes .entry)) (now (nodes .entry)) (readAnswer r (now (count .exit)) (now (form .exit)) (now (id .exit)) (now (number .exit)) (now («record» .exit)) (now (line .exit))) (now (nodes .exit)) ⌝ }
-    ensures { λ r. ⌜ r ∷ now (count .exit) ∷ now (form .exit) ∷ now (id .exit) ∷ now (number .exit) ∷ now («record» .exit) ∷ now (line .exit) ∷ [] ≡ readOutputs (readAnswer r (now (count .exit)) (now (form .exit)) (now (id .exit)) (now (number .exit)) (now («record» .exit)) (now (line .exit))) (now (count .entry)) (now (form .entry)) (now (id .entry)) (now (number .entry)) (now («record» .entry)) (now (line .entry)) ⌝ }
+    ensures { λ r. ⌜ Reading (now (bytes .entry)) (now (nodes .entry))
+        (readAnswer r (now (count .exit)) (now (form .exit)) (now (id .exit)) (now (number .exit)) (now («record» .exit))
+        (now (line .exit))) (now (nodes .exit)) ⌝ }
+    ensures { λ r. ⌜ r ∷ now (count .exit) ∷ now (form .exit) ∷ now (id .exit) ∷ now (number .exit) ∷ now («record» .exit) ∷ now
+        (line .exit) ∷ [] ≡ readOutputs (readAnswer r (now (count .exit)) (now (form .exit)) (now (id .exit)) (now (number .exit))
+        (now («record» .exit)) (now (line .exit))) (now (count .entry)) (now (form .entry)) (now (id .entry)) (now (number .entry))
+        (now («record» .entry)) (now (line .entry)) ⌝ }
 {
     let answer = listing_reader::read(bytes, nodes);
     leave_read(answer, count, form, id, number, record, line)

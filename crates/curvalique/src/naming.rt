@@ -17,7 +17,8 @@ pub extern "C" fn curvalique_intern_name(
     name: &[u8],
     number: &mut u64,
 ) -> u64
-    ensures { λ r. ⌜ Called (now (entries .entry)) (now (count .entry)) (internName (now (name .entry))) (nameUnlessRefused r (numbered (now (number .exit)))) (now (entries .exit)) (now (count .exit)) ⌝ }
+    ensures { λ r. ⌜ Called (now (entries .entry)) (now (count .entry)) (internName (now (name .entry)))
+        (nameUnlessRefused r (numbered (now (number .exit)))) (now (entries .exit)) (now (count .exit)) ⌝ }
     ensures { λ r. ⌜ OutputsStay r (now (number .entry) ∷ []) (now (number .exit) ∷ []) ⌝ }
 {
     let interned = names::intern(entries, *count, name);
@@ -43,7 +44,8 @@ pub extern "C" fn curvalique_lookup_name(
     known: &mut u64,
     number: &mut u64,
 ) -> u64
-    ensures { λ r. ⌜ Called (now (entries .entry)) count (lookupName (now (name .entry))) (nameUnlessRefused r (numberIfKnown (now (known .exit)) (now (number .exit)))) (now (entries .entry)) count ⌝ }
+    ensures { λ r. ⌜ Called (now (entries .entry)) count (lookupName (now (name .entry)))
+        (nameUnlessRefused r (numberIfKnown (now (known .exit)) (now (number .exit)))) (now (entries .entry)) count ⌝ }
     ensures { λ r. ⌜ Known r (now (known .exit)) (now (number .entry) ∷ []) (now (number .exit) ∷ []) ⌝ }
     ensures { λ r. ⌜ OutputsStay r (now (known .entry) ∷ now (number .entry) ∷ []) (now (known .exit) ∷ now (number .exit) ∷ []) ⌝ }
 {
@@ -73,10 +75,12 @@ pub extern "C" fn curvalique_name(
     length: &mut usize,
     bytes: &mut [u8; LONGEST_NAME],
 ) -> u64
-    ensures { λ r. ⌜ Called (now (entries .entry)) count (nameOf number) (nameUnlessRefused r (nameIfKnown (now (known .exit)) (now (length .exit)) (now (bytes .exit)))) (now (entries .entry)) count ⌝ }
+    ensures { λ r. ⌜ Called (now (entries .entry)) count (nameOf number)
+        (nameUnlessRefused r (nameIfKnown (now (known .exit)) (now (length .exit)) (now (bytes .exit)))) (now (entries .entry)) count ⌝ }
     ensures { λ r. ⌜ Known r (now (known .exit)) (now (length .entry) ∷ now (bytes .entry)) (now (length .exit) ∷ now (bytes .exit)) ⌝ }
     ensures { λ r. ⌜ Padded r (now (known .exit)) (now (length .exit)) (now (bytes .exit)) ⌝ }
-    ensures { λ r. ⌜ OutputsStay r (now (known .entry) ∷ now (length .entry) ∷ now (bytes .entry)) (now (known .exit) ∷ now (length .exit) ∷ now (bytes .exit)) ⌝ }
+    ensures { λ r. ⌜ OutputsStay r (now (known .entry) ∷ now (length .entry) ∷ now (bytes .entry))
+        (now (known .exit) ∷ now (length .exit) ∷ now (bytes .exit)) ⌝ }
 {
     let found = names::name(entries, count, number);
     leave_name(found, known, length, bytes)

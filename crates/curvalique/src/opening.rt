@@ -15,7 +15,8 @@ pub extern "C" fn curvalique_fresh(
     count: &mut u64,
     size: &mut usize,
 ) -> u64
-    ensures { λ r. ⌜ Opens (now (nodes .entry)) (now (slots .entry)) (freshUnlessRefused r (now (count .exit)) (now (size .exit))) (now (slots .exit)) ⌝ }
+    ensures { λ r. ⌜ Opens (now (nodes .entry)) (now (slots .entry)) (freshUnlessRefused r (now (count .exit)) (now (size .exit)))
+        (now (slots .exit)) ⌝ }
     ensures { λ r. ⌜ OutputsStay r (now (count .entry) ∷ now (size .entry) ∷ []) (now (count .exit) ∷ now (size .exit) ∷ []) ⌝ }
 {
     let opened = builder::fresh(nodes, slots);

@@ -17,7 +17,9 @@ pub extern "C" fn curvalique_add(
     b: u32,
     id: &mut u64,
 ) -> u64
-    ensures { λ r. ⌜ Leaves (M.store (M.add a b)) (lentMemory (now (nodes .entry)) (now (slots .entry)) (now (count .entry)) (now (size .entry))) (unlessRefused r (M.stored (now (id .exit)))) (lentMemory (now (nodes .exit)) (now (slots .exit)) (now (count .exit)) (now (size .exit))) ⌝ }
+    ensures { λ r. ⌜ Leaves (M.store (M.add a b)) (lentMemory (now (nodes .entry)) (now (slots .entry)) (now (count .entry))
+        (now (size .entry))) (unlessRefused r (M.stored (now (id .exit))))
+        (lentMemory (now (nodes .exit)) (now (slots .exit)) (now (count .exit)) (now (size .exit))) ⌝ }
     ensures { λ r. ⌜ OutputsStay r (now (id .entry) ∷ []) (now (id .exit) ∷ []) ⌝ }
 {
     let arena = DagArena {
@@ -39,7 +41,9 @@ pub extern "C" fn curvalique_sub(
     b: u32,
     id: &mut u64,
 ) -> u64
-    ensures { λ r. ⌜ Leaves (M.store (M.sub a b)) (lentMemory (now (nodes .entry)) (now (slots .entry)) (now (count .entry)) (now (size .entry))) (unlessRefused r (M.stored (now (id .exit)))) (lentMemory (now (nodes .exit)) (now (slots .exit)) (now (count .exit)) (now (size .exit))) ⌝ }
+    ensures { λ r. ⌜ Leaves (M.store (M.sub a b)) (lentMemory (now (nodes .entry)) (now (slots .entry)) (now (count .entry))
+        (now (size .entry))) (unlessRefused r (M.stored (now (id .exit))))
+        (lentMemory (now (nodes .exit)) (now (slots .exit)) (now (count .exit)) (now (size .exit))) ⌝ }
     ensures { λ r. ⌜ OutputsStay r (now (id .entry) ∷ []) (now (id .exit) ∷ []) ⌝ }
 {
     let arena = DagArena {
@@ -61,7 +65,9 @@ pub extern "C" fn curvalique_mul(
     b: u32,
     id: &mut u64,
 ) -> u64
-    ensures { λ r. ⌜ Leaves (M.store (M.mul a b)) (lentMemory (now (nodes .entry)) (now (slots .entry)) (now (count .entry)) (now (size .entry))) (unlessRefused r (M.stored (now (id .exit)))) (lentMemory (now (nodes .exit)) (now (slots .exit)) (now (count .exit)) (now (size .exit))) ⌝ }
+    ensures { λ r. ⌜ Leaves (M.store (M.mul a b)) (lentMemory (now (nodes .entry)) (now (slots .entry)) (now (count .entry))
+        (now (size .entry))) (unlessRefused r (M.stored (now (id .exit))))
+        (lentMemory (now (nodes .exit)) (now (slots .exit)) (now (count .exit)) (now (size .exit))) ⌝ }
     ensures { λ r. ⌜ OutputsStay r (now (id .entry) ∷ []) (now (id .exit) ∷ []) ⌝ }
 {
     let arena = DagArena {
@@ -83,7 +89,9 @@ pub extern "C" fn curvalique_div(
     b: u32,
     id: &mut u64,
 ) -> u64
-    ensures { λ r. ⌜ Leaves (M.store (M.div a b)) (lentMemory (now (nodes .entry)) (now (slots .entry)) (now (count .entry)) (now (size .entry))) (unlessRefused r (M.stored (now (id .exit)))) (lentMemory (now (nodes .exit)) (now (slots .exit)) (now (count .exit)) (now (size .exit))) ⌝ }
+    ensures { λ r. ⌜ Leaves (M.store (M.div a b)) (lentMemory (now (nodes .entry)) (now (slots .entry)) (now (count .entry))
+        (now (size .entry))) (unlessRefused r (M.stored (now (id .exit))))
+        (lentMemory (now (nodes .exit)) (now (slots .exit)) (now (count .exit)) (now (size .exit))) ⌝ }
     ensures { λ r. ⌜ OutputsStay r (now (id .entry) ∷ []) (now (id .exit) ∷ []) ⌝ }
 {
     let arena = DagArena {
@@ -105,7 +113,9 @@ pub extern "C" fn curvalique_pow(
     b: u32,
     id: &mut u64,
 ) -> u64
-    ensures { λ r. ⌜ Leaves (M.store (M.pow a b)) (lentMemory (now (nodes .entry)) (now (slots .entry)) (now (count .entry)) (now (size .entry))) (unlessRefused r (M.stored (now (id .exit)))) (lentMemory (now (nodes .exit)) (now (slots .exit)) (now (count .exit)) (now (size .exit))) ⌝ }
+    ensures { λ r. ⌜ Leaves (M.store (M.pow a b)) (lentMemory (now (nodes .entry)) (now (slots .entry)) (now (count .entry))
+        (now (size .entry))) (unlessRefused r (M.stored (now (id .exit))))
+        (lentMemory (now (nodes .exit)) (now (slots .exit)) (now (count .exit)) (now (size .exit))) ⌝ }
     ensures { λ r. ⌜ OutputsStay r (now (id .entry) ∷ []) (now (id .exit) ∷ []) ⌝ }
 {
     let arena = DagArena {
@@ -127,7 +137,9 @@ pub extern "C" fn curvalique_modulo(
     b: u32,
     id: &mut u64,
 ) -> u64
-    ensures { λ r. ⌜ Leaves (M.store (M.modulo a b)) (lentMemory (now (nodes .entry)) (now (slots .entry)) (now (count .entry)) (now (size .entry))) (unlessRefused r (M.stored (now (id .exit)))) (lentMemory (now (nodes .exit)) (now (slots .exit)) (now (count .exit)) (now (size .exit))) ⌝ }
+    ensures { λ r. ⌜ Leaves (M.store (M.modulo a b)) (lentMemory (now (nodes .entry)) (now (slots .entry)) (now (count .entry))
+        (now (size .entry))) (unlessRefused r (M.stored (now (id .exit))))
+        (lentMemory (now (nodes .exit)) (now (slots .exit)) (now (count .exit)) (now (size .exit))) ⌝ }
     ensures { λ r. ⌜ OutputsStay r (now (id .entry) ∷ []) (now (id .exit) ∷ []) ⌝ }
 {
     let arena = DagArena {
@@ -148,7 +160,9 @@ pub extern "C" fn curvalique_neg(
     a: u32,
     id: &mut u64,
 ) -> u64
-    ensures { λ r. ⌜ Leaves (M.store (M.neg a)) (lentMemory (now (nodes .entry)) (now (slots .entry)) (now (count .entry)) (now (size .entry))) (unlessRefused r (M.stored (now (id .exit)))) (lentMemory (now (nodes .exit)) (now (slots .exit)) (now (count .exit)) (now (size .exit))) ⌝ }
+    ensures { λ r. ⌜ Leaves (M.store (M.neg a)) (lentMemory (now (nodes .entry)) (now (slots .entry)) (now (count .entry))
+        (now (size .entry))) (unlessRefused r (M.stored (now (id .exit))))
+        (lentMemory (now (nodes .exit)) (now (slots .exit)) (now (count .exit)) (now (size .exit))) ⌝ }
     ensures { λ r. ⌜ OutputsStay r (now (id .entry) ∷ []) (now (id .exit) ∷ []) ⌝ }
 {
     let arena = DagArena {
@@ -171,7 +185,10 @@ pub extern "C" fn curvalique_operator(
     operands: &[u32],
     id: &mut u64,
 ) -> u64
-    ensures { λ r. ⌜ Leaves (M.store (M.operator code flags (now (operands .entry)))) (lentMemory (now (nodes .entry)) (now (slots .entry)) (now (count .entry)) (now (size .entry))) (unlessRefused r (M.stored (now (id .exit)))) (lentMemory (now (nodes .exit)) (now (slots .exit)) (now (count .exit)) (now (size .exit))) ⌝ }
+    ensures { λ r. ⌜ Leaves (M.store (M.operator code flags (now (operands .entry))))
+        (lentMemory (now (nodes .entry)) (now (slots .entry)) (now (count .entry)) (now (size .entry)))
+        (unlessRefused r (M.stored (now (id .exit)))) (lentMemory (now (nodes .exit)) (now (slots .exit)) (now (count .exit))
+        (now (size .exit))) ⌝ }
     ensures { λ r. ⌜ OutputsStay r (now (id .entry) ∷ []) (now (id .exit) ∷ []) ⌝ }
 {
     let arena = DagArena {

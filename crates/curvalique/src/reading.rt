@@ -38,7 +38,8 @@ pub extern "C" fn curvalique_node(
     id: u32,
     words: &mut [u64; NODE_WORDS],
 ) -> u64
-    ensures { λ r. ⌜ ReadsWords (now (nodes .entry)) (now (slots .entry)) (arenaOf count size) id r (now (words .entry)) (now (words .exit)) ⌝ }
+    ensures { λ r. ⌜ ReadsWords (now (nodes .entry)) (now (slots .entry)) (arenaOf count size) id r (now (words .entry)) (now (words .exit))
+        ⌝ }
 {
     let read = builder::node(nodes, slots, DagArena { count, size }, id);
     let answer = read.answer;

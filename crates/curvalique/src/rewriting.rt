@@ -23,8 +23,12 @@ pub extern "C" fn curvalique_simplify(
     spent: &mut u64,
     steps: &mut u64,
 ) -> u64
-    ensures { λ r. ⌜ Leaves (M.simplify standard root depth budget) (lentMemory (now (nodes .entry)) (now (slots .entry)) (now (count .entry)) (now (size .entry))) (unlessRefused r (M.simplified (now (id .exit)) (isSpent (now (spent .exit))) (now (steps .exit)))) (lentMemory (now (nodes .exit)) (now (slots .exit)) (now (count .exit)) (now (size .exit))) ⌝ }
-    ensures { λ r. ⌜ OutputsStay r (now (id .entry) ∷ now (spent .entry) ∷ now (steps .entry) ∷ []) (now (id .exit) ∷ now (spent .exit) ∷ now (steps .exit) ∷ []) ⌝ }
+    ensures { λ r. ⌜ Leaves (M.simplify standard root depth budget)
+        (lentMemory (now (nodes .entry)) (now (slots .entry)) (now (count .entry)) (now (size .entry)))
+        (unlessRefused r (M.simplified (now (id .exit)) (isSpent (now (spent .exit))) (now (steps .exit))))
+        (lentMemory (now (nodes .exit)) (now (slots .exit)) (now (count .exit)) (now (size .exit))) ⌝ }
+    ensures { λ r. ⌜ OutputsStay r (now (id .entry) ∷ now (spent .entry) ∷ now (steps .entry) ∷ [])
+        (now (id .exit) ∷ now (spent .exit) ∷ now (steps .exit) ∷ []) ⌝ }
     ensures { λ r. ⌜ SpentOrNot r (now (spent .exit)) ⌝ }
 {
     let arena = DagArena {
@@ -49,8 +53,12 @@ pub extern "C" fn curvalique_simplify_strictly(
     spent: &mut u64,
     steps: &mut u64,
 ) -> u64
-    ensures { λ r. ⌜ Leaves (M.simplify strict root depth budget) (lentMemory (now (nodes .entry)) (now (slots .entry)) (now (count .entry)) (now (size .entry))) (unlessRefused r (M.simplified (now (id .exit)) (isSpent (now (spent .exit))) (now (steps .exit)))) (lentMemory (now (nodes .exit)) (now (slots .exit)) (now (count .exit)) (now (size .exit))) ⌝ }
-    ensures { λ r. ⌜ OutputsStay r (now (id .entry) ∷ now (spent .entry) ∷ now (steps .entry) ∷ []) (now (id .exit) ∷ now (spent .exit) ∷ now (steps .exit) ∷ []) ⌝ }
+    ensures { λ r. ⌜ Leaves (M.simplify strict root depth budget)
+        (lentMemory (now (nodes .entry)) (now (slots .entry)) (now (count .entry)) (now (size .entry)))
+        (unlessRefused r (M.simplified (now (id .exit)) (isSpent (now (spent .exit))) (now (steps .exit))))
+        (lentMemory (now (nodes .exit)) (now (slots .exit)) (now (count .exit)) (now (size .exit))) ⌝ }
+    ensures { λ r. ⌜ OutputsStay r (now (id .entry) ∷ now (spent .entry) ∷ now (steps .entry) ∷ [])
+        (now (id .exit) ∷ now (spent .exit) ∷ now (steps .exit) ∷ []) ⌝ }
     ensures { λ r. ⌜ SpentOrNot r (now (spent .exit)) ⌝ }
 {
     let arena = DagArena {
@@ -74,8 +82,11 @@ pub extern "C" fn curvalique_prune(
     kept: &mut u64,
     dropped: &mut u64,
 ) -> u64
-    ensures { λ r. ⌜ Leaves (M.prune root threshold) (lentMemory (now (nodes .entry)) (now (slots .entry)) (now (count .entry)) (now (size .entry))) (unlessRefused r (M.pruned (now (id .exit)) (now (kept .exit)) (now (dropped .exit)))) (lentMemory (now (nodes .exit)) (now (slots .exit)) (now (count .exit)) (now (size .exit))) ⌝ }
-    ensures { λ r. ⌜ OutputsStay r (now (id .entry) ∷ now (kept .entry) ∷ now (dropped .entry) ∷ []) (now (id .exit) ∷ now (kept .exit) ∷ now (dropped .exit) ∷ []) ⌝ }
+    ensures { λ r. ⌜ Leaves (M.prune root threshold) (lentMemory (now (nodes .entry)) (now (slots .entry)) (now (count .entry))
+        (now (size .entry))) (unlessRefused r (M.pruned (now (id .exit)) (now (kept .exit)) (now (dropped .exit))))
+        (lentMemory (now (nodes .exit)) (now (slots .exit)) (now (count .exit)) (now (size .exit))) ⌝ }
+    ensures { λ r. ⌜ OutputsStay r (now (id .entry) ∷ now (kept .entry) ∷ now (dropped .entry) ∷ [])
+        (now (id .exit) ∷ now (kept .exit) ∷ now (dropped .exit) ∷ []) ⌝ }
 {
     let arena = DagArena {
         count: *count,
@@ -98,8 +109,11 @@ pub extern "C" fn curvalique_prune_by_setting(
     kept: &mut u64,
     dropped: &mut u64,
 ) -> u64
-    ensures { λ r. ⌜ Leaves (M.pruneBySetting root setting) (lentMemory (now (nodes .entry)) (now (slots .entry)) (now (count .entry)) (now (size .entry))) (unlessRefused r (M.pruned (now (id .exit)) (now (kept .exit)) (now (dropped .exit)))) (lentMemory (now (nodes .exit)) (now (slots .exit)) (now (count .exit)) (now (size .exit))) ⌝ }
-    ensures { λ r. ⌜ OutputsStay r (now (id .entry) ∷ now (kept .entry) ∷ now (dropped .entry) ∷ []) (now (id .exit) ∷ now (kept .exit) ∷ now (dropped .exit) ∷ []) ⌝ }
+    ensures { λ r. ⌜ Leaves (M.pruneBySetting root setting) (lentMemory (now (nodes .entry)) (now (slots .entry)) (now (count .entry))
+        (now (size .entry))) (unlessRefused r (M.pruned (now (id .exit)) (now (kept .exit)) (now (dropped .exit))))
+        (lentMemory (now (nodes .exit)) (now (slots .exit)) (now (count .exit)) (now (size .exit))) ⌝ }
+    ensures { λ r. ⌜ OutputsStay r (now (id .entry) ∷ now (kept .entry) ∷ now (dropped .entry) ∷ [])
+        (now (id .exit) ∷ now (kept .exit) ∷ now (dropped .exit) ∷ []) ⌝ }
 {
     let arena = DagArena {
         count: *count,

@@ -21,8 +21,12 @@ pub extern "C" fn curvalique_run_sheet(
     id: &mut u64,
     record: &mut u64,
 ) -> u64
-    ensures { λ r. ⌜ Runs (now (sheet .entry)) (lentMemory (now (nodes .entry)) (now (slots .entry)) (now (count .entry)) (now (size .entry))) (sheetOutcome r (now (form .exit)) (now (id .exit)) (now («record» .exit))) (lentMemory (now (nodes .exit)) (now (slots .exit)) (now (count .exit)) (now (size .exit))) ⌝ }
-    ensures { λ r. ⌜ r ∷ now (form .exit) ∷ now (id .exit) ∷ now («record» .exit) ∷ [] ≡ sheetOutputs (sheetOutcome r (now (form .exit)) (now (id .exit)) (now («record» .exit))) (now (form .entry)) (now (id .entry)) (now («record» .entry)) ⌝ }
+    ensures { λ r. ⌜ Runs (now (sheet .entry)) (lentMemory (now (nodes .entry)) (now (slots .entry)) (now (count .entry))
+        (now (size .entry))) (sheetOutcome r (now (form .exit)) (now (id .exit)) (now («record» .exit)))
+        (lentMemory (now (nodes .exit)) (now (slots .exit)) (now (count .exit)) (now (size .exit))) ⌝ }
+    ensures { λ r. ⌜ r ∷ now (form .exit) ∷ now (id .exit) ∷ now («record» .exit) ∷ [] ≡ sheetOutputs
+        (sheetOutcome r (now (form .exit)) (now (id .exit)) (now («record» .exit))) (now (form .entry)) (now (id .entry))
+        (now («record» .entry)) ⌝ }
 {
     let arena = DagArena {
         count: *count,
@@ -47,8 +51,13 @@ pub extern "C" fn curvalique_run_sheet_fresh(
     id: &mut u64,
     record: &mut u64,
 ) -> u64
-    ensures { λ r. ⌜ RunsFresh (now (sheet .entry)) (now (nodes .entry)) (now (slots .entry)) (arenaOf (now (count .entry)) (now (size .entry))) (sheetRan (sheetOutcome r (now (form .exit)) (now (id .exit)) (now («record» .exit))) (now (count .exit)) (now (size .exit))) (now (nodes .exit)) (now (slots .exit)) ⌝ }
-    ensures { λ r. ⌜ r ∷ now (form .exit) ∷ now (id .exit) ∷ now («record» .exit) ∷ [] ≡ sheetOutputs (sheetOutcome r (now (form .exit)) (now (id .exit)) (now («record» .exit))) (now (form .entry)) (now (id .entry)) (now («record» .entry)) ⌝ }
+    ensures { λ r. ⌜ RunsFresh (now (sheet .entry)) (now (nodes .entry)) (now (slots .entry))
+        (arenaOf (now (count .entry)) (now (size .entry))) (sheetRan
+        (sheetOutcome r (now (form .exit)) (now (id .exit)) (now («record» .exit))) (now (count .exit)) (now (size .exit)))
+        (now (nodes .exit)) (now (slots .exit)) ⌝ }
+    ensures { λ r. ⌜ r ∷ now (form .exit) ∷ now (id .exit) ∷ now («record» .exit) ∷ [] ≡ sheetOutputs
+        (sheetOutcome r (now (form .exit)) (now (id .exit)) (now («record» .exit))) (now (form .entry)) (now (id .entry))
+        (now («record» .entry)) ⌝ }
 {
     let before = DagArena {
         count: *count,

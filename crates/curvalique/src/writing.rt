@@ -21,7 +21,8 @@ pub extern "C" fn curvalique_write_text(
     text: &mut [u8],
     length: &mut u64,
 ) -> u64
-    ensures { λ r. ⌜ Writes (controllerMemory (now (nodes .entry)) (now (slots .entry)) (arenaOf count size) (now (entries .entry)) «name_count»)
+    ensures { λ r. ⌜ Writes (controllerMemory (now (nodes .entry)) (now (slots .entry)) (arenaOf count size) (now (entries .entry))
+        «name_count»)
         id (now (text .entry)) (lengthUnlessRefused r (now (length .exit))) (now (text .exit)) ⌝ }
     ensures { λ r. ⌜ OutputsStay r (now (length .entry) ∷ []) (now (length .exit) ∷ []) ⌝ }
 {

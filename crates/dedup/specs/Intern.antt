@@ -25,7 +25,8 @@ pub record Interned : Type 0 where
 abbrev pub answered : Answer → ℕ → ℕ → Interned
 answered answer count size = record { answer = answer; arena = arenaOf count size }
 
--- to a new node, with so many words and slots lent. 01: "21 no place for a new node (65,536 at most). 22 a new node needs a doubling and the lent slots are too few"
+-- to a new node, with so many words and slots lent. 01: "21 no place for a new node (65,536 at most). 22 a new node needs a doubling and
+-- the lent slots are too few"
 unfoldable pub newAnswer : ℕ → ℕ → ℕ → ℕ → Interned
 newAnswer words slots count size =
     cond (leb mostNodes count || ltb words (count * nodeWords + nodeWords)) (answered (Refused noNodePlace) count size)

@@ -58,7 +58,8 @@ pub record Placed (slots : List ℕ) (size hash value : ℕ) : Type 0 where
 abbrev pub AllKnown : ℕ → List ℕ → ℕ → Type 0
 AllKnown known slots size = (p : ℕ) → p < size → getD slots p 0 ≤ known
 
--- "each id has just one slot, met from its hash modulo the table size onward, round the end, before an empty one, and every other slot is 0"
+-- "each id has just one slot, met from its hash modulo the table size onward, round the end, before an empty one, and every other slot is
+-- 0"
 pub record InOrder (hash : ℕ → ℕ) (count : ℕ) (slots : List ℕ) (size : ℕ) : Type 0 where
   pub placed : (i : ℕ) → i < count → Placed slots size (hash i) (suc i)
   pub single : (p q : ℕ) → p < size → q < size → (getD slots p 0 ≡ 0 → ⊥) → getD slots p 0 ≡ getD slots q 0 → p ≡ q

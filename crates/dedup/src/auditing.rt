@@ -95,7 +95,8 @@ fn all_meet_own(nodes: &[u64], slots: &[u32], arena: DagArena) -> bool
 // Whether the nodes and the table are as 01 says of every sound store. Each id has a slot, and as many slots as
 // ids are in use: so no id has two, and every other slot is 0.
 pub fn audit(nodes: &[u64], slots: &[u32], arena: DagArena) -> bool
-    ensures { λ r. ⌜ Says r (Nodes (now (nodes .entry)) (arena .count) × Table (hashAt (now (nodes .entry))) (arena .count) (now (slots .entry)) (arena .size)) ⌝ }
+    ensures { λ r. ⌜ Says r (Nodes (now (nodes .entry)) (arena .count) × Table (hashAt (now (nodes .entry))) (arena .count)
+        (now (slots .entry)) (arena .size)) ⌝ }
 {
     let count = arena.count;
     let size = arena.size;

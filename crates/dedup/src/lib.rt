@@ -43,8 +43,11 @@ fn insert_growing(
     hash: u64,
     children: &[u32],
 ) -> Answer
-    requires { ⌜ Full (now nodes) (now slots) (arenaOf (now count) (now size)) (nodeOf kind payload flags (now children)) × Key kind payload hash (now children) ⌝ }
-    ensures { λ r. ⌜ Interns (now (nodes .entry)) (now (slots .entry)) (arenaOf (now (count .entry)) (now (size .entry))) (nodeOf kind payload flags (now (children .entry))) (answered r (now (count .exit)) (now (size .exit))) (now (nodes .exit)) (now (slots .exit)) ⌝ }
+    requires { ⌜ Full (now nodes) (now slots) (arenaOf (now count) (now size)) (nodeOf kind payload flags (now children)) × Key kind payload
+        hash (now children) ⌝ }
+    ensures { λ r. ⌜ Interns (now (nodes .entry)) (now (slots .entry)) (arenaOf (now (count .entry)) (now (size .entry)))
+        (nodeOf kind payload flags (now (children .entry))) (answered r (now (count .exit)) (now (size .exit))) (now (nodes .exit))
+        (now (slots .exit)) ⌝ }
 {
     let id = *count;
     if slots.len() / 2 < *size {
@@ -71,8 +74,11 @@ fn insert(
     children: &[u32],
     free: usize,
 ) -> Answer
-    requires { ⌜ Absent (now nodes) (now slots) (arenaOf (now count) (now size)) (nodeOf kind payload flags (now children)) × FirstFree (now slots) (now size) hash free × Key kind payload hash (now children) ⌝ }
-    ensures { λ r. ⌜ Interns (now (nodes .entry)) (now (slots .entry)) (arenaOf (now (count .entry)) (now (size .entry))) (nodeOf kind payload flags (now (children .entry))) (answered r (now (count .exit)) (now (size .exit))) (now (nodes .exit)) (now (slots .exit)) ⌝ }
+    requires { ⌜ Absent (now nodes) (now slots) (arenaOf (now count) (now size)) (nodeOf kind payload flags (now children)) × FirstFree
+        (now slots) (now size) hash free × Key kind payload hash (now children) ⌝ }
+    ensures { λ r. ⌜ Interns (now (nodes .entry)) (now (slots .entry)) (arenaOf (now (count .entry)) (now (size .entry)))
+        (nodeOf kind payload flags (now (children .entry))) (answered r (now (count .exit)) (now (size .exit))) (now (nodes .exit))
+        (now (slots .exit)) ⌝ }
 {
     let id = *count;
     if MOST_NODES <= id {
@@ -112,8 +118,11 @@ pub fn get_or_insert(
     hash: u64,
     children: &[u32],
 ) -> Answer
-    requires { ⌜ Nodes (now nodes) (now count) × Table (hashAt (now nodes)) (now count) (now slots) (now size) × WellFormed (now count) (nodeOf kind payload flags (now children)) × Key kind payload hash (now children) ⌝ }
-    ensures { λ r. ⌜ Interns (now (nodes .entry)) (now (slots .entry)) (arenaOf (now (count .entry)) (now (size .entry))) (nodeOf kind payload flags (now (children .entry))) (answered r (now (count .exit)) (now (size .exit))) (now (nodes .exit)) (now (slots .exit)) ⌝ }
+    requires { ⌜ Nodes (now nodes) (now count) × Table (hashAt (now nodes)) (now count) (now slots) (now size) × WellFormed (now count)
+        (nodeOf kind payload flags (now children)) × Key kind payload hash (now children) ⌝ }
+    ensures { λ r. ⌜ Interns (now (nodes .entry)) (now (slots .entry)) (arenaOf (now (count .entry)) (now (size .entry)))
+        (nodeOf kind payload flags (now (children .entry))) (answered r (now (count .exit)) (now (size .exit))) (now (nodes .exit))
+        (now (slots .exit)) ⌝ }
 {
     let found = search(
         nodes,

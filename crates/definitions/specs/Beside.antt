@@ -1,5 +1,5 @@
--- A controller's memory as code has it: a store's, and beside it a name list's. What a call says of its own part, said of the whole, is what the
--- promise takes (proofs Lifting).
+-- A controller's memory as code has it: a store's, and beside it a name list's. What a call says of its own part, said of the whole, is
+-- what the promise takes (proofs Lifting).
 use Prim.Native.Nat.{ℕ}
 use mathlib.Core.Path.{_≡_}
 use mathlib.Core.List.{List, []}

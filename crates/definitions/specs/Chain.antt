@@ -30,7 +30,8 @@ unfoldable pub belowThreshold : Float → Tree → Bool
 unfolding lt ofBits
 belowThreshold t (tree k p f c) = eqb k constantKind && lt (absolute (ofBits binary64 p)) t
 
--- "The dropped terms are exactly the constants in the simplified chain whose magnitude is below the threshold, each as often as it stands there"
+-- "The dropped terms are exactly the constants in the simplified chain whose magnitude is below the threshold, each as often as it stands
+-- there"
 abbrev pub dropped : Float → Tree → List Tree
 dropped t s = filter (belowThreshold t) (chainOf s)
 

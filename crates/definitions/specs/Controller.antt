@@ -1,6 +1,6 @@
--- The controller's plain machine (02 c): "demand 3's lists and plain machine take in name calls, readings and later calls that change store or
--- lists, with name and rule lists handed on like the store, empty at first, lent places known." It stands over the plain machine of 01 and the
--- plain registry of names, and changes neither. A later call is one constructor more, and a later list one field more.
+-- The controller's plain machine (02 c): "demand 3's lists and plain machine take in name calls, readings and later calls that change store
+-- or lists, with name and rule lists handed on like the store, empty at first, lent places known." It stands over the plain machine of 01
+-- and the plain registry of names, and changes neither. A later call is one constructor more, and a later list one field more.
 use Prim.Native.Nat.{ℕ}
 use mathlib.Core.Path.{_≡_}
 use mathlib.Core.Bool.{Bool}
@@ -131,7 +131,8 @@ untaken (pruningBySetting i n) = namesPart ∷ []
 untaken (naming c) = storePart ∷ []
 untaken (reading text) = []
 
--- the parts that a call leaves as they are, whatever it answers: a name call changes no node, a store call no name; a reading may change both
+-- the parts that a call leaves as they are, whatever it answers: a name call changes no node, a store call no name; a reading may change
+-- both
 abbrev pub spares : ControllerCall → List Part
 spares (building c) = namesPart ∷ []
 spares (simplifying m i depth budget) = namesPart ∷ []

@@ -1,5 +1,5 @@
--- The laboratory's evaluation of a formula (02 i): "The laboratory evaluates in binary64 and wants equal results." A value is a number of lib.Ieee,
--- which has one NaN.
+-- The laboratory's evaluation of a formula (02 i): "The laboratory evaluates in binary64 and wants equal results." A value is a number of
+-- lib.Ieee, which has one NaN.
 use Prim.Native.Nat.{ℕ}
 use mathlib.Core.Bool.{cond}
 use mathlib.Core.List.{List, [], _∷_, map}
@@ -8,8 +8,8 @@ use lib.Ieee.{Float, nan, binary64, ofBits, toBits, add, sub, mul, div, neg}
 use Rattle.definitions.specs.Node.{variableKind, constantKind, addKind, subKind, mulKind, divKind, negKind}
 use Rattle.definitions.specs.Formula.{Tree, tree, Forest, nil, cons}
 
--- "all binary64 variable values": the bits of a symbol's value. "Pow, Mod, functions and controls read as any function of bits, NaNs alike": of the
--- kind, the payload and the arguments' bits, in which `toBits` writes every NaN alike.
+-- "all binary64 variable values": the bits of a symbol's value. "Pow, Mod, functions and controls read as any function of bits, NaNs
+-- alike": of the kind, the payload and the arguments' bits, in which `toBits` writes every NaN alike.
 pub record Evaluation : Type 0 where
   pub variables : ℕ → ℕ
   pub functions : ℕ → ℕ → List ℕ → ℕ

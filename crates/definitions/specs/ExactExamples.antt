@@ -129,8 +129,8 @@ pub near-a-tenth : OnlyFirst (constant 0x3FB9800000000000) (constant 0x3FB999999
 unfolding decide ofBits bound
 near-a-tenth = decided tt tt
 
--- "Attendants set the coefficients at the basin, in steps of 1/1024" (00): a constant whose 1024-fold is whole has P of at most 10, and it is
--- of the exact kind if its magnitude is at most 2^43. Proved in proofs/Coefficients.
+-- "Attendants set the coefficients at the basin, in steps of 1/1024" (00): a constant whose 1024-fold is whole has P of at most 10, and it
+-- is of the exact kind if its magnitude is at most 2^43. Proved in proofs/Coefficients.
 abbrev pub Coefficients : Type 0
 Coefficients =
     (bits : ℕ) (b : Bool) (m : ℕ) (e : ℤ) → ofBits binary64 bits ≡ fin b m e → WholeAt m e 10

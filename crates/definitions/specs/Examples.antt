@@ -162,8 +162,8 @@ examples =
     -- 02 (n), two kept: (x+0.5)+0.01 at 0.1 leaves x+0.5, and so it does again; at 1.0 both that and the original become x
     ∷ example (x ∷ number half ∷ number hundredth ∷ plus 0 1 ∷ plus 3 2 ∷ prune 4 tenth ∷ prune 3 tenth ∷ prune 3 one ∷ prune 4 one ∷ [])
     (stored 0 ∷ stored 1 ∷ stored 2 ∷ stored 3 ∷ stored 4 ∷ pruned 3 2 1 ∷ pruned 3 2 0 ∷ pruned 0 1 1 ∷ pruned 0 1 2 ∷ [])
-    -- "With one term of a chain kept this fails for a constant between t and u": 0.5+0.01 at 0.1 leaves 0.5, which stays at 1.0, where the original
-    -- becomes 0.0
+    -- "With one term of a chain kept this fails for a constant between t and u": 0.5+0.01 at 0.1 leaves 0.5, which stays at 1.0, where the
+    -- original becomes 0.0
     ∷ example (number half ∷ number hundredth ∷ plus 0 1 ∷ prune 2 tenth ∷ prune 0 one ∷ prune 2 one ∷ number plusZero ∷ [])
     (stored 0 ∷ stored 1 ∷ stored 2 ∷ pruned 0 1 1 ∷ pruned 0 1 0 ∷ pruned 3 0 2 ∷ stored 3 ∷ [])
     -- and for a term that is no constant, with t at most 1.0 and u above it: x+0.01 at 0.1, then at 2.0
@@ -241,8 +241,8 @@ pub identity-cases : map (λ (cs : List Call). answers lent empty cs) identityCa
 unfolding answers
 identity-cases = refl
 
--- 02 (b), "A fold to NaN is now declined and the node is rebuilt plainly": the simplify answers its root, and the next new node has the next
--- id, so that nothing was interned
+-- 02 (b), "A fold to NaN is now declined and the node is rebuilt plainly": the simplify answers its root, and the next new node has the
+-- next id, so that nothing was interned
 abbrev declinedFold : ℕ → ℕ → ℕ → List Call
 declinedFold code a b = number a ∷ number b ∷ store (operator code 0 (0 ∷ 1 ∷ [])) ∷ simplify 2 255 100 ∷ number five ∷ []
 

@@ -1,4 +1,5 @@
--- How far a prune may have moved a formula (00, "They read the dropped count as how far the formula may have moved, and trim the feed by it").
+-- How far a prune may have moved a formula (00, "They read the dropped count as how far the formula may have moved, and trim the feed by
+-- it").
 use Prim.Native.Nat.{ℕ, _+_, _*_, _^_, _<_, _≤_}
 use mathlib.Core.Path.{_≡_}
 use lib.Dec.{T}

@@ -1,4 +1,5 @@
--- The plain registry of names (01, "symbol registry and settings"): a list of names in order of first interning. A name is a list of bytes, and its number is its place in the list.
+-- The plain registry of names (01, "symbol registry and settings"): a list of names in order of first interning. A name is a list of bytes,
+-- and its number is its place in the list.
 use Prim.Native.Nat.{ℕ, suc, min}
 use mathlib.Core.Bool.{Bool, true, false, _&&_, cond}
 use mathlib.Core.Option.{Option, none, some}
@@ -70,7 +71,8 @@ abbrev pub lookupAt : Option ℕ → NameAnswer
 lookupAt (some n) = numbered n
 lookupAt none = unknown
 
--- a call on the names, with so many lent entries: its answer, and the names after it. "for names 20, 9, 24"; a plain registry is always sound.
+-- a call on the names, with so many lent entries: its answer, and the names after it. "for names 20, 9, 24"; a plain registry is always
+-- sound.
 unfoldable pub nameCall : ℕ → List (List ℕ) → NameCall → NameResult
 unfolding numberFrom
 nameCall lent names (internName name) = cond (lengthAllowed name) (internAt lent names name (numberFrom names 0 name)) (answers (refused badNameLength) names)

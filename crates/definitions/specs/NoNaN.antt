@@ -1,5 +1,5 @@
--- 02 (b), "No NaN in the store": what is proved of folding, merging, rebuilding, store calls and sheets (proofs NoNaN). That no list of calls
--- leaves a NaN among the nodes is `numbers` of the promise.
+-- 02 (b), "No NaN in the store": what is proved of folding, merging, rebuilding, store calls and sheets (proofs NoNaN). That no list of
+-- calls leaves a NaN among the nodes is `numbers` of the promise.
 use Prim.Native.Nat.{ℕ, suc}
 use mathlib.Core.Path.{_≡_}
 use mathlib.Core.Bool.{true, false}

@@ -97,8 +97,8 @@ sameChildren (a ∷ al) (b ∷ bs) = eqb a b && sameChildren al bs
 abbrev pub same : Node → Node → Bool
 same m n = eqb (m .kind) (n .kind) && (eqb (m .payload) (n .payload) && (eqb (m .flags) (n .flags) && sameChildren (m .children) (n .children)))
 
--- 02 (b), "a constant whose bits are a NaN": of any pattern, quiet or signalling, of either sign. Without the sign's bit a NaN's bits are above
--- the infinity's, 7FF0000000000000 (`nanBits-above` of the kit's lib.Ieee.Bits).
+-- 02 (b), "a constant whose bits are a NaN": of any pattern, quiet or signalling, of either sign. Without the sign's bit a NaN's bits are
+-- above the infinity's, 7FF0000000000000 (`nanBits-above` of the kit's lib.Ieee.Bits).
 abbrev pub nanConstant : ℕ → ℕ → Bool
 nanConstant k p = eqb k constantKind && nanBits binary64 p
 

@@ -57,8 +57,8 @@ abbrev pub All : {A : Type 0} → (A → Type 0) → List A → Type 0
 All P [] = Unit {0}
 All P (x ∷ xs) = P x × All P xs
 
--- A controller as code has it: what its memory is, when each part of it is sound, when a part is the same in two memories, word for word and
--- byte for byte, what the plain machine has in it, and how much is lent.
+-- A controller as code has it: what its memory is, when each part of it is sound, when a part is the same in two memories, word for word
+-- and byte for byte, what the plain machine has in it, and how much is lent.
 pub record ControllerModel : Type 1 where
   pub Memory : Type 0
   pub Sound : Memory → Part → Type 0
@@ -66,8 +66,8 @@ pub record ControllerModel : Type 1 where
   pub view : Memory → Controller
   pub lent : Memory → LentLists
 
--- Of a call, the memory before it, its answer and the memory after it: 20 and nothing changed where a part that the call takes is not sound, and
--- where they are, the plain machine's answer and what it leaves, and every part sound that was.
+-- Of a call, the memory before it, its answer and the memory after it: 20 and nothing changed where a part that the call takes is not
+-- sound, and where they are, the plain machine's answer and what it leaves, and every part sound that was.
 pub record ControllerCalled (M : ControllerModel) (c : ControllerCall) (m : M .Memory) (a : ControllerAnswer) (m' : M .Memory) : Type 0 where
   pub unsound : (All (M .Sound m) (takes c) → ⊥) → (a ≡ refused notSound) × (m' ≡ m)
   pub answer : All (M .Sound m) (takes c) → a ≡ controllerCall (M .lent m) (M .view m) c .answer
@@ -82,8 +82,8 @@ pub record FreshController (M : ControllerModel) (m : M .Memory) : Type 0 where
   pub sound : (p : Part) → M .Sound m p
   pub view : M .view m ≡ emptyController
 
--- "each other one the store as the call before left it, and nobody else writes it meanwhile", "name and rule lists handed on like the store":
--- calls, answers, and the memory after each
+-- "each other one the store as the call before left it, and nobody else writes it meanwhile", "name and rule lists handed on like the
+-- store": calls, answers, and the memory after each
 pub data History (M : ControllerModel) : M .Memory → List ControllerCall → List ControllerAnswer → List (M .Memory) → Type 0 where
   done : {m : M .Memory} → History M m [] [] []
   next : {m m' : M .Memory} {c : ControllerCall} {cs : List ControllerCall} {a : ControllerAnswer} {al : List ControllerAnswer} {ms : List (M .Memory)}
@@ -162,8 +162,8 @@ pub data StopsReading : ℕ → Type 0 where
   noNode : StopsReading noNodePlace
   noSlots : StopsReading noSlotPlace
 
--- Of a list of calls from the empty controller: `al` are the answers, and `ss` what stands after each call. Position i of `emptyController ∷ ss` is
--- what stands before call i, position i of `ss` what stands after it.
+-- Of a list of calls from the empty controller: `al` are the answers, and `ss` what stands after each call. Position i of `emptyController
+-- ∷ ss` is what stands before call i, position i of `ss` what stands after it.
 pub record Promise (l : LentLists) (cs : List ControllerCall) (al : List ControllerAnswer) (ss : List Controller) : Type 0 where
   -- "Each call's answer or refusal, and the nodes after it, equal those of 01's plain machine, fed with the same calls alone."
   pub plain-answers : al ≡ controllerAnswers l emptyController cs
@@ -182,8 +182,8 @@ pub record Promise (l : LentLists) (cs : List ControllerCall) (al : List Control
   pub numbers : (i id : ℕ) (s : Controller) → nth ss i ≡ some s → id < length (s .nodes)
       → nanConstant (at (s .nodes) id .kind) (at (s .nodes) id .payload) ≡ false
   -- an answered simplify at i, strict or not, of a formula of the exact kind, and a later answered prune of its answer at j, at a threshold
-  -- from 0 to 1: the simplified formula is of the exact kind too; each of the three ids is that of a node, so that none of the three formulas
-  -- is what stands for an id without one (`noFormula` of Formula.antt)
+  -- from 0 to 1: the simplified formula is of the exact kind too; each of the three ids is that of a node, so that none of the three
+  -- formulas is what stands for an id without one (`noFormula` of Formula.antt)
   pub balance : (m : Mode) (i j root depth budget id steps t answer keptCount droppedCount : ℕ) (spent : Bool) (p : ControllerCall)
       (s0 s1 s3 : Controller) → i < j
       → nth cs i ≡ some (simplifying m root depth budget) → nth al i ≡ some (simplified id spent steps)
@@ -197,8 +197,8 @@ pub record Promise (l : LentLists) (cs : List ControllerCall) (al : List Control
   pub untouched-answers : (j id : ℕ) (p : ControllerCall) (s s' : Controller)
       → nth cs j ≡ some p → prunes p ≡ some (id, untouched) → nth (emptyController ∷ ss) j ≡ some s → nth ss j ≡ some s' → id < length (s .nodes)
       → (nth al j ≡ some (pruned id 1 0)) × (s' ≡ s)
-  -- and after an answered simplify at i, of a formula of the exact kind, a prune of its answer at j, without a threshold, is answered so and
-  -- "demand 3's value balance still holds, with nothing dropped"
+  -- and after an answered simplify at i, of a formula of the exact kind, a prune of its answer at j, without a threshold, is answered so
+  -- and "demand 3's value balance still holds, with nothing dropped"
   pub untouched-balance : (m : Mode) (i j root depth budget id steps : ℕ) (spent : Bool) (p : ControllerCall) (s0 s1 s3 : Controller) → i < j
       → nth cs i ≡ some (simplifying m root depth budget) → nth al i ≡ some (simplified id spent steps)
       → nth cs j ≡ some p → prunes p ≡ some (id, untouched)
@@ -206,8 +206,8 @@ pub record Promise (l : LentLists) (cs : List ControllerCall) (al : List Control
       → Exact (formula (s0 .nodes) root)
       → (root < length (s0 .nodes)) × (id < length (s1 .nodes)) × (id < length (s3 .nodes)) × (nth al j ≡ some (pruned id 1 0))
       × ((r : Reading) → valueOf r (formula (s0 .nodes) root) ≡ valueOf r (formula (s3 .nodes) id))
-  -- 02 (i), an answered strict walk at i, spent or not, of any formula: "For every formula and all binary64 variable values, evaluating before and
-  -- after gives the same bits, all NaNs counted as one"
+  -- 02 (i), an answered strict walk at i, spent or not, of any formula: "For every formula and all binary64 variable values, evaluating
+  -- before and after gives the same bits, all NaNs counted as one"
   pub same-bits : (i root depth budget id steps : ℕ) (spent : Bool) (s0 s1 : Controller)
       → nth cs i ≡ some (simplifying strict root depth budget) → nth al i ≡ some (simplified id spent steps)
       → nth (emptyController ∷ ss) i ≡ some s0 → nth ss i ≡ some s1
@@ -242,8 +242,8 @@ pub record Promise (l : LentLists) (cs : List ControllerCall) (al : List Control
   pub reads-refused : (i number : ℕ) (text : List ℕ) (s s' : Controller)
       → nth cs i ≡ some (reading text) → Refuses text number → nth (emptyController ∷ ss) i ≡ some s → nth ss i ≡ some s'
       → (nth al i ≡ some (refused number)) × (s' ≡ s)
-  -- a text that meets none of these makes the names and nodes of its expression; "Stopped by 24, 21 or 22, it keeps the names and nodes made
-  -- before"
+  -- a text that meets none of these makes the names and nodes of its expression; "Stopped by 24, 21 or 22, it keeps the names and nodes
+  -- made before"
   pub reads-made : (i : ℕ) (text : List ℕ) (e : Expr) (a : ControllerAnswer) (s s' : Controller)
       → nth cs i ≡ some (reading text) → Denotes text e → nth al i ≡ some a → nth (emptyController ∷ ss) i ≡ some s → nth ss i ≡ some s'
       → (a ≡ fromMade (make l e s) .answer) × (s' ≡ fromMade (make l e s) .left)

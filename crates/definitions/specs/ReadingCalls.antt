@@ -1,5 +1,5 @@
--- A reading as a list of the controller's own calls: operands first, left before right, each name interned just before its node, up to the first
--- call that is refused.
+-- A reading as a list of the controller's own calls: operands first, left before right, each name interned just before its node, up to the
+-- first call that is refused.
 use Prim.Native.Nat.{ℕ}
 use mathlib.Core.Path.{_≡_}
 use mathlib.Core.List.{List, [], _∷_, _++_}

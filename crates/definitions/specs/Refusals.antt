@@ -1,5 +1,5 @@
--- The numbers of the refusals of documents 01 and 02, by what they say. Those that a text meets stand with the language, 10 among them, which a
--- store call and a sheet meet too.
+-- The numbers of the refusals of documents 01 and 02, by what they say. Those that a text meets stand with the language, 10 among them,
+-- which a store call and a sheet meet too.
 use Prim.Native.Nat.{ℕ}
 pub use Rattle.text_language.specs.Refusals.{badText, notANumber, outsideLanguage, nestedTooDeep}
 

@@ -1,5 +1,5 @@
--- The strict patterns (02 i): "A strict walk has only these patterns, which name all operands of the node, each firing wherever it fits: x + (-0.0),
--- (-0.0) + x, x - (+0.0), 1·x, x·1, x/1, double Neg, and folding of two constants by +, -, ·, / where not NaN and not by zero."
+-- The strict patterns (02 i): "A strict walk has only these patterns, which name all operands of the node, each firing wherever it fits: x
+-- + (-0.0), (-0.0) + x, x - (+0.0), 1·x, x·1, x/1, double Neg, and folding of two constants by +, -, ·, / where not NaN and not by zero."
 use Prim.Native.Nat.{ℕ}
 use mathlib.Core.Bool.{Bool, _&&_, cond}
 use mathlib.Core.Option.{Option, none, some}
@@ -55,8 +55,8 @@ strictIdentities ns k a b =
 
 -- ---- all of them
 
--- the pattern that fits a kind over new children, all of which it names: none on an Add or Mul of one, three or four. `constantFold` declines a NaN
--- and either zero as divisor.
+-- the pattern that fits a kind over new children, all of which it names: none on an Add or Mul of one, three or four. `constantFold`
+-- declines a NaN and either zero as divisor.
 unfoldable pub strictApply : Lent → List Node → ℕ → List ℕ → Option Built
 unfolding strictIdentities constantFold
 strictApply l ns k [] = none

@@ -111,8 +111,8 @@ pub whole-cases :
 unfolding answers
 whole-cases = refl
 
--- f(x + 0.5): a strict walk leaves no mark, so that the walk after it goes through both nodes and marks them; a strict walk then goes through both,
--- marked as they are. A budget of 4 is spent; 4 and 5 are refused as in every walk.
+-- f(x + 0.5): a strict walk leaves no mark, so that the walk after it goes through both nodes and marks them; a strict walk then goes
+-- through both, marked as they are. A budget of 4 is spent; 4 and 5 are refused as in every walk.
 pub marks-unheeded :
     answers lent empty (store (variable 0) ∷ store (constant half) ∷ store (add 0 1) ∷ store (function 7 (2 ∷ [])) ∷ simplify strict 3 255 100 ∷ simplify standard 3 255 100
     ∷ simplify standard 3 255 100 ∷ simplify strict 3 255 100 ∷ simplify strict 3 255 4 ∷ simplify strict 4 255 100 ∷ simplify strict 3 256 100 ∷ [])

@@ -1,5 +1,5 @@
--- "A strict walk has only these patterns, which name all operands of the node, each firing wherever it fits" (02 i): the patterns as a list of cases,
--- and what is proved of `strictApply` by it (proofs StrictFits).
+-- "A strict walk has only these patterns, which name all operands of the node, each firing wherever it fits" (02 i): the patterns as a list
+-- of cases, and what is proved of `strictApply` by it (proofs StrictFits).
 use Prim.Native.Nat.{ℕ}
 use mathlib.Core.Path.{_≡_}
 use mathlib.Core.Bool.{true, false}

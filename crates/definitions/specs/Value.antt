@@ -10,7 +10,8 @@ use Rattle.definitions.specs.Node.{variableKind, constantKind, addKind, 
 use Rattle.definitions.specs.Formula.{Tree, tree, Forest, nil, cons}
 use Rattle.definitions.specs.Dyadic.{Fraction, fraction, Dyadic, dyadic, plus, times, opposite, zeroValue, oneValue}
 
--- The fraction bits of a binary64 number m * 2 ^ e, which lib.Ieee writes with m odd, or with m = 0 and e = 0: `down e` is 2 ^ fractionBits e.
+-- The fraction bits of a binary64 number m * 2 ^ e, which lib.Ieee writes with m odd, or with m = 0 and e = 0: `down e` is 2 ^ fractionBits
+-- e.
 abbrev pub fractionBits : ℤ → ℕ
 fractionBits (pos k) = 0
 fractionBits (negsuc k) = suc k

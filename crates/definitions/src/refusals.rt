@@ -1,5 +1,5 @@
-// The numbers of the refusals, each with what 01 or 02 says of it. `specs/Refusals` has the same numbers for the statements; those that a text
-// meets stand in text_language, 10 among them, which a store call and a sheet meet too.
+// The numbers of the refusals, each with what 01 or 02 says of it. `specs/Refusals` has the same numbers for the statements; those that a
+// text meets stand in text_language, 10 among them, which a store call and a sheet meet too.
 
 // "sheet empty, over 16,384 bytes, or first byte not 1"
 pub const BAD_SHEET: u64 = 1;

@@ -30,7 +30,8 @@ lowestByte word = word % 256
 abbrev pub bytesOf : List ℕ → List ℕ
 bytesOf operands = map lowestByte operands
 
--- the first code of a call over a list of operands, the first of a simplify or prune (strict walks too), the first of a name call, that of a reading, and the last
+-- the first code of a call over a list of operands, the first of a simplify or prune (strict walks too), the first of a name call, that of
+-- a reading, and the last
 abbrev pub firstWithOperands : ℕ
 firstWithOperands = 9
 

@@ -1,4 +1,5 @@
--- How a constant is printed (02 d): "Whole constants 0 to 999,999,999 (not -0.0) are printed in fewest digits, others as # and hex in capitals."
+-- How a constant is printed (02 d): "Whole constants 0 to 999,999,999 (not -0.0) are printed in fewest digits, others as # and hex in
+-- capitals."
 use Prim.Native.Nat.{ℕ, zero, suc, _+_, _/_, _%_}
 use mathlib.Core.Path.{_≡_, refl}
 use mathlib.Core.Bool.{Bool, true, false, _&&_, cond}

@@ -1,4 +1,5 @@
-// Constants are held as binary64 bit patterns. A pattern is made a value, values are tested and folded, and a result is made a pattern again.
+// Constants are held as binary64 bit patterns. A pattern is made a value, values are tested and folded, and a result is made a pattern
+// again.
 ghost use mathlib.Core.Path.{_≡_};
 ghost use lib.Ieee as Ieee;
 ghost use lib.Ieee.{binary64};

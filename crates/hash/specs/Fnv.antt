@@ -1,4 +1,5 @@
--- 01: "FNV-1a, 64 bits, modulo 2^64 (offset 14695981039346656037, prime 1099511628211), over the kind byte, payload (8 bytes) and each child (4 bytes), big-endian."
+-- 01: "FNV-1a, 64 bits, modulo 2^64 (offset 14695981039346656037, prime 1099511628211), over the kind byte, payload (8 bytes) and each
+-- child (4 bytes), big-endian."
 use Prim.Native.Nat.{ℕ, _+_, _*_, _/_, _%_, _^_}
 use mathlib.Core.Path.{_≡_}
 use mathlib.Core.List.{List, [], _∷_, _++_}

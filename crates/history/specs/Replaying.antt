@@ -64,8 +64,8 @@ pub record RunsAll (m : ControllerMemory) (calls : List ℕ) (r : Run) (m′ : C
 abbrev pub lentIn : List ℕ → List ℕ → List ℕ → LentLists
 lentIn words slots bytes = record { store = lent words slots; names = lentEntries bytes }
 
--- "the first gets a fresh store", and the names are "empty at first": the calls were run from there, and keep the promise of demand 3, with store
--- and names sound on the way.
+-- "the first gets a fresh store", and the names are "empty at first": the calls were run from there, and keep the promise of demand 3, with
+-- store and names sound on the way.
 pub record Promised (words slots bytes : List ℕ) (cs : List ControllerCall) (r : CallResult) (words′ slots′ bytes′ : List ℕ)
     : Type 0 where
   pub fresh : FreshController lentController (freshControllerMemory words slots bytes)

@@ -1,5 +1,5 @@
-// A list of calls, run on one store and one name list: the request's demand 3 as the contract of code. Calls are words, as specs/Encoding.antt of
-// encoding says.
+// A list of calls, run on one store and one name list: the request's demand 3 as the contract of code. Calls are words, as
+// specs/Encoding.antt of encoding says.
 ghost use Prim.Native.Nat.{_+_, _≤_};
 ghost use lib.ListN.{length, getD};
 ghost use Rattle.text.specs.Memory.{controllerMemory};

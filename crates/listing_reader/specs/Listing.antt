@@ -32,8 +32,8 @@ AnswerListed Empty count = Unit {0}
 AnswerListed (Spent i) count = i < count
 AnswerListed (RefusedAt number at) count = Unit {0}
 
--- Bytes that are the listing of an outcome and of the nodes in memory, the outcome's id among them. A refusal's numbers are only asked to be
--- words of 64 bits, and the nodes only to be well formed: two of them may be the same.
+-- Bytes that are the listing of an outcome and of the nodes in memory, the outcome's id among them. A refusal's numbers are only asked to
+-- be words of 64 bits, and the nodes only to be well formed: two of them may be the same.
 pub record IsListing (bytes : List ℕ) (o : Outcome) (words : List ℕ) (count : ℕ) : Type 0 where
   pub begins : Begins bytes o words count []
   pub answer : AnswerListed o count
@@ -62,10 +62,10 @@ written lent (Read o count) = count
 written lent (Refused line) = line - 2
 written lent Full = lent
 
--- What is read are the nodes whose listing the bytes are (`right`). Every listing of a store's nodes is read, back to the words of the nodes,
--- if there is place for them (`whole`), and else answered with `Full` (`short`). Bytes that are no listing in the sense of `IsListing` are
--- refused with the number of the first line that is wrong (`refused`), unless more nodes stand before it than there is place for (`full`):
--- never, if 65,536 nodes have place. Words past the nodes stay (`past`).
+-- What is read are the nodes whose listing the bytes are (`right`). Every listing of a store's nodes is read, back to the words of the
+-- nodes, if there is place for them (`whole`), and else answered with `Full` (`short`). Bytes that are no listing in the sense of
+-- `IsListing` are refused with the number of the first line that is wrong (`refused`), unless more nodes stand before it than there is
+-- place for (`full`): never, if 65,536 nodes have place. Words past the nodes stay (`past`).
 pub record Reading (bytes before : List ℕ) (r : Answer) (after : List ℕ) : Type 0 where
   pub right : (o : Outcome) (count : ℕ) → r ≡ Read o count → IsListing bytes o after count
   pub whole : (o : Outcome) (words : List ℕ) (count : ℕ) → IsListing bytes o words count → count * nodeWords ≤ length before → (r ≡ Read o count) × (take (count * nodeWords) after ≡ take (count * nodeWords) words)

@@ -47,7 +47,8 @@ pub(crate) fn number_behind(bytes: &[u8], at: usize, word: &[u8]) -> Number
 // A word, a space, a number and the line's end.
 pub(crate) fn line_behind(bytes: &[u8], at: usize, word: &[u8]) -> Number
     requires { ⌜ 0 < length (now word) ⌝ }
-    ensures { λ r. ⌜ ReadsNumber (λ n rest. now (word .entry) ++ (space ∷ (decimal n ++ (lineFeed ∷ rest)))) Anything (now (bytes .entry)) at r ⌝ }
+    ensures { λ r. ⌜ ReadsNumber (λ n rest. now (word .entry) ++ (space ∷ (decimal n ++ (lineFeed ∷ rest)))) Anything (now (bytes .entry))
+        at r ⌝ }
 {
     let number = number_behind(bytes, at, word);
     let Number::Found { value, next } = number else {

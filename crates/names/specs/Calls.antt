@@ -39,7 +39,8 @@ Finds bytes count key Nothing = (j : ℕ) → j < count → entryAt bytes j ≡ 
 abbrev pub plainly : List ℕ → ℕ → NameCall → NameResult
 plainly bytes count call = nameCall (lentEntries bytes) (namesOf bytes count) call
 
--- a list that is not sound is refused with 20. A call on a sound one answers as the plain registry does, and leaves a sound list of its names. Bytes past the used entries stay, and a refusal changes no byte.
+-- a list that is not sound is refused with 20. A call on a sound one answers as the plain registry does, and leaves a sound list of its
+-- names. Bytes past the used entries stay, and a refusal changes no byte.
 pub record Called (bytes : List ℕ) (count : ℕ) (call : NameCall) (answer : NameAnswer) (bytes′ : List ℕ) (count′ : ℕ) : Type 0 where
   pub unsound : (Sound bytes count → ⊥) → answer ≡ refused notSound
   pub answered : Sound bytes count → answer ≡ plainly bytes count call .answer

@@ -50,7 +50,8 @@ fn stands_before(entries: &[u8], number: usize, before: &[u16; MOST_NAMES], late
     false
 }
 
-// Whether no name stands twice. Each name is compared with the earlier ones of its bucket alone: few, unless the names were chosen to share one.
+// Whether no name stands twice. Each name is compared with the earlier ones of its bucket alone: few, unless the names were chosen to share
+// one.
 fn no_name_twice(entries: &[u8], count: usize) -> bool
     requires { ⌜ (count ≤ mostNames) × (count * entryBytes ≤ length (now entries)) × EntriesSound (now entries) count ⌝ }
     ensures { λ r. ⌜ Says r (NoNameTwice (now (entries .entry)) count) ⌝ }

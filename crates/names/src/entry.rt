@@ -89,7 +89,8 @@ pub(crate) fn same(a: &[u8], b: &[u8]) -> bool
     a[0] == b[0]
 }
 
-// The bucket of an entry: the sum of its length and its words, which start at 1, 9, 17 and 25. The weights tell names apart that have their words in another order.
+// The bucket of an entry: the sum of its length and its words, which start at 1, 9, 17 and 25. The weights tell names apart that have their
+// words in another order.
 pub(crate) fn bucket(entry: &[u8]) -> usize
     requires { ⌜ length (now entry) ≡ entryBytes ⌝ }
     ensures { λ r. ⌜ IsBucket (now (entry .entry)) r ⌝ }

@@ -65,7 +65,8 @@ fn find(entries: &[u8], count: usize, key: &[u8]) -> Found
 // The number of a name whose length is allowed, found or new.
 pub fn intern_allowed(entries: &mut [u8], count: usize, name: &[u8]) -> Interned
     requires { ⌜ Sound (now entries) count × Allowed (length (now name)) ⌝ }
-    ensures { λ r. ⌜ Called (now (entries .entry)) count (internName (now (name .entry))) (answerOf (r .answer) []) (now (entries .exit)) (r .count) ⌝ }
+    ensures { λ r. ⌜ Called (now (entries .entry)) count (internName (now (name .entry))) (answerOf (r .answer) []) (now (entries .exit))
+        (r .count) ⌝ }
 {
     let key = entry::of_name(name);
     let found = find(entries, count, &key);
@@ -108,7 +109,8 @@ fn length_allowed(length: usize) -> bool
 
 // The number of a name, which becomes known if it is not.
 pub fn intern(entries: &mut [u8], count: usize, name: &[u8]) -> Interned
-    ensures { λ r. ⌜ Called (now (entries .entry)) count (internName (now (name .entry))) (answerOf (r .answer) []) (now (entries .exit)) (r .count) ⌝ }
+    ensures { λ r. ⌜ Called (now (entries .entry)) count (internName (now (name .entry))) (answerOf (r .answer) []) (now (entries .exit))
+        (r .count) ⌝ }
 {
     if !audit::audit(entries, count) {
         return Interned {

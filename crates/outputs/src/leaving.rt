@@ -47,7 +47,9 @@ pub fn leave_simplified(
     steps: &mut u64,
 ) -> u64
     ensures { λ _. ⌜ arenaOf (now (count .exit)) (now (size .exit)) ≡ outcome .arena ⌝ }
-    ensures { λ r. ⌜ Left (Walk.meaning (outcome .answer)) r (M.simplified (now (id .exit)) (isSpent (now (spent .exit))) (now (steps .exit))) (now (id .entry) ∷ now (spent .entry) ∷ now (steps .entry) ∷ []) (now (id .exit) ∷ now (spent .exit) ∷ now (steps .exit) ∷ []) ⌝ }
+    ensures { λ r. ⌜ Left (Walk.meaning (outcome .answer)) r (M.simplified (now (id .exit)) (isSpent (now (spent .exit)))
+        (now (steps .exit))) (now (id .entry) ∷ now (spent .entry) ∷ now (steps .entry) ∷ [])
+        (now (id .exit) ∷ now (spent .exit) ∷ now (steps .exit) ∷ []) ⌝ }
     ensures { λ _. ⌜ SpentLeft (Walk.meaning (outcome .answer)) (now (spent .exit)) ⌝ }
 {
     let arena = outcome.arena;
@@ -86,7 +88,8 @@ pub fn leave_pruned(
     dropped: &mut u64,
 ) -> u64
     ensures { λ _. ⌜ arenaOf (now (count .exit)) (now (size .exit)) ≡ outcome .arena ⌝ }
-    ensures { λ r. ⌜ Left (Pruner.meaning (outcome .answer)) r (M.pruned (now (id .exit)) (now (kept .exit)) (now (dropped .exit))) (now (id .entry) ∷ now (kept .entry) ∷ now (dropped .entry) ∷ []) (now (id .exit) ∷ now (kept .exit) ∷ now (dropped .exit) ∷ []) ⌝ }
+    ensures { λ r. ⌜ Left (Pruner.meaning (outcome .answer)) r (M.pruned (now (id .exit)) (now (kept .exit)) (now (dropped .exit)))
+        (now (id .entry) ∷ now (kept .entry) ∷ now (dropped .entry) ∷ []) (now (id .exit) ∷ now (kept .exit) ∷ now (dropped .exit) ∷ []) ⌝ }
 {
     let arena = outcome.arena;
     leave_arena(arena, count, size);

@@ -23,7 +23,8 @@ fn leave_first_line(
     number: &mut u64,
     record: &mut u64,
 )
-    ensures { λ _. ⌜ now (form .exit) ∷ now (id .exit) ∷ now (number .exit) ∷ now («record» .exit) ∷ [] ≡ firstLineOutputs outcome (now (id .entry)) (now (number .entry)) (now («record» .entry)) ⌝ }
+    ensures { λ _. ⌜ now (form .exit) ∷ now (id .exit) ∷ now (number .exit) ∷ now («record» .exit) ∷ [] ≡ firstLineOutputs outcome
+        (now (id .entry)) (now (number .entry)) (now («record» .entry)) ⌝ }
 {
     match outcome {
         Outcome::Ok(answered) => {
@@ -58,7 +59,9 @@ pub fn leave_read(
     record: &mut u64,
     line: &mut u64,
 ) -> u64
-    ensures { λ r. ⌜ r ∷ now (count .exit) ∷ now (form .exit) ∷ now (id .exit) ∷ now (number .exit) ∷ now («record» .exit) ∷ now (line .exit) ∷ [] ≡ readOutputs answer (now (count .entry)) (now (form .entry)) (now (id .entry)) (now (number .entry)) (now («record» .entry)) (now (line .entry)) ⌝ }
+    ensures { λ r. ⌜ r ∷ now (count .exit) ∷ now (form .exit) ∷ now (id .exit) ∷ now (number .exit) ∷ now («record» .exit) ∷ now
+        (line .exit) ∷ [] ≡ readOutputs answer (now (count .entry)) (now (form .entry)) (now (id .entry)) (now (number .entry))
+        (now («record» .entry)) (now (line .entry)) ⌝ }
 {
     match answer {
         Answer::Read {

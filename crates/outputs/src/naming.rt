@@ -16,7 +16,8 @@ pub fn leave_name(
     length: &mut usize,
     bytes: &mut [u8; LONGEST_NAME],
 ) -> u64
-    ensures { λ r. ⌜ r ∷ now (known .exit) ∷ now (length .exit) ∷ now (bytes .exit) ≡ nameOutputs (found .answer) (found .bytes) (now (known .entry)) (now (length .entry)) (now (bytes .entry)) ⌝ }
+    ensures { λ r. ⌜ r ∷ now (known .exit) ∷ now (length .exit) ∷ now (bytes .exit) ≡ nameOutputs (found .answer) (found .bytes)
+        (now (known .entry)) (now (length .entry)) (now (bytes .entry)) ⌝ }
 {
     let answer = found.answer;
     match answer {

@@ -10,7 +10,8 @@ use listing_lines::Outcome;
 
 // The outcome of a sheet: its form and id where every record was answered, else the record refused.
 pub fn leave_outcome(outcome: Outcome, form: &mut u64, id: &mut u64, record: &mut u64) -> u64
-    ensures { λ r. ⌜ r ∷ now (form .exit) ∷ now (id .exit) ∷ now («record» .exit) ∷ [] ≡ sheetOutputs outcome (now (form .entry)) (now (id .entry)) (now («record» .entry)) ⌝ }
+    ensures { λ r. ⌜ r ∷ now (form .exit) ∷ now (id .exit) ∷ now («record» .exit) ∷ [] ≡ sheetOutputs outcome (now (form .entry))
+        (now (id .entry)) (now («record» .entry)) ⌝ }
 {
     match outcome {
         Outcome::Ok(answered) => {

@@ -26,7 +26,8 @@ fn intern_operator(
     rhs: u64,
 ) -> Built
     requires { ⌜ TwoOperands (arena .count) kind lhs rhs × Sound (now nodes) (now slots) arena ⌝ }
-    ensures { λ r. ⌜ BuildsBy (operatorOf kind (lhs ∷ rhs ∷ [])) (now (nodes .entry)) (now (slots .entry)) arena (now (nodes .exit)) (now (slots .exit)) r ⌝ }
+    ensures { λ r. ⌜ BuildsBy (operatorOf kind (lhs ∷ rhs ∷ [])) (now (nodes .entry)) (now (slots .entry)) arena (now (nodes .exit))
+        (now (slots .exit)) r ⌝ }
 {
     let operands = [lhs as u32, rhs as u32];
     store::intern(nodes, slots, arena, kind, 0, REORDERABLE, &operands)
@@ -44,7 +45,8 @@ fn beside_constant(
     left: bool,
 ) -> Built
     requires { ⌜ Operand (arena .count) kind other × Number bits × Sound (now nodes) (now slots) arena ⌝ }
-    ensures { λ r. ⌜ BuildsBy (besideConstant left kind bits other) (now (nodes .entry)) (now (slots .entry)) arena (now (nodes .exit)) (now (slots .exit)) r ⌝ }
+    ensures { λ r. ⌜ BuildsBy (besideConstant left kind bits other) (now (nodes .entry)) (now (slots .entry)) arena (now (nodes .exit))
+        (now (slots .exit)) r ⌝ }
 {
     let constant = intern_constant(nodes, slots, arena, bits);
     let grown = constant.arena;
@@ -72,7 +74,8 @@ pub(crate) fn carry_out(
     replacement: Replacement,
 ) -> Built
     requires { ⌜ ReplacementLow (arena .count) replacement × Sound (now nodes) (now slots) arena ⌝ }
-    ensures { λ r. ⌜ BuildsBy (carried replacement) (now (nodes .entry)) (now (slots .entry)) arena (now (nodes .exit)) (now (slots .exit)) r ⌝ }
+    ensures { λ r. ⌜ BuildsBy (carried replacement) (now (nodes .entry)) (now (slots .entry)) arena (now (nodes .exit)) (now (slots .exit))
+        r ⌝ }
 {
     match replacement {
         Replacement::Id(id) => Built {

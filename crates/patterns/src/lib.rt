@@ -1,5 +1,5 @@
-// The patterns of patterns.rs over the store, first that fits: identities, then folding, then merging; and the strict ones of 02 (i). Each pattern
-// decides over the nodes as they are what is to stand in an operator's place; `carry_out` then makes it.
+// The patterns of patterns.rs over the store, first that fits: identities, then folding, then merging; and the strict ones of 02 (i). Each
+// pattern decides over the nodes as they are what is to stand in an operator's place; `carry_out` then makes it.
 mod carrying;
 mod constants;
 mod folding;
@@ -153,7 +153,9 @@ pub fn try_apply(
     children: &[u32],
 ) -> Applied
     requires { ⌜ Operands (arena .count) (now children) × Sound (now nodes) (now slots) arena ⌝ }
-    ensures { λ r. ⌜ Applies (now (nodes .entry)) (now (slots .entry)) arena (applyAs (modeOf mode) (lent (now (nodes .entry)) (now (slots .entry))) (nodesIn (now (nodes .entry)) (arena .count)) kind (now (children .entry))) (now (nodes .exit)) (now (slots .exit)) r ⌝ }
+    ensures { λ r. ⌜ Applies (now (nodes .entry)) (now (slots .entry)) arena
+        (applyAs (modeOf mode) (lent (now (nodes .entry)) (now (slots .entry))) (nodesIn (now (nodes .entry)) (arena .count)) kind
+        (now (children .entry))) (now (nodes .exit)) (now (slots .exit)) r ⌝ }
 {
     let count = arena.count;
     let result = pattern(nodes, count, mode, kind, children);

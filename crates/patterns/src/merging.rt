@@ -69,7 +69,8 @@ fn constant_right(kind: u64, folded: Folded, other: u64) -> PatternResult
 // A constant beside a product: the product's constant keeps its side.
 fn mul_merge(nodes: &[u64], count: u64, constant: u64, product: u64) -> PatternResult
     requires { ⌜ Both (now nodes) count constant product ⌝ }
-    ensures { λ r. ⌜ Decides (now (nodes .entry)) count (λ l ns. P.mulMerge l ns (P.constantValue (N.at ns constant)) (P.pairOf N.mulKind (N.at ns product))) r ⌝ }
+    ensures { λ r. ⌜ Decides (now (nodes .entry)) count (λ l ns. P.mulMerge l ns (P.constantValue (N.at ns constant))
+        (P.pairOf N.mulKind (N.at ns product))) r ⌝ }
 {
     let x = constant_value(nodes, count, constant);
     let Constant::Bits(c) = x else {

@@ -21,8 +21,8 @@ pub record PlainlySound (ns : List Node) : Type 0 where
 
 -- ---- at the same threshold
 
--- "For every store and threshold, a prune of an answered prune at the same threshold, on the store it left, gives the same id and adds no node".
--- It drops nothing; how many terms it kept is its own count, 1 where no chain is left.
+-- "For every store and threshold, a prune of an answered prune at the same threshold, on the store it left, gives the same id and adds no
+-- node". It drops nothing; how many terms it kept is its own count, 1 where no chain is left.
 abbrev pub SamePlainly : Type 0
 SamePlainly = (l : Lent) (ns : List Node) (i id kept dropped : ℕ) (t : Threshold) → PlainlySound ns
     → pruneCall l ns i t .answer ≡ pruned id kept dropped
@@ -44,9 +44,9 @@ abbrev pub NotBelow : ℕ → ℕ → Type 0
 NotBelow t u = lt (ofBits binary64 u) (ofBits binary64 t) ≡ false
 
 -- For any least number of kept terms and any order of the two thresholds:
--- "If a first prune at t kept two or more terms, a second at u not below t gives the id that pruning the original at u gives on the store after
--- it, wherever neither is refused": on the store after the first prune, where it leaves what the second leaves, and on the store after the
--- second, where it adds nothing. Where the second is answered, pruning the original is.
+-- "If a first prune at t kept two or more terms, a second at u not below t gives the id that pruning the original at u gives on the store
+-- after it, wherever neither is refused": on the store after the first prune, where it leaves what the second leaves, and on the store
+-- after the second, where it adds nothing. Where the second is answered, pruning the original is.
 abbrev pub HigherWhere : ℕ → (ℕ → ℕ → Type 0) → Type 0
 HigherWhere least Order = (l : Lent) (ns : List Node) (i t u id kept dropped id′ kept′ dropped′ : ℕ) → PlainlySound ns
     → pruneAtBits l ns i t .answer ≡ pruned id kept dropped
@@ -66,8 +66,8 @@ HigherPlainly = HigherWhere leastKept NotBelow
 abbrev pub zeroNode : Node
 zeroNode = node constantKind 0 0 []
 
--- "With one term of a chain kept this fails for a constant between t and u": the term, which is kept at t and not at u, stays, and pruning the
--- original at u gives another id, that of 0.0. So it is for every term but 0.0 itself; one that is no constant has the magnitude 1.0.
+-- "With one term of a chain kept this fails for a constant between t and u": the term, which is kept at t and not at u, stays, and pruning
+-- the original at u gives another id, that of 0.0. So it is for every term but 0.0 itself; one that is no constant has the magnitude 1.0.
 abbrev pub FailsPlainly : Type 0
 FailsPlainly = (l : Lent) (ns : List Node) (i t u id dropped id′ kept′ dropped′ : ℕ) → PlainlySound ns
     → at ns i .kind ≡ addKind

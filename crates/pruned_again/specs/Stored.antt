@@ -24,8 +24,8 @@ SameStored = (c c′ : Call) (i id kept dropped : ℕ) (t : Threshold) (m m′ m
     → Asks c′ id t → Leaves c′ m′ a m″
     → ((kept′ : ℕ) × (a ≡ pruned id kept′ 0)) × (m″ ≡ m′)
 
--- "If a first prune at t kept two or more terms, a second at u not below t gives the id that pruning the original at u gives on the store after
--- it": on the store after the first, which it leaves as the second does, and on the store after the second, which it leaves as it was
+-- "If a first prune at t kept two or more terms, a second at u not below t gives the id that pruning the original at u gives on the store
+-- after it": on the store after the first, which it leaves as the second does, and on the store after the second, which it leaves as it was
 abbrev pub HigherStored : Type 0
 HigherStored = (c c′ c″ : Call) (i t u id kept dropped id′ kept′ dropped′ : ℕ) (m m′ m″ n o : Memory) (a b : Answer) → model .Sound m
     → Asks c i (given t) → Leaves c m (pruned id kept dropped) m′

@@ -37,7 +37,8 @@ fn prune_chain(
     threshold: u64,
 ) -> Outcome
     requires { ⌜ (root < arena .count) × Sound (now nodes) (now slots) arena ⌝ }
-    ensures { λ r. ⌜ PrunesChain (memory (now (nodes .entry)) (now (slots .entry)) arena) root threshold (r .answer) (memory (now (nodes .exit)) (now (slots .exit)) (r .arena)) ⌝ }
+    ensures { λ r. ⌜ PrunesChain (memory (now (nodes .entry)) (now (slots .entry)) arena) root threshold (r .answer)
+        (memory (now (nodes .exit)) (now (slots .exit)) (r .arena)) ⌝ }
 {
     let mut terms = [0u32; MOST_TERMS];
     let count = arena.count;
@@ -77,7 +78,8 @@ fn prune_additive_chain(
     threshold: u64,
 ) -> Outcome
     requires { ⌜ (root < arena .count) × Sound (now nodes) (now slots) arena ⌝ }
-    ensures { λ r. ⌜ PrunesRoot (memory (now (nodes .entry)) (now (slots .entry)) arena) root threshold (r .answer) (memory (now (nodes .exit)) (now (slots .exit)) (r .arena)) ⌝ }
+    ensures { λ r. ⌜ PrunesRoot (memory (now (nodes .entry)) (now (slots .entry)) arena) root threshold (r .answer)
+        (memory (now (nodes .exit)) (now (slots .exit)) (r .arena)) ⌝ }
 {
     if store::kind(nodes, arena.count, root) == ADD {
         return prune_chain(nodes, slots, arena, root, threshold);
@@ -101,7 +103,8 @@ fn prune_call(
     threshold: Threshold,
 ) -> Outcome
     requires { ⌜ Sound (now nodes) (now slots) arena ⌝ }
-    ensures { λ r. ⌜ PrunesCall (memory (now (nodes .entry)) (now (slots .entry)) arena) root threshold (r .answer) (memory (now (nodes .exit)) (now (slots .exit)) (r .arena)) ⌝ }
+    ensures { λ r. ⌜ PrunesCall (memory (now (nodes .entry)) (now (slots .entry)) arena) root threshold (r .answer)
+        (memory (now (nodes .exit)) (now (slots .exit)) (r .arena)) ⌝ }
 {
     let id = root as u64;
     if arena.count <= id {
@@ -136,7 +139,8 @@ pub fn prune_sound(
     threshold: u64,
 ) -> Outcome
     requires { ⌜ Sound (now nodes) (now slots) arena ⌝ }
-    ensures { λ r. ⌜ Leaves (M.prune root threshold) (memory (now (nodes .entry)) (now (slots .entry)) arena) (meaning (r .answer)) (memory (now (nodes .exit)) (now (slots .exit)) (r .arena)) ⌝ }
+    ensures { λ r. ⌜ Leaves (M.prune root threshold) (memory (now (nodes .entry)) (now (slots .entry)) arena) (meaning (r .answer))
+        (memory (now (nodes .exit)) (now (slots .exit)) (r .arena)) ⌝ }
 {
     prune_call(nodes, slots, arena, root, threshold::given(threshold))
 }
@@ -150,7 +154,8 @@ fn prune_sound_by_setting(
     setting: u32,
 ) -> Outcome
     requires { ⌜ Sound (now nodes) (now slots) arena ⌝ }
-    ensures { λ r. ⌜ Leaves (M.pruneBySetting root setting) (memory (now (nodes .entry)) (now (slots .entry)) arena) (meaning (r .answer)) (memory (now (nodes .exit)) (now (slots .exit)) (r .arena)) ⌝ }
+    ensures { λ r. ⌜ Leaves (M.pruneBySetting root setting) (memory (now (nodes .entry)) (now (slots .entry)) arena) (meaning (r .answer))
+        (memory (now (nodes .exit)) (now (slots .exit)) (r .arena)) ⌝ }
 {
     prune_call(nodes, slots, arena, root, threshold::of_setting(setting))
 }
@@ -163,7 +168,8 @@ pub fn prune(
     root: u32,
     threshold: u64,
 ) -> Outcome
-    ensures { λ r. ⌜ Leaves (M.prune root threshold) (memory (now (nodes .entry)) (now (slots .entry)) arena) (meaning (r .answer)) (memory (now (nodes .exit)) (now (slots .exit)) (r .arena)) ⌝ }
+    ensures { λ r. ⌜ Leaves (M.prune root threshold) (memory (now (nodes .entry)) (now (slots .entry)) arena) (meaning (r .answer))
+        (memory (now (nodes .exit)) (now (slots .exit)) (r .arena)) ⌝ }
 {
     if !store::audit(nodes, slots, arena) {
         return Outcome {
@@ -182,7 +188,8 @@ pub fn prune_by_setting(
     root: u32,
     setting: u32,
 ) -> Outcome
-    ensures { λ r. ⌜ Leaves (M.pruneBySetting root setting) (memory (now (nodes .entry)) (now (slots .entry)) arena) (meaning (r .answer)) (memory (now (nodes .exit)) (now (slots .exit)) (r .arena)) ⌝ }
+    ensures { λ r. ⌜ Leaves (M.pruneBySetting root setting) (memory (now (nodes .entry)) (now (slots .entry)) arena) (meaning (r .answer))
+        (memory (now (nodes .exit)) (now (slots .exit)) (r .arena)) ⌝ }
 {
     if !store::audit(nodes, slots, arena) {
         return Outcome {

@@ -27,7 +27,8 @@ use Rattle.sheet.specs.Sheets.{Runs, RunsFresh, notOpened}
 use Rattle.listing_bytes.specs.Listed.{listingLent, Listed}
 use Rattle.refusals_listed.specs.Listed.{among, placeRefusals, listedRefusals}
 
--- "1, then per record 3, 2, 5, 6, 4, 7, 23, 21, 22", and 10 "right after 5" (02 b): no record prunes by a setting, so that 8 is not among them
+-- "1, then per record 3, 2, 5, 6, 4, 7, 23, 21, 22", and 10 "right after 5" (02 b): no record prunes by a setting, so that 8 is not among
+-- them
 abbrev pub sheetRefusals : List ℕ
 sheetRefusals =
     badSheet ∷ tooManyRecords ∷ badRecord ∷ badCode ∷ notANumber ∷ badChildCount ∷ badOperand ∷ badThreshold ∷ tooManyTerms ∷ placeRefusals

@@ -47,7 +47,9 @@ fn rebuild(
     children: &[u32],
 ) -> Built
     requires { ⌜ Rebuildable (memory (now nodes) (now slots) arena) id (now children) ⌝ }
-    ensures { λ r. ⌜ Builds (now (nodes .entry)) (now (slots .entry)) arena (rebuilt (lent (now (nodes .entry)) (now (slots .entry))) (nodesIn (now (nodes .entry)) (arena .count)) id (now (children .entry)) none) (now (nodes .exit)) (now (slots .exit)) r ⌝ }
+    ensures { λ r. ⌜ Builds (now (nodes .entry)) (now (slots .entry)) arena
+        (rebuilt (lent (now (nodes .entry)) (now (slots .entry))) (nodesIn (now (nodes .entry)) (arena .count)) id (now (children .entry))
+        none) (now (nodes .exit)) (now (slots .exit)) r ⌝ }
 {
     let count = arena.count;
     if store::has_children(nodes, count, id, children) {
@@ -72,7 +74,9 @@ fn rebuild_or_match(
     children: &[u32],
 ) -> Built
     requires { ⌜ Rebuildable (memory (now nodes) (now slots) arena) id (now children) ⌝ }
-    ensures { λ r. ⌜ Builds (now (nodes .entry)) (now (slots .entry)) arena (rebuildAs (modeOf mode) (lent (now (nodes .entry)) (now (slots .entry))) (nodesIn (now (nodes .entry)) (arena .count)) id (now (children .entry))) (now (nodes .exit)) (now (slots .exit)) r ⌝ }
+    ensures { λ r. ⌜ Builds (now (nodes .entry)) (now (slots .entry)) arena
+        (rebuildAs (modeOf mode) (lent (now (nodes .entry)) (now (slots .entry))) (nodesIn (now (nodes .entry)) (arena .count)) id
+        (now (children .entry))) (now (nodes .exit)) (now (slots .exit)) r ⌝ }
 {
     let count = arena.count;
     let kind = store::kind(nodes, count, id);
@@ -113,7 +117,8 @@ pub fn finish(
     children: &[u32],
 ) -> Built
     requires { ⌜ Rebuildable (memory (now nodes) (now slots) arena) id (now children) ⌝ }
-    ensures { λ r. ⌜ Finishes (modeOf mode) (memory (now (nodes .entry)) (now (slots .entry)) arena) id (now (children .entry)) (r .answer) (memory (now (nodes .exit)) (now (slots .exit)) (r .arena)) ⌝ }
+    ensures { λ r. ⌜ Finishes (modeOf mode) (memory (now (nodes .entry)) (now (slots .entry)) arena) id (now (children .entry)) (r .answer)
+        (memory (now (nodes .exit)) (now (slots .exit)) (r .arena)) ⌝ }
 {
     let built = rebuild_or_match(nodes, slots, arena, mode, id, children);
     let after = built.arena;

@@ -34,8 +34,8 @@ fn show(matched: Matched) {
     }
 }
 
-// What `patterns::try_apply` answers for a kind, two ids and a number of children, of which the third and fourth are the second again; and the nodes
-// that it added.
+// What `patterns::try_apply` answers for a kind, two ids and a number of children, of which the third and fourth are the second again; and
+// the nodes that it added.
 pub fn apply(
     nodes: &mut [u64],
     slots: &mut [u32],

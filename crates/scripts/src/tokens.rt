@@ -1,5 +1,5 @@
-// Numbers as scripts spell them: decimal, or hexadecimal behind an `x`. `5+3` is 5 at first and 3 more at every turn of a repeat; `5+3%64` is
-// that modulo 64.
+// Numbers as scripts spell them: decimal, or hexadecimal behind an `x`. `5+3` is 5 at first and 3 more at every turn of a repeat; `5+3%64`
+// is that modulo 64.
 ghost use Prim.Native.Nat.{_≤_};
 
 // What is no digit.

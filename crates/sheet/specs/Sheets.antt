@@ -33,8 +33,8 @@ pub record Ended : Type 0 where
 abbrev pub ended : Outcome → Memory → Ended
 ended outcome memory = record { outcome = outcome; memory = memory }
 
--- "20, 1, then per record ..": 20 at 0 and the same memory where the store is not sound, else the plain machine's outcome and the memory that its
--- nodes give.
+-- "20, 1, then per record ..": 20 at 0 and the same memory where the store is not sound, else the plain machine's outcome and the memory
+-- that its nodes give.
 abbrev pub endedBy : (s : List ℕ) (m : Memory) → Dec (model .Sound m) → Ended
 endedBy s m (yes h) =
     ended (outcomeOf (sheet (model .lent m) (model .view m) s .refusal) (sheet (model .lent m) (model .view m) s .answers))

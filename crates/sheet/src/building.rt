@@ -86,7 +86,8 @@ pub fn build(
     requires { ⌜ (first + operands * 2 ≤ length (now sheet)) × (length (now ids) ≡ mostRecords) × (done ≤ mostRecords)
         × Asked (request .listed) (request .kind) (request .payload) (request .flags) × Sound (now nodes) (now slots) arena
         × NumberIfMany request operands ⌝ }
-    ensures { λ r. ⌜ PerformsStore request (operandsFrom (now (sheet .entry)) first operands) (now (ids .entry)) done (memory (now (nodes .entry)) (now (slots .entry)) arena) (r .answer) (memory (now (nodes .exit)) (now (slots .exit)) (r .arena)) ⌝ }
+    ensures { λ r. ⌜ PerformsStore request (operandsFrom (now (sheet .entry)) first operands) (now (ids .entry)) done
+        (memory (now (nodes .entry)) (now (slots .entry)) arena) (r .answer) (memory (now (nodes .exit)) (now (slots .exit)) (r .arena)) ⌝ }
 {
     if MOST_CHILDREN < operands {
         if request.listed {

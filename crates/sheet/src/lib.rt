@@ -35,7 +35,8 @@ fn refused(number: u64, arena: DagArena) -> Ran
 
 // A sheet on any store, which is audited once.
 pub fn run(sheet: &[u8], nodes: &mut [u64], slots: &mut [u32], arena: DagArena) -> Ran
-    ensures { λ r. ⌜ Runs (now (sheet .entry)) (memory (now (nodes .entry)) (now (slots .entry)) arena) (r .outcome) (memory (now (nodes .exit)) (now (slots .exit)) (r .arena)) ⌝ }
+    ensures { λ r. ⌜ Runs (now (sheet .entry)) (memory (now (nodes .entry)) (now (slots .entry)) arena) (r .outcome)
+        (memory (now (nodes .exit)) (now (slots .exit)) (r .arena)) ⌝ }
 {
     if !store::audit(nodes, slots, arena) {
         return refused(NOT_SOUND, arena);
@@ -49,9 +50,11 @@ pub fn run(sheet: &[u8], nodes: &mut [u64], slots: &mut [u32], arena: DagArena) 
     }
 }
 
-// A sheet on a fresh store in the lent words and slots. Where none is opened, for 1 or 22, nothing changes, and the counts are those handed in.
+// A sheet on a fresh store in the lent words and slots. Where none is opened, for 1 or 22, nothing changes, and the counts are those handed
+// in.
 pub fn run_fresh(sheet: &[u8], nodes: &mut [u64], slots: &mut [u32], before: DagArena) -> Ran
-    ensures { λ r. ⌜ RunsFresh (now (sheet .entry)) (now (nodes .entry)) (now (slots .entry)) before r (now (nodes .exit)) (now (slots .exit)) ⌝ }
+    ensures { λ r. ⌜ RunsFresh (now (sheet .entry)) (now (nodes .entry)) (now (slots .entry)) before r (now (nodes .exit))
+        (now (slots .exit)) ⌝ }
 {
     let opened = records::open(sheet);
     match opened {

@@ -33,7 +33,8 @@ pub(crate) fn operand_ids(
     done: usize,
     count: u64,
 ) -> [u32; MOST_CHILDREN]
-    requires { ⌜ (operands ≤ mostChildren) × (first + operands * 2 ≤ length (now sheet)) × (length (now ids) ≡ mostRecords) × (done ≤ mostRecords) × (count ≤ mostNodes) ⌝ }
+    requires { ⌜ (operands ≤ mostChildren) × (first + operands * 2 ≤ length (now sheet)) × (length (now ids) ≡ mostRecords) ×
+        (done ≤ mostRecords) × (count ≤ mostNodes) ⌝ }
     ensures { λ r. ⌜ take operands r ≡ map (idBelow (now (ids .entry)) done count) (operandsFrom (now (sheet .entry)) first operands) ⌝ }
 {
     let mut children = [0; MOST_CHILDREN];

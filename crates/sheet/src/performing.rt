@@ -48,7 +48,8 @@ fn simplify(
     budget: u32,
 ) -> Performed
     requires { ⌜ (length (now ids) ≡ mostRecords) × (done ≤ mostRecords) × Sound (now nodes) (now slots) arena ⌝ }
-    ensures { λ r. ⌜ Performs (M.simplify (modeOf mode) (idOf (now (ids .entry)) done (arena .count) operand) depth budget) (memory (now (nodes .entry)) (now (slots .entry)) arena) (r .answer) (memory (now (nodes .exit)) (now (slots .exit)) (r .arena)) ⌝ }
+    ensures { λ r. ⌜ Performs (M.simplify (modeOf mode) (idOf (now (ids .entry)) done (arena .count) operand) depth budget)
+        (memory (now (nodes .entry)) (now (slots .entry)) arena) (r .answer) (memory (now (nodes .exit)) (now (slots .exit)) (r .arena)) ⌝ }
 {
     let count = arena.count;
     let root = operand_id(ids, done, count, operand);
@@ -82,7 +83,8 @@ fn prune(
     threshold: u64,
 ) -> Performed
     requires { ⌜ (length (now ids) ≡ mostRecords) × (done ≤ mostRecords) × Sound (now nodes) (now slots) arena ⌝ }
-    ensures { λ r. ⌜ Performs (M.prune (idOf (now (ids .entry)) done (arena .count) operand) threshold) (memory (now (nodes .entry)) (now (slots .entry)) arena) (r .answer) (memory (now (nodes .exit)) (now (slots .exit)) (r .arena)) ⌝ }
+    ensures { λ r. ⌜ Performs (M.prune (idOf (now (ids .entry)) done (arena .count) operand) threshold)
+        (memory (now (nodes .entry)) (now (slots .entry)) arena) (r .answer) (memory (now (nodes .exit)) (now (slots .exit)) (r .arena)) ⌝ }
 {
     let count = arena.count;
     let root = operand_id(ids, done, count, operand);
@@ -115,8 +117,10 @@ pub(crate) fn perform(
     slots: &mut [u32],
     arena: DagArena,
 ) -> Performed
-    requires { ⌜ OperandsInSheet (length (now sheet)) body × (length (now ids) ≡ mostRecords) × (done ≤ mostRecords) × Sound (now nodes) (now slots) arena ⌝ }
-    ensures { λ r. ⌜ PerformsBody (now (sheet .entry)) body (now (ids .entry)) done (memory (now (nodes .entry)) (now (slots .entry)) arena) (r .answer) (memory (now (nodes .exit)) (now (slots .exit)) (r .arena)) ⌝ }
+    requires { ⌜ OperandsInSheet (length (now sheet)) body × (length (now ids) ≡ mostRecords) × (done ≤ mostRecords) × Sound (now nodes)
+        (now slots) arena ⌝ }
+    ensures { λ r. ⌜ PerformsBody (now (sheet .entry)) body (now (ids .entry)) done (memory (now (nodes .entry)) (now (slots .entry)) arena)
+        (r .answer) (memory (now (nodes .exit)) (now (slots .exit)) (r .arena)) ⌝ }
 {
     match body {
         Body::Variable(symbol) => {

@@ -41,8 +41,10 @@ fn step(
     ids: &mut [u64; MOST_RECORDS],
     progress: Progress,
 ) -> Turn
-    requires { ⌜ (progress .at < length (now sheet)) × (length (now ids) ≡ mostRecords) × (progress .done ≤ mostRecords) × Sound (now nodes) (now slots) (progress .arena) ⌝ }
-    ensures { λ r. ⌜ NextRecord (now (sheet .entry)) progress (now (nodes .entry)) (now (slots .entry)) (now (ids .entry)) r (now (nodes .exit)) (now (slots .exit)) (now (ids .exit)) ⌝ }
+    requires { ⌜ (progress .at < length (now sheet)) × (length (now ids) ≡ mostRecords) × (progress .done ≤ mostRecords) × Sound (now nodes)
+        (now slots) (progress .arena) ⌝ }
+    ensures { λ r. ⌜ NextRecord (now (sheet .entry)) progress (now (nodes .entry)) (now (slots .entry)) (now (ids .entry)) r
+        (now (nodes .exit)) (now (slots .exit)) (now (ids .exit)) ⌝ }
 {
     let done = progress.done;
     let at = progress.at;
@@ -99,7 +101,9 @@ pub(crate) fn run_records(
     arena: DagArena,
 ) -> Ran
     requires { ⌜ Sound (now nodes) (now slots) arena ⌝ }
-    ensures { λ r. ⌜ RunsRecords (Sheet.records mostRecords (model .lent (memory (now (nodes .entry)) (now (slots .entry)) arena)) [] (model .view (memory (now (nodes .entry)) (now (slots .entry)) arena)) (drop start (now (sheet .entry)))) (memory (now (nodes .entry)) (now (slots .entry)) arena) (r .outcome) (memory (now (nodes .exit)) (now (slots .exit)) (r .arena)) ⌝ }
+    ensures { λ r. ⌜ RunsRecords (Sheet.records mostRecords (model .lent (memory (now (nodes .entry)) (now (slots .entry)) arena)) []
+        (model .view (memory (now (nodes .entry)) (now (slots .entry)) arena)) (drop start (now (sheet .entry))))
+        (memory (now (nodes .entry)) (now (slots .entry)) arena) (r .outcome) (memory (now (nodes .exit)) (now (slots .exit)) (r .arena)) ⌝ }
 {
     let mut ids = [0; MOST_RECORDS];
     let mut progress = Progress {

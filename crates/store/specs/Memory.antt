@@ -37,8 +37,8 @@ nodesOf m = nodesIn (m .words) (m .arena .count)
 abbrev pub sizeFor : Memory → List N.Node → ℕ
 sizeFor m ns = tableSizeFrom mostDoublings (m .arena .size) (length ns)
 
--- the memory that nodes give over one with at most as many: their words, then the table of their ids by rising id, each followed by what lay
--- past. "Words and slots past the used ones stay."
+-- the memory that nodes give over one with at most as many: their words, then the table of their ids by rising id, each followed by what
+-- lay past. "Words and slots past the used ones stay."
 abbrev pub memoryAfter : Memory → List N.Node → Memory
 memoryAfter m ns =
     memory
@@ -79,21 +79,23 @@ pub record Left : Type 0 where
 abbrev pub left : M.Answer → Memory → Left
 left answer memory = record { answer = answer; memory = memory }
 
--- What a call leaves: 20 and the same memory where the store is not sound, else the plain machine's answer and the memory that its nodes give.
+-- What a call leaves: 20 and the same memory where the store is not sound, else the plain machine's answer and the memory that its nodes
+-- give.
 abbrev pub leftBy : (c : M.Call) (m : Memory) → Dec (model .Sound m) → Left
 leftBy c m (yes h) = left (M.call (model .lent m) (model .view m) c .answer) (memoryAfter m (M.call (model .lent m) (model .view m) c .left .nodes))
 leftBy c m (no n) = left (M.refused notSound) m
 
--- What each store, simplify and prune call says of the memory before it, its answer and the memory after it: one equation for both. The memory
--- has the plain machine's nodes, is sound again and as large as before (`Called`), no node is taken away, and a refusal changes nothing.
+-- What each store, simplify and prune call says of the memory before it, its answer and the memory after it: one equation for both. The
+-- memory has the plain machine's nodes, is sound again and as large as before (`Called`), no node is taken away, and a refusal changes
+-- nothing.
 pub record Leaves (c : M.Call) (m : Memory) (a : M.Answer) (m′ : Memory) : Type 0 where
   pub equation : (d : Dec (model .Sound m)) → left a m′ ≡ leftBy c m d
   pub called : Called model c m a m′
   pub count : m .arena .count ≤ m′ .arena .count
   pub unchanged : (number : ℕ) → a ≡ M.refused number → changesNothing c number ≡ true → m′ ≡ m
 
--- What any list of such calls leaves of a sound memory: a sound one with at least its nodes, the table as large as they need, and what lies past
--- the used words and slots. So it is the memory that its nodes give (`stays-is` of proofs/Staying).
+-- What any list of such calls leaves of a sound memory: a sound one with at least its nodes, the table as large as they need, and what lies
+-- past the used words and slots. So it is the memory that its nodes give (`stays-is` of proofs/Staying).
 pub record Stays (m m′ : Memory) : Type 0 where
   pub sound : model .Sound m′
   pub count : m .arena .count ≤ m′ .arena .count
@@ -111,7 +113,8 @@ pub record SameContent (m m′ : Memory) : Type 0 where
   pub words-past : drop (m .arena .count * nodeWords) (m .words) ≡ drop (m′ .arena .count * nodeWords) (m′ .words)
   pub slots-past : drop (m .arena .size) (m .slots) ≡ drop (m′ .arena .size) (m′ .slots)
 
--- 02: "Two controllers compare memory after loading." Where both are sound, the same content is the same memory, word for word and slot for slot.
+-- 02: "Two controllers compare memory after loading." Where both are sound, the same content is the same memory, word for word and slot for
+-- slot.
 abbrev pub TwoControllers : Type 0
 TwoControllers = (m m′ : Memory) → model .Sound m → model .Sound m′ → SameContent m m′ → m ≡ m′
 

@@ -42,8 +42,8 @@ pub record Grown (size count size′ : ℕ) : Type 0 where
   pub is : size′ ≡ size * 2 ^ doublings
   pub needed : (d : ℕ) → d < doublings → I.capacity (size * 2 ^ d) < count
 
--- What every call keeps: the store is sound, the size as the count needs it, words and slots past the used ones stay, and so do the children
--- of each node.
+-- What every call keeps: the store is sound, the size as the count needs it, words and slots past the used ones stay, and so do the
+-- children of each node.
 pub record Kept (words slots : List ℕ) (arena : DagArena) (words′ slots′ : List ℕ) (arena′ : DagArena) : Type 0 where
   pub whole : Sound words′ slots′ arena′
   pub count : arena .count ≤ arena′ .count

@@ -31,7 +31,9 @@ fn intern_counted(
     children: &[u32],
 ) -> Answer
     requires { ⌜ Fits (now count) kind payload flags (now children) × Sound (now nodes) (now slots) (arenaOf (now count) (now size)) ⌝ }
-    ensures { λ r. ⌜ Interns (now (nodes .entry)) (now (slots .entry)) (arenaOf (now (count .entry)) (now (size .entry))) (N.node kind payload flags (now (children .entry))) (now (nodes .exit)) (now (slots .exit)) (builtOf r (now (count .exit)) (now (size .exit))) ⌝ }
+    ensures { λ r. ⌜ Interns (now (nodes .entry)) (now (slots .entry)) (arenaOf (now (count .entry)) (now (size .entry)))
+        (N.node kind payload flags (now (children .entry))) (now (nodes .exit)) (now (slots .exit))
+        (builtOf r (now (count .exit)) (now (size .exit))) ⌝ }
 {
     let hash = hash::key_hash(kind, payload, children);
     let answer = get_or_insert(
@@ -63,7 +65,8 @@ pub fn intern(
     children: &[u32],
 ) -> Built
     requires { ⌜ Fits (arena .count) kind payload flags (now children) × Sound (now nodes) (now slots) arena ⌝ }
-    ensures { λ r. ⌜ Interns (now (nodes .entry)) (now (slots .entry)) arena (N.node kind payload flags (now (children .entry))) (now (nodes .exit)) (now (slots .exit)) r ⌝ }
+    ensures { λ r. ⌜ Interns (now (nodes .entry)) (now (slots .entry)) arena (N.node kind payload flags (now (children .entry)))
+        (now (nodes .exit)) (now (slots .exit)) r ⌝ }
 {
     let mut count = arena.count;
     let mut size = arena.size;
@@ -116,7 +119,9 @@ pub fn intern_likely(
     likely: u64,
 ) -> Answer
     requires { ⌜ Fits (now count) kind payload flags (now children) × Sound (now nodes) (now slots) (arenaOf (now count) (now size)) ⌝ }
-    ensures { λ r. ⌜ Interns (now (nodes .entry)) (now (slots .entry)) (arenaOf (now (count .entry)) (now (size .entry))) (N.node kind payload flags (now (children .entry))) (now (nodes .exit)) (now (slots .exit)) (builtOf r (now (count .exit)) (now (size .exit))) ⌝ }
+    ensures { λ r. ⌜ Interns (now (nodes .entry)) (now (slots .entry)) (arenaOf (now (count .entry)) (now (size .entry)))
+        (N.node kind payload flags (now (children .entry))) (now (nodes .exit)) (now (slots .exit))
+        (builtOf r (now (count .exit)) (now (size .exit))) ⌝ }
 {
     if is_node(nodes, *count, likely, kind, payload, flags, children) {
         return Answer::Id(likely);

@@ -54,7 +54,8 @@ mostPending = 12
 abbrev pub Few : ℕ → ℕ → Type 0
 Few depth n = n ≤ 2 ^ (mostPending - depth)
 
--- the sizes of second halves, after those of `n` terms, of their first half, and so on to one or two terms were put from a depth on; the depth after them, and the number of terms left
+-- the sizes of second halves, after those of `n` terms, of their first half, and so on to one or two terms were put from a depth on; the
+-- depth after them, and the number of terms left
 pub data Splits : List ℕ → ℕ → ℕ → List ℕ → ℕ → ℕ → Type 0 where
   whole : {rights : List ℕ} {depth n : ℕ} → n ≤ 2 → Splits rights depth n rights depth n
   halved : {rights : List ℕ} {depth n : ℕ} {rights′ : List ℕ} {to rest : ℕ} → 2 < n → depth < length rights
@@ -64,7 +65,8 @@ pub data Splits : List ℕ → ℕ → ℕ → List ℕ → ℕ → ℕ → Type
 abbrev pub Summed : List ℕ → List ℕ → ℕ → ℕ → Type 0
 Summed rights lefts depth count = (place : ℕ) → place < depth → getD rights place 0 ≡ 0 → getD lefts place 0 < count
 
--- A sum at a depth, added to the sums of first halves as long as it ends their second half: the depth and the sum after that. A refusal ends all.
+-- A sum at a depth, added to the sums of first halves as long as it ends their second half: the depth and the sum after that. A refusal
+-- ends all.
 pub data Joined (l : Lent) (rights lefts : List ℕ) : ℕ → I.Built → ℕ → I.Built → Type 0 where
   ended : {b : I.Built} → Joined l rights lefts 0 b 0 b
   refused : {depth : ℕ} {ns : List Node} {number : ℕ} → Joined l rights lefts depth (stopped ns number) 0 (stopped ns number)

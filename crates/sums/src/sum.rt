@@ -56,7 +56,8 @@ fn add(
     right: u64,
 ) -> u64
     requires { ⌜ (left < now count) × (right < now count) × Sound (now nodes) (now slots) (arenaOf (now count) (now size)) ⌝ }
-    ensures { λ r. ⌜ AddsNumber (now (nodes .entry)) (now (slots .entry)) (arenaOf (now (count .entry)) (now (size .entry))) left right (now (nodes .exit)) (now (slots .exit)) r (arenaOf (now (count .exit)) (now (size .exit))) ⌝ }
+    ensures { λ r. ⌜ AddsNumber (now (nodes .entry)) (now (slots .entry)) (arenaOf (now (count .entry)) (now (size .entry))) left right
+        (now (nodes .exit)) (now (slots .exit)) r (arenaOf (now (count .exit)) (now (size .exit))) ⌝ }
 {
     let operands = [left as u32, right as u32];
     let answer = store::intern_likely(
@@ -107,8 +108,10 @@ fn sum_of_few(
     from: usize,
     n: usize,
 ) -> u64
-    requires { ⌜ (1 ≤ n) × (n ≤ 2) × Inside (now terms) from n × Summable (now nodes) (now slots) (arenaOf (now count) (now size)) (part (now terms) from n) ⌝ }
-    ensures { λ r. ⌜ SumsNumber (now (nodes .entry)) (now (slots .entry)) (arenaOf (now (count .entry)) (now (size .entry))) (part (now (terms .entry)) from n) (now (nodes .exit)) (now (slots .exit)) r (arenaOf (now (count .exit)) (now (size .exit))) ⌝ }
+    requires { ⌜ (1 ≤ n) × (n ≤ 2) × Inside (now terms) from n × Summable (now nodes) (now slots) (arenaOf (now count) (now size))
+        (part (now terms) from n) ⌝ }
+    ensures { λ r. ⌜ SumsNumber (now (nodes .entry)) (now (slots .entry)) (arenaOf (now (count .entry)) (now (size .entry)))
+        (part (now (terms .entry)) from n) (now (nodes .exit)) (now (slots .exit)) r (arenaOf (now (count .exit)) (now (size .exit))) ⌝ }
 {
     let first = terms[from] as u64;
     if n == 1 {
@@ -131,8 +134,11 @@ fn join(
     depth: usize,
     id: u64,
 ) -> usize
-    requires { ⌜ (depth ≤ mostPending) × (length (now rights) ≡ mostPending) × (length (now lefts) ≡ mostPending) × Summed (now rights) (now lefts) depth (now count) × (id < now count) × Sound (now nodes) (now slots) (arenaOf (now count) (now size)) ⌝ }
-    ensures { λ r. ⌜ Joins (now (nodes .entry)) (now (slots .entry)) (arenaOf (now (count .entry)) (now (size .entry))) (now (rights .entry)) (now (lefts .entry)) depth id (now (nodes .exit)) (now (slots .exit)) (arenaOf (now (count .exit)) (now (size .exit))) (now (lefts .exit)) r ⌝ }
+    requires { ⌜ (depth ≤ mostPending) × (length (now rights) ≡ mostPending) × (length (now lefts) ≡ mostPending) × Summed (now rights)
+        (now lefts) depth (now count) × (id < now count) × Sound (now nodes) (now slots) (arenaOf (now count) (now size)) ⌝ }
+    ensures { λ r. ⌜ Joins (now (nodes .entry)) (now (slots .entry)) (arenaOf (now (count .entry)) (now (size .entry)))
+        (now (rights .entry)) (now (lefts .entry)) depth id (now (nodes .exit)) (now (slots .exit))
+        (arenaOf (now (count .exit)) (now (size .exit))) (now (lefts .exit)) r ⌝ }
 {
     let mut number = id;
     let mut from = depth;
@@ -163,8 +169,10 @@ fn sum(
     from: usize,
     n: usize,
 ) -> u64
-    requires { ⌜ (1 ≤ n) × Inside (now terms) from n × Summable (now nodes) (now slots) (arenaOf (now count) (now size)) (part (now terms) from n) ⌝ }
-    ensures { λ r. ⌜ SumsNumber (now (nodes .entry)) (now (slots .entry)) (arenaOf (now (count .entry)) (now (size .entry))) (part (now (terms .entry)) from n) (now (nodes .exit)) (now (slots .exit)) r (arenaOf (now (count .exit)) (now (size .exit))) ⌝ }
+    requires { ⌜ (1 ≤ n) × Inside (now terms) from n × Summable (now nodes) (now slots) (arenaOf (now count) (now size))
+        (part (now terms) from n) ⌝ }
+    ensures { λ r. ⌜ SumsNumber (now (nodes .entry)) (now (slots .entry)) (arenaOf (now (count .entry)) (now (size .entry)))
+        (part (now (terms .entry)) from n) (now (nodes .exit)) (now (slots .exit)) r (arenaOf (now (count .exit)) (now (size .exit))) ⌝ }
 {
     let mut rights = [0usize; MOST_PENDING];
     let mut lefts = [0u64; MOST_PENDING];
@@ -209,7 +217,8 @@ pub fn balanced_add(
     n: usize,
 ) -> Built
     requires { ⌜ Inside (now terms) from n × Summable (now nodes) (now slots) arena (part (now terms) from n) ⌝ }
-    ensures { λ r. ⌜ Sums (now (nodes .entry)) (now (slots .entry)) arena (part (now (terms .entry)) from n) (now (nodes .exit)) (now (slots .exit)) r ⌝ }
+    ensures { λ r. ⌜ Sums (now (nodes .entry)) (now (slots .entry)) arena (part (now (terms .entry)) from n) (now (nodes .exit))
+        (now (slots .exit)) r ⌝ }
 {
     if n == 0 {
         return zero(nodes, slots, arena);

@@ -1,6 +1,6 @@
-// Reads a formula typed as text from standard input and prints its listing and its names; of a text that is refused also a line in words. A line
-// feed at the end of the input is no part of the text. A text that could not be read to its end is not listed, since the part that was read could
-// be a formula too.
+// Reads a formula typed as text from standard input and prints its listing and its names; of a text that is refused also a line in words. A
+// line feed at the end of the input is no part of the text. A text that could not be read to its end is not listed, since the part that was
+// read could be a formula too.
 ghost use Prim.Native.Nat.{_≤_};
 ghost use lib.ListN.{length};
 use libc::STDERR_FILENO;

@@ -21,7 +21,8 @@ pub(crate) fn read_fresh(
     entries: &mut [u8],
 ) -> ReadOutcome
     requires { ⌜ firstTableSize ≤ length (now slots) ⌝ }
-    ensures { λ r. ⌜ ReadsFresh (now (text .entry)) (lentLists (now (nodes .entry)) (now (slots .entry)) (now (entries .entry))) (r .answer) (controllerMemory (now (nodes .exit)) (now (slots .exit)) (r .arena) (now (entries .exit)) (r .names)) ⌝ }
+    ensures { λ r. ⌜ ReadsFresh (now (text .entry)) (lentLists (now (nodes .entry)) (now (slots .entry)) (now (entries .entry))) (r .answer)
+        (controllerMemory (now (nodes .exit)) (now (slots .exit)) (r .arena) (now (entries .exit)) (r .names)) ⌝ }
 {
     let opened = builder::fresh(nodes, slots);
     match opened {

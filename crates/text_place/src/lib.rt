@@ -26,8 +26,8 @@ const CLOSE: u8 = b')';
 
 const HASH: u8 = b'#';
 
-// How far a text is read: an operand is wanted; so many digits of a whole number, bytes of a name or hex digits after # stand; or an operand has
-// ended. Beside it how many brackets are open.
+// How far a text is read: an operand is wanted; so many digits of a whole number, bytes of a name or hex digits after # stand; or an
+// operand has ended. Beside it how many brackets are open.
 pub enum Progress {
     Wanted(usize),
     Digits { length: usize, brackets: usize },

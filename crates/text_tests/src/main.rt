@@ -1,5 +1,5 @@
-// Lists the texts of a file, a text a line, each on fresh lists of 512 nodes, 1,024 slots and 128 names. A line that begins with a bar says what
-// the lines after it show, and is printed as it is.
+// Lists the texts of a file, a text a line, each on fresh lists of 512 nodes, 1,024 slots and 128 names. A line that begins with a bar says
+// what the lines after it show, and is printed as it is.
 ghost use Prim.Native.Nat.{_≤_};
 ghost use lib.ListN.{length};
 use libc::STDOUT_FILENO;

@@ -49,7 +49,9 @@ pub extern "C" fn curvalique_build_sound(
     id: &mut u64,
 ) -> u64
     requires { ⌜ Asked true kind payload flags × Sound (now nodes) (now slots) (arenaOf (now count) (now size)) ⌝ }
-    ensures { λ r. ⌜ BuildsNode kind payload flags (now (operands .entry)) (lentMemory (now (nodes .entry)) (now (slots .entry)) (now (count .entry)) (now (size .entry))) (now (id .entry)) r (now (id .exit)) (lentMemory (now (nodes .exit)) (now (slots .exit)) (now (count .exit)) (now (size .exit))) ⌝ }
+    ensures { λ r. ⌜ BuildsNode kind payload flags (now (operands .entry))
+        (lentMemory (now (nodes .entry)) (now (slots .entry)) (now (count .entry)) (now (size .entry))) (now (id .entry)) r (now (id .exit))
+        (lentMemory (now (nodes .exit)) (now (slots .exit)) (now (count .exit)) (now (size .exit))) ⌝ }
 {
     let arena = DagArena {
         count: *count,
@@ -74,8 +76,12 @@ pub extern "C" fn curvalique_simplify_sound(
     steps: &mut u64,
 ) -> u64
     requires { ⌜ Sound (now nodes) (now slots) (arenaOf (now count) (now size)) ⌝ }
-    ensures { λ r. ⌜ Leaves (M.simplify standard root depth budget) (lentMemory (now (nodes .entry)) (now (slots .entry)) (now (count .entry)) (now (size .entry))) (unlessRefused r (M.simplified (now (id .exit)) (isSpent (now (spent .exit))) (now (steps .exit)))) (lentMemory (now (nodes .exit)) (now (slots .exit)) (now (count .exit)) (now (size .exit))) ⌝ }
-    ensures { λ r. ⌜ OutputsStay r (now (id .entry) ∷ now (spent .entry) ∷ now (steps .entry) ∷ []) (now (id .exit) ∷ now (spent .exit) ∷ now (steps .exit) ∷ []) ⌝ }
+    ensures { λ r. ⌜ Leaves (M.simplify standard root depth budget)
+        (lentMemory (now (nodes .entry)) (now (slots .entry)) (now (count .entry)) (now (size .entry)))
+        (unlessRefused r (M.simplified (now (id .exit)) (isSpent (now (spent .exit))) (now (steps .exit))))
+        (lentMemory (now (nodes .exit)) (now (slots .exit)) (now (count .exit)) (now (size .exit))) ⌝ }
+    ensures { λ r. ⌜ OutputsStay r (now (id .entry) ∷ now (spent .entry) ∷ now (steps .entry) ∷ [])
+        (now (id .exit) ∷ now (spent .exit) ∷ now (steps .exit) ∷ []) ⌝ }
 {
     let arena = DagArena {
         count: *count,
@@ -99,8 +105,11 @@ pub extern "C" fn curvalique_prune_sound(
     dropped: &mut u64,
 ) -> u64
     requires { ⌜ Sound (now nodes) (now slots) (arenaOf (now count) (now size)) ⌝ }
-    ensures { λ r. ⌜ Leaves (M.prune root threshold) (lentMemory (now (nodes .entry)) (now (slots .entry)) (now (count .entry)) (now (size .entry))) (unlessRefused r (M.pruned (now (id .exit)) (now (kept .exit)) (now (dropped .exit)))) (lentMemory (now (nodes .exit)) (now (slots .exit)) (now (count .exit)) (now (size .exit))) ⌝ }
-    ensures { λ r. ⌜ OutputsStay r (now (id .entry) ∷ now (kept .entry) ∷ now (dropped .entry) ∷ []) (now (id .exit) ∷ now (kept .exit) ∷ now (dropped .exit) ∷ []) ⌝ }
+    ensures { λ r. ⌜ Leaves (M.prune root threshold) (lentMemory (now (nodes .entry)) (now (slots .entry)) (now (count .entry))
+        (now (size .entry))) (unlessRefused r (M.pruned (now (id .exit)) (now (kept .exit)) (now (dropped .exit))))
+        (lentMemory (now (nodes .exit)) (now (slots .exit)) (now (count .exit)) (now (size .exit))) ⌝ }
+    ensures { λ r. ⌜ OutputsStay r (now (id .entry) ∷ now (kept .entry) ∷ now (dropped .entry) ∷ [])
+        (now (id .exit) ∷ now (kept .exit) ∷ now (dropped .exit) ∷ []) ⌝ }
 {
     let arena = DagArena {
         count: *count,

@@ -1,4 +1,5 @@
-// The walk (01, "engine: the walk"): rewrite_iterative with rebuild_or_match, one step a turn of the Rust's loop; and the strict walk of 02 (i).
+// The walk (01, "engine: the walk"): rewrite_iterative with rebuild_or_match, one step a turn of the Rust's loop; and the strict walk of 02
+// (i).
 ghost use mathlib.Core.Path.{_≡_};
 ghost use Rattle.definitions.specs.Machine as M;
 ghost use Rattle.definitions.specs.Modes.{modeOf};
@@ -53,7 +54,8 @@ pub fn simplify_sound(
     budget: u64,
 ) -> Outcome
     requires { ⌜ Sound (memory (now nodes) (now slots) arena) ⌝ }
-    ensures { λ r. ⌜ Leaves (M.simplify (modeOf mode) root depth budget) (memory (now (nodes .entry)) (now (slots .entry)) arena) (meaning (r .answer)) (memory (now (nodes .exit)) (now (slots .exit)) (r .arena)) ⌝ }
+    ensures { λ r. ⌜ Leaves (M.simplify (modeOf mode) root depth budget) (memory (now (nodes .entry)) (now (slots .entry)) arena)
+        (meaning (r .answer)) (memory (now (nodes .exit)) (now (slots .exit)) (r .arena)) ⌝ }
 {
     if MOST_DEPTH < depth {
         return refuse(BAD_CODE, arena);
@@ -76,7 +78,8 @@ pub fn simplify(
     depth: u32,
     budget: u64,
 ) -> Outcome
-    ensures { λ r. ⌜ Leaves (M.simplify (modeOf mode) root depth budget) (memory (now (nodes .entry)) (now (slots .entry)) arena) (meaning (r .answer)) (memory (now (nodes .exit)) (now (slots .exit)) (r .arena)) ⌝ }
+    ensures { λ r. ⌜ Leaves (M.simplify (modeOf mode) root depth budget) (memory (now (nodes .entry)) (now (slots .entry)) arena)
+        (meaning (r .answer)) (memory (now (nodes .exit)) (now (slots .exit)) (r .arena)) ⌝ }
 {
     if !store::audit(nodes, slots, arena) {
         return refuse(NOT_SOUND, arena);

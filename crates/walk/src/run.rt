@@ -28,7 +28,8 @@ pub(crate) fn run(
     budget: u64,
 ) -> Outcome
     requires { ⌜ Startable (memoryOf (now nodes) (now slots) walk) root walk ⌝ }
-    ensures { λ r. ⌜ WalksRoot (modeOf (walk .mode)) (memoryOf (now (nodes .entry)) (now (slots .entry)) walk) root (walk .limit) budget (memory (now (nodes .exit)) (now (slots .exit)) (r .arena)) r ⌝ }
+    ensures { λ r. ⌜ WalksRoot (modeOf (walk .mode)) (memoryOf (now (nodes .entry)) (now (slots .entry)) walk) root (walk .limit) budget
+        (memory (now (nodes .exit)) (now (slots .exit)) (r .arena)) r ⌝ }
 {
     let mut ids = walk.ids;
     let mut cursors = walk.cursors;

@@ -66,8 +66,11 @@ fn descend(
     mode: Mode,
     progress: Progress,
 ) -> Progress
-    requires { ⌜ Descendable (now nodes) (progress .arena .count) (stack (now ids) (now cursors) (now values) (progress .frames) (progress .filled)) ⌝ }
-    ensures { λ r. ⌜ Descends (modeOf mode) (nodesIn (now (nodes .entry)) (progress .arena .count)) (stack (now (ids .entry)) (now (cursors .entry)) (now (values .entry)) (progress .frames) (progress .filled)) progress (stack (now (ids .exit)) (now (cursors .exit)) (now (values .exit)) (r .frames) (r .filled)) r ⌝ }
+    requires { ⌜ Descendable (now nodes) (progress .arena .count)
+        (stack (now ids) (now cursors) (now values) (progress .frames) (progress .filled)) ⌝ }
+    ensures { λ r. ⌜ Descends (modeOf mode) (nodesIn (now (nodes .entry)) (progress .arena .count))
+        (stack (now (ids .entry)) (now (cursors .entry)) (now (values .entry)) (progress .frames) (progress .filled)) progress
+        (stack (now (ids .exit)) (now (cursors .exit)) (now (values .exit)) (r .frames) (r .filled)) r ⌝ }
 {
     let frames = progress.frames;
     let filled = progress.filled;
@@ -97,8 +100,12 @@ pub(crate) fn turn(
     limit: usize,
     progress: Progress,
 ) -> Progress
-    requires { ⌜ Ready (memory (now nodes) (now slots) (progress .arena)) limit (stack (now ids) (now cursors) (now values) (progress .frames) (progress .filled)) ⌝ }
-    ensures { λ r. ⌜ Turns (modeOf mode) (memory (now (nodes .entry)) (now (slots .entry)) (progress .arena)) limit (stack (now (ids .entry)) (now (cursors .entry)) (now (values .entry)) (progress .frames) (progress .filled)) (memory (now (nodes .exit)) (now (slots .exit)) (r .arena)) (stack (now (ids .exit)) (now (cursors .exit)) (now (values .exit)) (r .frames) (r .filled)) (r .status) ⌝ }
+    requires { ⌜ Ready (memory (now nodes) (now slots) (progress .arena)) limit
+        (stack (now ids) (now cursors) (now values) (progress .frames) (progress .filled)) ⌝ }
+    ensures { λ r. ⌜ Turns (modeOf mode) (memory (now (nodes .entry)) (now (slots .entry)) (progress .arena)) limit
+        (stack (now (ids .entry)) (now (cursors .entry)) (now (values .entry)) (progress .frames) (progress .filled))
+        (memory (now (nodes .exit)) (now (slots .exit)) (r .arena))
+        (stack (now (ids .exit)) (now (cursors .exit)) (now (values .exit)) (r .frames) (r .filled)) (r .status) ⌝ }
 {
     let filled = progress.filled;
     let arena = progress.arena;

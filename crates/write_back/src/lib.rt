@@ -21,8 +21,8 @@ pub enum Pruning {
     BySetting(u32),
 }
 
-// The length of the text that was written, the walk's steps, whether its budget was used up, whether the formula may be deeper than it went,
-// and the terms kept and dropped; or a refusal.
+// The length of the text that was written, the walk's steps, whether its budget was used up, whether the formula may be deeper than it
+// went, and the terms kept and dropped; or a refusal.
 pub enum Outcome {
     Written {
         length: usize,

@@ -39,8 +39,8 @@ deep n e = deeper (leb (rank (natural e)) n) (depthOf e)
 
 -- ---- operators
 
--- an operator's sign, the ranks of what may stand left and right of it with no brackets, and how much deeper the right one stands: "a ^ nests what
--- stands after it"
+-- an operator's sign, the ranks of what may stand left and right of it with no brackets, and how much deeper the right one stands: "a ^
+-- nests what stands after it"
 abbrev pub jointFor : Join → Joint
 jointFor plus = record { sign = 43; left = 4; right = 3; nesting = 0 }
 jointFor minus = record { sign = 45; left = 4; right = 3; nesting = 0 }

@@ -21,8 +21,8 @@ use Rattle.writer.specs.declared.Answer.the-variants.{Length, Refused}
 
 -- ---- the texts of a node
 
--- "text that reads to that node": a text of the language, however long, deep and spaced, whose expression denotes the node's formula under the
--- names as they are. No constant of it is a NaN: such a text is refused with 10.
+-- "text that reads to that node": a text of the language, however long, deep and spaced, whose expression denotes the node's formula under
+-- the names as they are. No constant of it is a NaN: such a text is refused with 10.
 pub record NodeText (s : Controller) (id : ℕ) (t : List ℕ) : Type 0 where
   pub expr : Expr
   pub depth : ℕ
@@ -33,8 +33,8 @@ pub record NodeText (s : Controller) (id : ℕ) (t : List ℕ) : Type 0 where
 -- the text that is written
 pub record WrittenText (s : Controller) (id : ℕ) (t : List ℕ) : Type 0 where
   pub of : NodeText s id t
-  -- signs, names and numerals, and brackets only where an operand does not fit without (specs Written of expression_text); how constants are
-  -- printed is said by `Numerals` of its specs Listed
+  -- signs, names and numerals, and brackets only where an operand does not fit without (specs Written of expression_text); how constants
+  -- are printed is said by `Numerals` of its specs Listed
   pub is : t ≡ textOf (of .expr)
   -- "without blanks"
   pub no-blanks : blanks t ≡ 0
@@ -73,8 +73,8 @@ abbrev pub WritesOnce : Type 0
 WritesOnce = (m : ControllerMemory) (id : ℕ) (buffer : List ℕ) (r r′ : Answer) (buffer′ buffer″ : List ℕ)
     → Writes m id buffer r buffer′ → Writes m id buffer r′ buffer″ → (r ≡ r′) × (buffer′ ≡ buffer″)
 
--- "It covers variables, constants, Neg and two-operand operators but Mod, with the constructors' flags, marks aside": a node with an expression
--- (specs Expression) has a text, and no other has one
+-- "It covers variables, constants, Neg and two-operand operators but Mod, with the constructors' flags, marks aside": a node with an
+-- expression (specs Expression) has a text, and no other has one
 abbrev pub Covers : Type 0
 Covers = (m : ControllerMemory) (id : ℕ) → BothSound m → id < length (controllerOf m .nodes)
     → ((e : Expr) → expressionOf (controllerOf m .names) (controllerOf m .nodes) id ≡ some e → NodeText (controllerOf m) id (textOf e))
@@ -86,8 +86,8 @@ ReadAfterWrite = (m m′ : ControllerMemory) (id size : ℕ) (buffer buffer′ :
     → Writes m id buffer (Length size) buffer′ → ControllerCalled lentController (reading (take size buffer′)) m a m′
     → (a ≡ stored id) × (controllerOf m′ ≡ controllerOf m)
 
--- every text that a reading on the same lists reads to a node that is there, without a new name, is one of the texts over which `fewest` is said.
--- A text that makes a name is none of them: a symbol that stands in the store without a name may be the next number.
+-- every text that a reading on the same lists reads to a node that is there, without a new name, is one of the texts over which `fewest` is
+-- said. A text that makes a name is none of them: a symbol that stands in the store without a name may be the next number.
 abbrev pub ReadTexts : Type 0
 ReadTexts = (m m′ : ControllerMemory) (id : ℕ) (t : List ℕ) → BothSound m → id < length (controllerOf m .nodes)
     → ControllerCalled lentController (reading t) m (stored id) m′ → controllerOf m′ .names ≡ controllerOf m .names → NodeText (controllerOf m) id t

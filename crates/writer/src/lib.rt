@@ -34,7 +34,8 @@ pub enum Answer {
 // The bytes of an array from a place on, at the start of a buffer.
 fn copy(out: &[u8; SPACE], place: usize, buffer: &mut [u8])
     requires { ⌜ Copies (now out) place (now buffer) ⌝ }
-    ensures { λ r. ⌜ now (buffer .exit) ≡ drop place (now (out .entry)) ++ drop (length (drop place (now (out .entry)))) (now (buffer .entry)) ⌝ }
+    ensures { λ r. ⌜ now (buffer .exit) ≡ drop place (now (out .entry)) ++ drop (length (drop place (now (out .entry))))
+        (now (buffer .entry)) ⌝ }
 {
     let size = SPACE - place;
     let mut i: usize = 0;
@@ -54,7 +55,8 @@ pub fn write_sound(
     buffer: &mut [u8],
 ) -> Answer
     requires { ⌜ Known (now nodes) count (now entries) named × (id < count) ⌝ }
-    ensures { λ r. ⌜ WritesExpression (expressionAt (now (nodes .entry)) count (now (entries .entry)) named id) (now (buffer .entry)) r (now (buffer .exit)) ⌝ }
+    ensures { λ r. ⌜ WritesExpression (expressionAt (now (nodes .entry)) count (now (entries .entry)) named id) (now (buffer .entry)) r
+        (now (buffer .exit)) ⌝ }
 {
     if !has_text(nodes, count, entries, named, id) {
         return Answer::Refused(NO_TEXT);
@@ -92,7 +94,8 @@ pub fn write(
     id: u32,
     buffer: &mut [u8],
 ) -> Answer
-    ensures { λ r. ⌜ Writes (controllerMemory (now (nodes .entry)) (now (slots .entry)) arena (now (entries .entry)) named) id (now (buffer .entry)) r (now (buffer .exit)) ⌝ }
+    ensures { λ r. ⌜ Writes (controllerMemory (now (nodes .entry)) (now (slots .entry)) arena (now (entries .entry)) named) id
+        (now (buffer .entry)) r (now (buffer .exit)) ⌝ }
 {
     if !store::audit(nodes, slots, arena) {
         return Answer::Refused(NOT_SOUND);

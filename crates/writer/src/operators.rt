@@ -16,7 +16,8 @@ pub(crate) const PRODUCT: u64 = 3;
 
 pub(crate) const SUM: u64 = 4;
 
-// An operator of two operands: its sign, the ranks of what stands left and right of it without brackets, and how much deeper the right one stands.
+// An operator of two operands: its sign, the ranks of what stands left and right of it without brackets, and how much deeper the right one
+// stands.
 pub struct Joint {
     pub sign: u8,
     pub left: u64,

@@ -66,7 +66,8 @@ fn put_leaf(
     at: usize,
 ) -> usize
     requires { ⌜ Writable (now nodes) count (now entries) named id × (N.at (nodesIn (now nodes) count) id .kind ≤ 1) × Open (now out) at ⌝ }
-    ensures { λ r. ⌜ Puts (bare (meant (now (nodes .entry)) count (now (entries .entry)) named id) (drop at (now (out .entry)))) spare at r (now (out .exit)) ⌝ }
+    ensures { λ r. ⌜ Puts (bare (meant (now (nodes .entry)) count (now (entries .entry)) named id) (drop at (now (out .entry)))) spare at r
+        (now (out .exit)) ⌝ }
 {
     let payload = store::payload(nodes, count, id);
     if store::kind(nodes, count, id) == CONSTANT {
@@ -88,7 +89,8 @@ pub(crate) fn put(
     from: usize,
 ) -> usize
     requires { ⌜ Writable (now nodes) count (now entries) named id × Open (now out) from ⌝ }
-    ensures { λ r. ⌜ Placed (meant (now (nodes .entry)) count (now (entries .entry)) named id) level left (drop from (now (out .entry))) (now (out .exit)) r ⌝ }
+    ensures { λ r. ⌜ Placed (meant (now (nodes .entry)) count (now (entries .entry)) named id) level left (drop from (now (out .entry)))
+        (now (out .exit)) r ⌝ }
 {
     let mut node = id;
     let mut high = level;

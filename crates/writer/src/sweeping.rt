@@ -126,7 +126,8 @@ fn stands(nodes: &[u64], count: u64, entries: &[u8], named: usize, id: u64) -> b
 
 // The children of a node reached.
 fn reach(nodes: &[u64], count: u64, id: u64, reached: &mut [u8; NODES])
-    requires { ⌜ Lookup (now nodes) count id × (length (now reached) ≡ mostNodes) × (length (N.at (nodesIn (now nodes) count) id .children) ≤ 2) ⌝ }
+    requires { ⌜ Lookup (now nodes) count id × (length (now reached) ≡ mostNodes) ×
+        (length (N.at (nodesIn (now nodes) count) id .children) ≤ 2) ⌝ }
     ensures { λ r. ⌜ Marks (N.at (nodesIn (now (nodes .entry)) count) id .children) (now (reached .entry)) (now (reached .exit)) ⌝ }
 {
     let arity = store::arity(nodes, count, id);
