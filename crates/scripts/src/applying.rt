@@ -54,15 +54,9 @@ pub fn apply(
         text(b" too many");
         return arena;
     }
-    let applied = patterns::try_apply(
-        nodes,
-        slots,
-        arena,
-        Mode::Standard,
-        kind,
-        [lhs, rhs, rhs, rhs],
-        arity,
-    );
+    let children = [lhs as u32, rhs as u32, rhs as u32, rhs as u32];
+    let used = arity as usize;
+    let applied = patterns::try_apply(nodes, slots, arena, Mode::Standard, kind, &children[..used]);
     let matched = applied.matched;
     let left = applied.arena;
     show(matched);

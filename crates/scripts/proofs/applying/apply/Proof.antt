@@ -1,7 +1,10 @@
+-- `scripts::applying::apply` meets its contract.
+use mathlib.Core.Path.{sym}
+use lib.Seq.{length-take-le}
 use native.Mathlib.Omega.{arith}
-use borrow.Author.Needs.{needs}
 use borrow.Author.Tests.{not-false}
 use Rattle.scripts.proofs.Operands.{operands}
+use borrow.Author.Needs.{needs}
 use Rattle.scripts.proofs.applying.apply.Statement.{statement}
 use Rattle.scripts.proofs.applying.apply.Tie as tie
 
@@ -50,10 +53,28 @@ same-length-4 c = search needs
 returns-2 : tie.Need-returns-2
 returns-2 c = search needs
 
+cast-t38 : tie.Need-cast-t38
+cast-t38 c = let r = c .before .before .ready .ensures (not-false _ (c .before .if1 .left)) in omega (arith, r .left, r .whole .nodes .formed .many)
+
+cast-t39 : tie.Need-cast-t39
+cast-t39 c = let r = c .before .before .ready .ensures (not-false _ (c .before .if1 .left)) in omega (arith, r .right, r .whole .nodes .formed .many)
+
+cast-t40 : tie.Need-cast-t40
+cast-t40 c = let r = c .before .before .ready .ensures (not-false _ (c .before .if1 .left)) in omega (arith, r .right, r .whole .nodes .formed .many)
+
+cast-t41 : tie.Need-cast-t41
+cast-t41 c = let r = c .before .before .ready .ensures (not-false _ (c .before .if1 .left)) in omega (arith, r .right, r .whole .nodes .formed .many)
+
+array-share-prefix-children : tie.Need-array-share-prefix-children
+array-share-prefix-children c = search needs
+
+slice-aggregate-try-apply : tie.Need-slice-aggregate-try-apply
+slice-aggregate-try-apply c = sym (length-take-le _ _ (let l = c .before .before .before .if2 .left in omega arith))
+
 try-apply-requires : tie.Need-try-apply-requires
 try-apply-requires c κs =
-    let r = c .before .before .before .before .ready .ensures (not-false _ (c .before .before .before .if1 .left)) in
-    (operands r _ (omega (arith, c .before .before .if2 .left)), r .whole)
+    let r = c .before .before .before .before .before .ready .ensures (not-false _ (c .before .before .before .before .if1 .left)) in
+    (operands r _ (c .before .before .before .if2 .left), r .whole)
 
 show-requires : tie.Need-show-requires
 show-requires c κs = search needs
@@ -89,6 +110,12 @@ apply-spec =
     same-length-3
     same-length-4
     returns-2
+    cast-t38
+    cast-t39
+    cast-t40
+    cast-t41
+    array-share-prefix-children
+    slice-aggregate-try-apply
     try-apply-requires
     show-requires
     between-requires
