@@ -2,6 +2,7 @@
 use Prim.Native.Nat.{ℕ}
 use mathlib.Core.Path.{_≡_}
 use lib.ListN.{length}
+use native.Mathlib.Omega.{arith}
 use borrow.Author.Needs.{needs}
 use Rattle.definitions.specs.Limits.{mostChildren}
 use Rattle.definitions.specs.Modes.{modeOf}
@@ -22,7 +23,7 @@ enum-known-answer-2 : tie.Need-enum-known-answer-2
 enum-known-answer-2 c = search needs
 
 mark-requires : tie.Need-mark-requires
-mark-requires c κs = B.may-mark _ _ _ (four (c .before .before .before .before .before .before .before .before .before .before .before .before .before .before)) (c .before .before .before .before .before .before .before .before .before .before .before .before .before .before .pre) (modeOf (c .before .before .before .before .before .before .before .before .before .before .before .before .before .before .args .mode)) _ _ _ (c .before .before .before .before .before .before .before .before .before .rebuild-or-match .ensures) _ (c .before .before .answer2 .given .1)
+mark-requires c κs = B.may-mark _ _ _ (four (c .before .before .before .before .before .before .before .before .before .before .before .before .before .before)) (c .before .before .before .before .before .before .before .before .before .before .before .before .before .before .pre) (modeOf (c .before .before .before .before .before .before .before .before .before .before .before .before .before .before .args .mode)) _ _ _ (c .before .before .before .before .before .before .before .before .before .rebuild-or-match .ensures) _ (c .before .before .answer2 .given .1) _ (omega arith)
 
 same-length : tie.Need-same-length
 same-length c = search needs
