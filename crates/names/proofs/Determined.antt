@@ -1,67 +1,121 @@
 -- A sound list's bytes are those of its names' entries: what name calls leave is one list of bytes.
-use Prim.Native.Nat.{ℕ, _+_, _*_, _/_, _%_, _<_}
-use mathlib.Core.Path.{_≡_, sym, ap, _∙_}
-use mathlib.Core.List.{List, [], _++_}
+use Prim.Native.Nat.{ℕ, zero, suc, _+_, _*_, _≤_}
+use mathlib.Core.Path.{_≡_, refl, sym, ap, ap₂, _∙_}
+use mathlib.Core.Bool.{cond}
+use mathlib.Core.List.{List, [], _∷_, _++_, append-assoc, append-nil, List-discrete}
 use lib.ListN.{length, getD, take, drop, take-append-drop}
-use lib.Seq.{ext-getD, getD-take, getD-drop, length-take-le}
+use lib.Seq.{take-add}
+use lib.Dec.{eqb}
+use native.Mathlib.Decide.{ℕ-discrete}
 use native.Mathlib.Omega.{arith}
-use Rattle.definitions.specs.Names.{NameCall, NameAnswer, entryBytes}
+use Rattle.definitions.specs.Refusals.{notSound}
+use Rattle.definitions.specs.Names.{NameCall, NameAnswer, numbered, unknown, named, refused, entryBytes}
 use Rattle.names.specs.Entry.{entryAt, entryOf}
 use Rattle.names.specs.Sound.{Sound, namesOf, nameAt}
-use Rattle.names.specs.Calls.{Called}
+use Rattle.names.specs.Calls.{plainly}
+use Rattle.names.specs.Memory.{NameMemory, nameMemory, nameModel, namesBytes, namesAfter, NamesLeft, namesLeft, namesLeftBy, CalledOn, NamesEquation, NamesOneWay}
 use Rattle.names.proofs.Entries.{entry-length, sound-entry}
-use Rattle.names.proofs.Listing.{names-length, names-at}
+use Rattle.names.proofs.Listing.{names-length}
 
--- a byte of the list, by the entry that it belongs to
-byte-at : (bytes : List ℕ) (i j : ℕ) → j < entryBytes → getD (entryAt bytes i) j 0 ≡ getD bytes (i * entryBytes + j) 0
-byte-at bytes i j l = getD-take entryBytes (drop (i * entryBytes) bytes) j 0 l ∙ getD-drop (i * entryBytes) bytes j 0
+-- ---- a sound list's bytes
 
-module _ (a b : List ℕ) (count : ℕ) (s : Sound a count) (s′ : Sound b count) (e : namesOf a count ≡ namesOf b count) where
-  same-entry : (i : ℕ) → i < count → entryAt a i ≡ entryAt b i
-  same-entry i l =
+bytes-append : (names : List (List ℕ)) (name : List ℕ) → namesBytes (names ++ name ∷ []) ≡ namesBytes names ++ entryOf name
+unfolding namesBytes
+bytes-append [] name = append-nil (entryOf name)
+bytes-append (n ∷ names) name = ap (λ (l : List ℕ). entryOf n ++ l) (bytes-append names name) ∙ sym (append-assoc (entryOf n) (namesBytes names) (entryOf name))
+
+-- the bytes in use
+module _ (bytes : List ℕ) (count : ℕ) (s : Sound bytes count) where
+  used : (n : ℕ) → n ≤ count → take (n * entryBytes) bytes ≡ namesBytes (namesOf bytes n)
+  unfolding namesBytes namesOf
+  used zero l = refl
+  used (suc n) l =
       let m = s .lent in
-      let n = s′ .lent in
-      let same : nameAt a i ≡ nameAt b i = sym (names-at a count i l) ∙ ap (λ (names : List (List ℕ)). getD names i []) e ∙ names-at b count i l in
-      sym (sound-entry (entryAt a i) (entry-length a i (omega arith)) (s .entries i l))
-      ∙ ap entryOf same
-      ∙ sound-entry (entryAt b i) (entry-length b i (omega arith)) (s′ .entries i l)
+      let more : suc n * entryBytes ≡ n * entryBytes + entryBytes = omega arith in
+      ap (λ (k : ℕ). take k bytes) more
+      ∙ take-add (n * entryBytes) entryBytes bytes
+      ∙ ap₂ (λ (a b : List ℕ). a ++ b) (used n (omega arith)) (sym (sound-entry (entryAt bytes n) (entry-length bytes n (omega arith)) (s .entries n (omega arith))))
+      ∙ sym (bytes-append (namesOf bytes n) (nameAt bytes n))
 
-  below : (x : ℕ) → x < count * entryBytes → getD a x 0 ≡ getD b x 0
-  below x l =
-      let here : x ≡ x / entryBytes * entryBytes + x % entryBytes = omega arith in
-      rw here
-      (sym (byte-at a (x / entryBytes) (x % entryBytes) (omega arith))
-      ∙ ap (λ (bytes : List ℕ). getD bytes (x % entryBytes) 0) (same-entry (x / entryBytes) (omega arith))
-      ∙ byte-at b (x / entryBytes) (x % entryBytes) (omega arith))
+  bytes-are : bytes ≡ namesBytes (namesOf bytes count) ++ drop (count * entryBytes) bytes
+  bytes-are = sym (take-append-drop (count * entryBytes) bytes) ∙ ap (λ (l : List ℕ). l ++ drop (count * entryBytes) bytes) (used count (omega arith))
 
-  -- the bytes in use are the same, and so are all if those past them are
-  pub bytes-same : drop (count * entryBytes) a ≡ drop (count * entryBytes) b → a ≡ b
-  bytes-same past =
-      let m = s .lent in
-      let m′ = s′ .lent in
-      let n : length (take (count * entryBytes) a) ≡ count * entryBytes = length-take-le (count * entryBytes) a (omega arith) in
-      let n′ : length (take (count * entryBytes) b) ≡ count * entryBytes = length-take-le (count * entryBytes) b (omega arith) in
-      let front : take (count * entryBytes) a ≡ take (count * entryBytes) b = ext-getD 0 _ _ (n ∙ sym n′) (λ x l.
-      let k : x < count * entryBytes = rw n at l in
-      getD-take (count * entryBytes) a x 0 k ∙ below x k ∙ sym (getD-take (count * entryBytes) b x 0 k)) in
-      sym (take-append-drop (count * entryBytes) a)
-      ∙ ap (λ (l : List ℕ). l ++ drop (count * entryBytes) a) front
-      ∙ ap (λ (l : List ℕ). take (count * entryBytes) b ++ l) past
-      ∙ take-append-drop (count * entryBytes) b
+-- lists of the same names are the same if what lies past them is
+pub bytes-same : (a b : List ℕ) (count : ℕ) → Sound a count → Sound b count → namesOf a count ≡ namesOf b count
+    → drop (count * entryBytes) a ≡ drop (count * entryBytes) b → a ≡ b
+bytes-same a b count s s′ e past =
+    bytes-are a count s ∙ ap₂ (λ (names : List (List ℕ)) (rest : List ℕ). namesBytes names ++ rest) e past ∙ sym (bytes-are b count s′)
 
--- one call on one sound list has one answer, and leaves the same bytes and count
-module _ (c : NameCall) (bytes : List ℕ) (count : ℕ) (a b : NameAnswer) (bytes′ bytes″ : List ℕ) (count′ count″ : ℕ)
-    (h : Sound bytes count) (l : Called bytes count c a bytes′ count′) (k : Called bytes count c b bytes″ count″) where
-  pub one-answer : a ≡ b
-  one-answer = l .answered h ∙ sym (k .answered h)
+-- ---- the equation
 
-  names : namesOf bytes′ count′ ≡ namesOf bytes″ count″
-  names = l .names h ∙ sym (k .names h)
+module _ (c : NameCall) (m m′ : NameMemory) (a : NameAnswer) (k : CalledOn c m a m′) where
+  abbrev names : List (List ℕ)
+  names = plainly (m .bytes) (m .count) c .names
 
-  pub one-count : count′ ≡ count″
-  one-count = sym (names-length bytes′ count′) ∙ ap length names ∙ names-length bytes″ count″
+  many : nameModel .Sound m → m′ .count ≡ length names
+  many h = sym (names-length (m′ .bytes) (m′ .count)) ∙ ap length (k .names h)
 
-  pub one-list : bytes′ ≡ bytes″
-  one-list =
-      bytes-same bytes′ bytes″ count′ (l .sound h) (rw one-count (k .sound h)) (names ∙ ap (namesOf bytes″) (sym one-count))
-      (l .past ∙ (rw one-count (sym (k .past))))
+  bytes-left : nameModel .Sound m → m′ .bytes ≡ namesBytes names ++ drop (length names * entryBytes) (m .bytes)
+  bytes-left h =
+      bytes-are (m′ .bytes) (m′ .count) (k .sound h)
+      ∙ ap₂ (λ (l : List (List ℕ)) (rest : List ℕ). namesBytes l ++ rest) (k .names h) (k .past)
+      ∙ ap (λ (n : ℕ). namesBytes names ++ drop (n * entryBytes) (m .bytes)) (many h)
+
+  left-by : (d : Dec (nameModel .Sound m)) → namesLeft a m′ ≡ namesLeftBy c m d
+  left-by (yes h) =
+      let answer = k .answered h in
+      let bytes = bytes-left h in
+      let count = many h in
+      λ i. namesLeft (answer i) (nameMemory (bytes i) (count i))
+  left-by (no n) =
+      let answer = k .unsound n in
+      let same = k .refusal notSound answer in
+      λ i. namesLeft (answer i) (nameMemory (same .0 i) (same .1 i))
+
+pub names-equation : NamesEquation
+names-equation c m m′ a k d = left-by c m m′ a k d
+
+-- ---- one way, sound or not
+
+either : {P : Type 0} (a b : List ℕ) → (P → a ≡ b) → ((P → ⊥) → a ≡ b) → a ≡ b
+either {P} a b f g = by (List-discrete ℕ-discrete a b)
+  where
+    by : Dec (a ≡ b) → a ≡ b
+    by (yes e) = e
+    by (no n) = g (λ p. n (f p))
+
+-- an answer as a list of numbers, and back
+answerNumbers : NameAnswer → List ℕ
+answerNumbers (numbered n) = 0 ∷ n ∷ []
+answerNumbers unknown = 1 ∷ []
+answerNumbers (named name) = 2 ∷ name
+answerNumbers (refused r) = 3 ∷ r ∷ []
+
+answerFrom : List ℕ → NameAnswer
+answerFrom [] = unknown
+answerFrom (k ∷ l) = cond (eqb k 0) (numbered (getD l 0 0)) (cond (eqb k 1) unknown (cond (eqb k 2) (named l) (refused (getD l 0 0))))
+
+back : (a : NameAnswer) → answerFrom (answerNumbers a) ≡ a
+unfolding answerFrom answerNumbers
+back (numbered n) = refl
+back unknown = refl
+back (named name) = refl
+back (refused r) = refl
+
+module _ (c : NameCall) (m m′ m″ : NameMemory) (a b : NameAnswer) (k : CalledOn c m a m′) (l : CalledOn c m b m″) where
+  same : Dec (nameModel .Sound m) → namesLeft a m′ ≡ namesLeft b m″
+  same d = left-by c m m′ a k d ∙ sym (left-by c m m″ b l d)
+
+  -- a list of numbers that is read off both
+  both : (read : NamesLeft → List ℕ) → read (namesLeft a m′) ≡ read (namesLeft b m″)
+  both read = either (read (namesLeft a m′)) (read (namesLeft b m″)) (λ h. ap read (same (yes h))) (λ n. ap read (same (no n)))
+
+  one-way : (a ≡ b) × (m′ ≡ m″)
+  one-way =
+      let answers = both (λ x. answerNumbers (x .answer)) in
+      let bytes = both (λ x. x .memory .bytes) in
+      let counts = ap (λ (l : List ℕ). getD l 0 0) (both (λ x. x .memory .count ∷ [])) in
+      (sym (back a) ∙ ap answerFrom answers ∙ back b, λ i. nameMemory (bytes i) (counts i))
+
+pub names-one-way : NamesOneWay
+names-one-way c m m′ m″ a b k l = one-way c m m′ m″ a b k l

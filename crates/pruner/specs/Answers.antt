@@ -10,7 +10,8 @@ use Rattle.definitions.specs.Prune.{chain}
 use Rattle.definitions.specs.Threshold as T
 use Rattle.definitions.specs.Machine as M
 use Rattle.store.specs.View.{nodesIn, lent, Kept}
-use Rattle.store.specs.Memory.{Memory, keepsInterned}
+use Rattle.definitions.specs.Refusals.{notSound}
+use Rattle.store.specs.Memory.{Memory, model, keepsInterned}
 use Rattle.pruner.specs.declared.Answer.{Answer}
 use Rattle.pruner.specs.declared.Answer.the-variants.{Pruned, Refused}
 use Rattle.pruner.specs.declared.threshold.Threshold.{Threshold}
@@ -51,3 +52,8 @@ PrunesRoot m root threshold = Prunes m (M.pruneAt (lentIn m) (nodesOf m) root (T
 
 abbrev pub PrunesCall : Memory → ℕ → Threshold → Answer → Memory → Type 0
 PrunesCall m root threshold = Prunes m (M.pruneCall (lentIn m) (nodesOf m) root (thresholdOf threshold))
+
+-- A prune on any store, which is audited: 20 and nothing changed where it is not sound.
+pub data PrunesAudited (m : Memory) (root : ℕ) (threshold : Threshold) : Answer → Memory → Type 0 where
+  unsound : (model .Sound m → ⊥) → PrunesAudited m root threshold (Refused notSound) m
+  sound : {answer : Answer} {m′ : Memory} → model .Sound m → PrunesCall m root threshold answer m′ → PrunesAudited m root threshold answer m′

@@ -5,7 +5,7 @@ ghost use Prim.Native.Nat.{_<_};
 ghost use Rattle.definitions.specs.Machine as M;
 ghost use Rattle.store.specs.View.{Sound};
 ghost use Rattle.store.specs.Memory.{memory, Leaves};
-ghost use Rattle.pruner.specs.Answers.{meaning, PrunesChain, PrunesRoot, PrunesCall};
+ghost use Rattle.pruner.specs.Answers.{meaning, PrunesChain, PrunesRoot, PrunesCall, PrunesAudited};
 use arena::DagArena;
 use arena::kind::ADD;
 use chains::Flattened;
@@ -145,19 +145,24 @@ pub fn prune_sound(
     prune_call(nodes, slots, arena, root, threshold::given(threshold))
 }
 
-// 01: "a prune by setting is the prune at that threshold"; on a store that is known to be sound.
-fn prune_sound_by_setting(
+// A prune on any store, which is audited first: 20, then the call on a sound store.
+fn prune_audited(
     nodes: &mut [u64],
     slots: &mut [u32],
     arena: DagArena,
     root: u32,
-    setting: u32,
+    threshold: Threshold,
 ) -> Outcome
-    requires { ⌜ Sound (now nodes) (now slots) arena ⌝ }
-    ensures { λ r. ⌜ Leaves (M.pruneBySetting root setting) (memory (now (nodes .entry)) (now (slots .entry)) arena) (meaning (r .answer))
+    ensures { λ r. ⌜ PrunesAudited (memory (now (nodes .entry)) (now (slots .entry)) arena) root threshold (r .answer)
         (memory (now (nodes .exit)) (now (slots .exit)) (r .arena)) ⌝ }
 {
-    prune_call(nodes, slots, arena, root, threshold::of_setting(setting))
+    if !store::audit(nodes, slots, arena) {
+        return Outcome {
+            answer: Answer::Refused(NOT_SOUND),
+            arena,
+        };
+    }
+    prune_call(nodes, slots, arena, root, threshold)
 }
 
 // A prune of an id at a threshold, both of any value, on any store.
@@ -171,16 +176,10 @@ pub fn prune(
     ensures { λ r. ⌜ Leaves (M.prune root threshold) (memory (now (nodes .entry)) (now (slots .entry)) arena) (meaning (r .answer))
         (memory (now (nodes .exit)) (now (slots .exit)) (r .arena)) ⌝ }
 {
-    if !store::audit(nodes, slots, arena) {
-        return Outcome {
-            answer: Answer::Refused(NOT_SOUND),
-            arena,
-        };
-    }
-    prune_sound(nodes, slots, arena, root, threshold)
+    prune_audited(nodes, slots, arena, root, threshold::given(threshold))
 }
 
-// A prune of an id by a setting, both of any value, on any store.
+// A prune of an id by a setting, both of any value, on any store. 01: "a prune by setting is the prune at that threshold".
 pub fn prune_by_setting(
     nodes: &mut [u64],
     slots: &mut [u32],
@@ -191,11 +190,5 @@ pub fn prune_by_setting(
     ensures { λ r. ⌜ Leaves (M.pruneBySetting root setting) (memory (now (nodes .entry)) (now (slots .entry)) arena) (meaning (r .answer))
         (memory (now (nodes .exit)) (now (slots .exit)) (r .arena)) ⌝ }
 {
-    if !store::audit(nodes, slots, arena) {
-        return Outcome {
-            answer: Answer::Refused(NOT_SOUND),
-            arena,
-        };
-    }
-    prune_sound_by_setting(nodes, slots, arena, root, setting)
+    prune_audited(nodes, slots, arena, root, threshold::of_setting(setting))
 }

@@ -184,8 +184,9 @@ module _ (m : Memory) (id : ℕ) (c : List ℕ) (b : Rebuildable m id c) where
       result-low : i < r .arena .count
       result-low = subst (λ (x : Answer). Low x (r .arena .count)) e (builds .low)
 
-      pub may-mark : Lookup words′ (r .arena .count) i
-      may-mark = R.lookup-of words′ slots′ (r .arena) (builds .kept .whole) i result-low
+      -- the node that is marked is the result
+      pub may-mark : (j : ℕ) → j ≡ i → Lookup words′ (r .arena .count) j
+      may-mark j is = R.lookup-of words′ slots′ (r .arena) (builds .kept .whole) j (let h = result-low in omega (arith, is))
 
       pub marks : (words″ : List ℕ) → MarkedAs mode words′ (r .arena .count) i words″ → Finishes mode m id c (Id i) (memory words″ slots′ (r .arena))
       marks words″ x = record {

@@ -1,4 +1,5 @@
 -- A refusal of the rebuilding is handed on; an id is marked.
+use native.Mathlib.Omega.{arith}
 use Rattle.definitions.specs.Modes.{modeOf}
 use Rattle.rebuild.proofs.Rebuilding as B
 use borrow.Author.Needs.{needs}
@@ -15,7 +16,7 @@ enum-known-answer-2 : tie.Need-enum-known-answer-2
 enum-known-answer-2 c = search needs
 
 mark-requires : tie.Need-mark-requires
-mark-requires c κs = let s = c .before .before .before .before .before .before .before .before .before .before .before .before .before .before .before in B.may-mark _ _ _ (s .pre) (modeOf (s .args .mode)) _ _ _ (c .before .before .before .before .before .before .before .before .before .rebuild-or-match .ensures) _ (c .before .before .answer2 .given .1)
+mark-requires c κs = let s = c .before .before .before .before .before .before .before .before .before .before .before .before .before .before .before in B.may-mark _ _ _ (s .pre) (modeOf (s .args .mode)) _ _ _ (c .before .before .before .before .before .before .before .before .before .rebuild-or-match .ensures) _ (c .before .before .answer2 .given .1) _ (omega arith)
 
 same-length : tie.Need-same-length
 same-length c = search needs
