@@ -3,11 +3,13 @@
 use Prim.Native.Nat.{ℕ}
 use mathlib.Core.Bool.{Bool, _&&_, cond}
 use mathlib.Core.Option.{Option, none, some}
+use mathlib.Core.Path.{_≡_, refl}
 use mathlib.Core.List.{List, [], _∷_}
 use lib.Dec.{eqb}
-use Rattle.definitions.specs.Node.{Node, at, constantKind, addKind, subKind, mulKind, divKind, negKind}
+use lib.Ieee.{ofBits, eq}
+use Rattle.definitions.specs.Node.{Node, node, at, constantKind, addKind, subKind, mulKind, divKind, negKind}
 use Rattle.definitions.specs.Intern.{Lent, Built, built}
-use Rattle.definitions.specs.Patterns.{orElse, when, negDouble, constantFold}
+use Rattle.definitions.specs.Patterns.{constantValue, orElse, when, negDouble, binary64Result, fold, constantFold}
 
 -- ---- identities
 
@@ -63,3 +65,13 @@ strictApply l ns k [] = none
 strictApply l ns k (a ∷ []) = cond (eqb k negKind) (negDouble ns a) none
 strictApply l ns k (a ∷ b ∷ []) = orElse (strictIdentities ns k a b) (constantFold l ns k a b)
 strictApply l ns k (a ∷ b ∷ c ∷ r) = none
+
+-- 0.5 and a zero
+abbrev halfAndZero : ℕ → List Node
+halfAndZero zeroBits = node constantKind 0x3FE0000000000000 0 [] ∷ node constantKind zeroBits 0 [] ∷ []
+
+-- "not by zero", of either sign
+pub not-by-zero : (l : Lent) → (strictApply l (halfAndZero plusZeroBits) divKind (0 ∷ 1 ∷ []) ≡ none)
+    × (strictApply l (halfAndZero minusZeroBits) divKind (0 ∷ 1 ∷ []) ≡ none)
+unfolding strictApply strictIdentities constantFold constantValue fold binary64Result eq ofBits
+not-by-zero l = (refl, refl)
