@@ -1,5 +1,5 @@
--- How far the value of a typed formula may have moved when `answer` wrote it back, on a fresh store with an empty name list; without a threshold it
--- has not moved.
+-- How far the value of a typed formula may have moved when `answer` wrote it back, on a fresh store with an empty name list. Without a
+-- threshold it has not moved.
 use Prim.Native.Nat.{ℕ, _<_}
 use mathlib.Core.Path.{_≡_}
 use mathlib.Core.Bool.{Bool}

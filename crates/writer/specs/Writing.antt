@@ -83,7 +83,7 @@ Covers = (m : ControllerMemory) (id : ℕ) → BothSound m → id < length (cont
     → ((e : Expr) → expressionOf (controllerOf m .names) (controllerOf m .nodes) id ≡ some e → NodeText (controllerOf m) id (textOf e))
     × (expressionOf (controllerOf m .names) (controllerOf m .nodes) id ≡ none → (t : List ℕ) → NodeText (controllerOf m) id t → ⊥)
 
--- what a write left in the buffer, read on the same lists by the contract of c's call, answers the id and leaves every word, slot and byte as it was
+-- what a write left in the buffer, read on the same lists by the contract of c's call, answers the id and leaves every word, slot and byte
 abbrev pub ReadAfterWrite : Type 0
 ReadAfterWrite = (m m′ : ControllerMemory) (id size : ℕ) (buffer buffer′ : List ℕ) (a : Store.Answer)
     → Writes m id buffer (Length size) buffer′ → Reads (take size buffer′) m a m′ → (a ≡ store.Id id) × (m′ ≡ m)
