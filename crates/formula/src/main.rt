@@ -1,6 +1,7 @@
-// Simplifies a formula that is typed on standard input, prunes it by the setting that is its argument (without one it is not pruned), and prints it
-// as text, with the walk's steps, the terms kept and dropped, the threshold, a bound on the dropped ones and how far the value may have moved; or
-// the refusal in words. A text that could not be read to its end is not taken, since the part that was read could be a formula too.
+// Simplifies a formula that is typed on standard input, prunes it by the setting that is its argument (without one it is not pruned), and
+// prints it as text, with the walk's steps, the terms kept and dropped, the threshold, a bound on the dropped ones and how far the value may
+// have moved; or the refusal in words. A text that could not be read to its end is not taken, since the part that was read could be a formula
+// too.
 mod threshold;
 
 ghost use mathlib.Core.Path.{_≡_};

@@ -1,5 +1,5 @@
-// The threshold of a setting in words: as a decimal, rounded up, and its bits as a text's constant has them; and how much so many terms below
-// it come to at most.
+// The threshold of a setting in words: as a decimal, rounded up, and its bits as a text's constant has them; and what so many terms below it
+// come to.
 use crate::say;
 use crate::say_if_exact;
 use crate::say_number;
@@ -34,8 +34,8 @@ fn say_hex(bits: u64) {
     io::write_all(STDOUT_FILENO, &bytes[..length]);
 }
 
-// The threshold below which each of so many dropped terms is, and what they come to. A setting that prunes nothing has no threshold and drops
-// nothing, and a sum has at most 4,096 terms.
+// The threshold below which each of so many dropped terms is, and what they come to. A setting that prunes nothing has no threshold and
+// drops nothing, and a sum has at most 4,096 terms.
 pub(crate) fn say_dropped(setting: u32, dropped: u64) {
     if setting < FIRST_PRUNING_SETTING {
         return;
