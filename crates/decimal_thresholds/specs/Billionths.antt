@@ -35,3 +35,14 @@ pub record RoundedUp (pattern r : ℕ) : Type 0 where
 -- so it is for every setting that prunes; proved in proofs/RoundedUp
 abbrev pub ThresholdsRoundedUp : Type 0
 ThresholdsRoundedUp = (n : ℕ) → firstPruningSetting ≤ n → n ≤ lastSetting → RoundedUp (threshold n) (billionths (threshold n))
+
+-- ---- several thresholds together
+
+-- the most terms that a sum may have for a prune
+abbrev pub mostTerms : ℕ
+mostTerms = 4096
+
+-- so many thresholds, each in billionths, are above that many times the threshold; proved in proofs/RoundedUp
+abbrev pub TogetherRoundedUp : Type 0
+TogetherRoundedUp = (n count : ℕ) → firstPruningSetting ≤ n → n ≤ lastSetting → 0 < count
+    → count * units (threshold n) * billion < count * billionths (threshold n) * 2 ^ low binary64

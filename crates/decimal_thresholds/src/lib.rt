@@ -1,10 +1,10 @@
 // The thresholds of settings as decimals: in whole billionths, rounded up, so that what is below a threshold is below its decimal.
 ghost use mathlib.Core.Path.{_≡_};
-ghost use Prim.Native.Nat.{_≤_};
+ghost use Prim.Native.Nat.{_*_, _≤_};
 ghost use Rattle.thresholds.specs.Thresholds.{firstPruningSetting, lastSetting, threshold};
-ghost use Rattle.decimal_thresholds.specs.Billionths.{Between, billionths};
+ghost use Rattle.decimal_thresholds.specs.Billionths.{Between, billionths, mostTerms};
 
-const BILLION: u64 = 1_000_000_000;
+pub const BILLION: u64 = 1_000_000_000;
 
 // The leading digit of a binary64 number, 2^52, and half its digits, 2^26.
 const LEADING_DIGIT: u64 = 4_503_599_627_370_496;
@@ -31,4 +31,17 @@ pub fn threshold_billionths(setting: u32) -> u64
     ensures { λ r. ⌜ r ≡ billionths (threshold setting) ⌝ }
 {
     rounded_up(thresholds::threshold(setting))
+}
+
+// The most terms that a sum may have for a prune.
+pub const MOST_TERMS: u64 = 4_096;
+
+// So many thresholds of a setting that prunes, in billionths: above that many times the threshold (`TogetherRoundedUp`).
+pub fn together_billionths(setting: u32, count: u64) -> u64
+    requires { ⌜ firstPruningSetting ≤ setting ⌝ }
+    requires { ⌜ setting ≤ lastSetting ⌝ }
+    requires { ⌜ count ≤ mostTerms ⌝ }
+    ensures { λ r. ⌜ r ≡ count * billionths (threshold setting) ⌝ }
+{
+    count * threshold_billionths(setting)
 }

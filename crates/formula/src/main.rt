@@ -1,6 +1,7 @@
 // Simplifies a formula that is typed on standard input, prunes it by the setting that is its argument (without one it is not pruned), and
-// prints it as text, with the walk's steps, the terms kept and dropped, the threshold and a bound on the dropped ones; or the refusal in
-// words. A text that could not be read to its end is not taken, since the part that was read could be a formula too.
+// prints it as text, with the walk's steps, the terms kept and dropped, the threshold, a bound on the dropped ones and how far the value
+// may have moved; or the refusal in words. A text that could not be read to its end is not taken, since the part that was read could be a
+// formula too.
 mod threshold;
 
 ghost use mathlib.Core.Path.{_≡_};
@@ -21,7 +22,7 @@ use text_language::MOST_BYTES;
 use text_language::NESTED_TOO_DEEP;
 use text_language::NOT_A_NUMBER;
 use text_language::OUTSIDE_LANGUAGE;
-use threshold::say_threshold;
+use threshold::say_dropped;
 use write_back::DEPTH;
 use write_back::Outcome;
 use write_back::Pruning;
@@ -99,22 +100,32 @@ fn say_steps(steps: u64, spent: bool, deep: bool) {
     say(b"\n");
 }
 
-// The terms kept and dropped, and a bound on what was dropped: each dropped term is a constant below the threshold of the setting. For a
-// formula of the exact kind (01) the value has moved by less than that.
+// The formulas of which it is proved how far their value may have moved; 01 calls them the exact kind.
+fn say_if_exact() {
+    say(
+        b"if the text has no / and no ^ and its numbers keep to the limits of the exact kind (docs/REFERENCE.md), its value has ",
+    );
+}
+
+// Without a threshold, and where nothing was dropped, the value is what it was.
+fn say_unmoved() {
+    say_if_exact();
+    say(b"not moved\n");
+}
+
+// The terms kept and dropped, a bound on what was dropped, and how far the value may have moved.
 fn say_pruned(setting: u32, kept: u64, dropped: u64) {
     say(b"kept ");
     say_number(kept);
     say(b", dropped ");
     say_number(dropped);
+    say(b"\n");
     if dropped == 0 {
-        say(b"\nno term was dropped\n");
+        say(b"no term was dropped\n");
+        say_unmoved();
         return;
     }
-    say(b"\n");
-    say_threshold(setting);
-    say(b"the dropped terms are together below ");
-    say_number(dropped);
-    say(b" times the threshold\n");
+    say_dropped(setting, dropped);
 }
 
 fn show(outcome: Outcome, pruning: Pruning, text: &[u8]) {
@@ -130,7 +141,10 @@ fn show(outcome: Outcome, pruning: Pruning, text: &[u8]) {
             say_first(text, length);
             say_steps(steps, spent, deep);
             match pruning {
-                Pruning::Skipped => {}
+                Pruning::Skipped => {
+                    say(b"not pruned\n");
+                    say_unmoved();
+                }
                 Pruning::BySetting(setting) => say_pruned(setting, kept, dropped),
             }
         }

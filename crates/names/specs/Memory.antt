@@ -46,7 +46,8 @@ pub record NamesLeft : Type 0 where
 abbrev pub namesLeft : NameAnswer → NameMemory → NamesLeft
 namesLeft answer memory = record { answer = answer; memory = memory }
 
--- What a name call leaves: 20 and the same memory where the list is not sound, else the plain registry's answer and the memory that its names give.
+-- What a name call leaves: 20 and the same memory where the list is not sound, else the plain registry's answer and the memory that its
+-- names give.
 abbrev pub namesLeftBy : (c : NameCall) (m : NameMemory) → Dec (nameModel .Sound m) → NamesLeft
 namesLeftBy c m (yes h) = namesLeft (plainly (m .bytes) (m .count) c .answer) (namesAfter m (plainly (m .bytes) (m .count) c .names))
 namesLeftBy c m (no n) = namesLeft (refused notSound) m

@@ -25,7 +25,7 @@ use Rattle.write_back.specs.declared.Outcome.the-variants.{Written}
 use Rattle.write_back.specs.Ids.{idOf}
 use Rattle.write_back.specs.Answers.{depthLimit, mayBeDeeper, Calls, Finishes, unpruned, finished, Simplifies, unsimplified, walked, Answers, unread, read}
 use Rattle.write_back.specs.Depth.{levels, levelsOver, ShallowText, Shallow}
-use Rattle.write_back.proofs.Moving.{id-same}
+use Rattle.write_back.proofs.Stages.{id-same}
 
 over-low : (f : ℕ → Tree) (i : ℕ) (cs : List ℕ) → Lower i cs → ((c : ℕ) → c < i → levels (f c) ≤ c) → levelsOver (forest f cs) ≤ i
 unfolding levelsOver

@@ -1,3 +1,5 @@
 pub mod Chaining
+pub mod Stages
 pub mod Moving
+pub mod Staying
 pub mod Depth

@@ -1,4 +1,4 @@
--- How deep a formula is, and that a walk at the depth limit is deep enough for every formula of which the program says nothing.
+-- How deep a formula is, and that one of which the program says nothing has no more levels than the depth limit of the walk.
 use Prim.Native.Nat.{ℕ, suc, max, _≤_}
 use mathlib.Core.Bool.{Bool, false}
 use mathlib.Core.List.{List}

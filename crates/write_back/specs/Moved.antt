@@ -1,5 +1,6 @@
--- How far the value of a typed formula may have moved when `answer` wrote it back, on a fresh store with an empty name list.
-use Prim.Native.Nat.{ℕ}
+-- How far the value of a typed formula may have moved when `answer` wrote it back, on a fresh store with an empty name list. Without a
+-- threshold it has not moved.
+use Prim.Native.Nat.{ℕ, _<_}
 use mathlib.Core.Path.{_≡_}
 use mathlib.Core.Bool.{Bool}
 use mathlib.Core.Option.{some}
@@ -9,7 +10,9 @@ use lib.Dec.{T}
 use lib.Ieee.{binary64, ofBits, le}
 use Rattle.definitions.specs.Patterns.{one64}
 use Rattle.definitions.specs.Threshold.{bits}
+use Rattle.definitions.specs.Settings.{firstPruningSetting}
 use Rattle.definitions.specs.Formula.{formula}
+use Rattle.definitions.specs.Dyadic.{Dyadic}
 use Rattle.definitions.specs.Value.{Reading, valueOf}
 use Rattle.definitions.specs.Exact.{Exact}
 use Rattle.definitions.specs.Controller.{Controller, pruningBySetting}
@@ -20,16 +23,22 @@ use Rattle.store.specs.Memory.{model}
 use Rattle.names.specs.Memory.{nameModel}
 use Rattle.text.specs.Memory.{ControllerMemory, lentController}
 use Rattle.writer.specs.Writing.{WrittenText}
-use Rattle.write_back.specs.declared.Pruning.the-variants.{BySetting}
+use Rattle.write_back.specs.declared.Pruning.{Pruning}
+use Rattle.write_back.specs.declared.Pruning.the-variants.{Skipped, BySetting}
 use Rattle.write_back.specs.declared.Outcome.the-variants.{Written}
 use Rattle.write_back.specs.Answers.{Answers}
+
+-- no setting, or one from 0 to 19
+abbrev pub NoThreshold : Pruning → Type 0
+NoThreshold Skipped = Unit {0}
+NoThreshold (BySetting setting) = setting < firstPruningSetting
 
 -- the bits of a setting's threshold, as demand 3 has them
 abbrev pub HasThreshold : ℕ → ℕ → Type 0
 HasThreshold setting t = (i : ℕ) → prunes (pruningBySetting i setting) ≡ some (i, bits t)
 
--- what was typed, what was written of it, and for a formula of the exact kind how far its value may have moved
-pub record MovedText (typed text : List ℕ) (t dropped : ℕ) : Type 0 where
+-- what was typed, what was written of it, and for a formula of the exact kind how the two values are related
+pub record WrittenBack (typed text : List ℕ) (Related : Dyadic → Dyadic → Type 0) : Type 0 where
   pub before : Controller
   pub id : ℕ
   pub read : ReadTo typed before id
@@ -38,8 +47,11 @@ pub record MovedText (typed text : List ℕ) (t dropped : ℕ) : Type 0 where
   pub same-names : after .names ≡ before .names
   pub answer : ℕ
   pub written : WrittenText after answer text
-  pub moved : Exact (formula (before .nodes) id) → (r : Reading)
-      → Moved (valueOf r (formula (before .nodes) id)) (valueOf r (formula (after .nodes) answer)) (ofBits binary64 t) dropped
+  pub values : Exact (formula (before .nodes) id) → (r : Reading)
+      → Related (valueOf r (formula (before .nodes) id)) (valueOf r (formula (after .nodes) answer))
+
+abbrev pub MovedText : List ℕ → List ℕ → ℕ → ℕ → Type 0
+MovedText typed text t dropped = WrittenBack typed text (λ (old new : Dyadic). Moved old new (ofBits binary64 t) dropped)
 
 abbrev pub ValueMoves : Type 0
 ValueMoves = (typed : List ℕ) (setting t : ℕ) (m m′ : ControllerMemory) (buffer buffer′ : List ℕ)
@@ -47,3 +59,13 @@ ValueMoves = (typed : List ℕ) (setting t : ℕ) (m m′ : ControllerMemory) (b
     → FreshController lentController m → HasThreshold setting t → T (le (ofBits binary64 t) one64)
     → Answers typed (BySetting setting) m buffer (Written size steps spent deep kept dropped) m′ buffer′
     → MovedText typed (take size buffer′) t dropped
+
+abbrev pub SameText : List ℕ → List ℕ → Type 0
+SameText typed text = WrittenBack typed text (λ (old new : Dyadic). old ≡ new)
+
+-- without a threshold the value is what it was
+abbrev pub ValueStays : Type 0
+ValueStays = (typed : List ℕ) (pruning : Pruning) (m m′ : ControllerMemory) (buffer buffer′ : List ℕ)
+    (size steps kept dropped : ℕ) (spent deep : Bool)
+    → FreshController lentController m → NoThreshold pruning
+    → Answers typed pruning m buffer (Written size steps spent deep kept dropped) m′ buffer′ → SameText typed (take size buffer′)

@@ -11,9 +11,12 @@ use Rattle.text_language.specs.Program.{postfix}
 use Rattle.text_language.specs.Reading.{mostBytes, mostNested, anyNan}
 use Rattle.definitions.specs.Refusals.{notSound, badOperand, noText, textTooLong}
 use Rattle.definitions.specs.Formula.{formula}
-use Rattle.definitions.specs.Controller.{LentLists, Controller, ControllerAnswer, reading, stored, controllerCall}
+use Rattle.definitions.specs.Controller.{LentLists, Controller, reading, stored, controllerCall}
 use Rattle.definitions.specs.Promise.{Spells, ControllerCalled}
+use Rattle.store.specs.declared.Answer as Store
+use Rattle.store.specs.declared.Answer.the-variants as store
 use Rattle.text.specs.Memory.{ControllerMemory, lentController, controllerOf, lentOf, BothSound}
+use Rattle.text.specs.Reading.{Reads}
 use Rattle.expression_text.specs.Written.{textOf, bracketPairs, blanks}
 use Rattle.writer.specs.Expression.{expressionOf}
 use Rattle.writer.specs.declared.Answer.{Answer}
@@ -80,11 +83,10 @@ Covers = (m : ControllerMemory) (id : ℕ) → BothSound m → id < length (cont
     → ((e : Expr) → expressionOf (controllerOf m .names) (controllerOf m .nodes) id ≡ some e → NodeText (controllerOf m) id (textOf e))
     × (expressionOf (controllerOf m .names) (controllerOf m .nodes) id ≡ none → (t : List ℕ) → NodeText (controllerOf m) id t → ⊥)
 
--- what a write left in the buffer, handed to a reading on the same lists, gives the id and adds nothing
+-- what a write left in the buffer, read on the same lists by the contract of c's call, answers the id and leaves every word, slot and byte
 abbrev pub ReadAfterWrite : Type 0
-ReadAfterWrite = (m m′ : ControllerMemory) (id size : ℕ) (buffer buffer′ : List ℕ) (a : ControllerAnswer)
-    → Writes m id buffer (Length size) buffer′ → ControllerCalled lentController (reading (take size buffer′)) m a m′
-    → (a ≡ stored id) × (controllerOf m′ ≡ controllerOf m)
+ReadAfterWrite = (m m′ : ControllerMemory) (id size : ℕ) (buffer buffer′ : List ℕ) (a : Store.Answer)
+    → Writes m id buffer (Length size) buffer′ → Reads (take size buffer′) m a m′ → (a ≡ store.Id id) × (m′ ≡ m)
 
 -- every text that a reading on the same lists reads to a node that is there, without a new name, is one of the texts over which `fewest` is
 -- said. A text that makes a name is none of them: a symbol that stands in the store without a name may be the next number.

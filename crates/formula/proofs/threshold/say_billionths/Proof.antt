@@ -8,6 +8,9 @@ Inv-loop billionths place₀ place = Unit {0}
 abbrev μ-loop : tie.MeasureT-loop
 μ-loop billionths place₀ place = place
 
+say-number-requires : tie.Need-say-number-requires Inv-loop μ-loop
+say-number-requires c κs = search needs
+
 slice-aggregate-say : tie.Need-slice-aggregate-say Inv-loop μ-loop
 slice-aggregate-say c = search needs
 
@@ -20,8 +23,8 @@ loop-holds c = search needs
 div-say-number : tie.Need-div-say-number Inv-loop μ-loop
 div-say-number c = search needs
 
-say-number-requires : tie.Need-say-number-requires Inv-loop μ-loop
-say-number-requires c κs = search needs
+say-number-requires-2 : tie.Need-say-number-requires-2 Inv-loop μ-loop
+say-number-requires-2 c κs = search needs
 
 loop-less : tie.Need-loop-less Inv-loop μ-loop
 loop-less c = search needs
@@ -38,11 +41,12 @@ say-billionths-spec =
     (tie.spec
     Inv-loop
     μ-loop
+    say-number-requires
     slice-aggregate-say
     say-requires
     loop-holds
     div-say-number
-    say-number-requires
+    say-number-requires-2
     loop-less
     loop-again
     returns)
