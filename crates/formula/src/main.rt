@@ -95,7 +95,7 @@ fn say_steps(steps: u64, spent: bool, deep: bool) {
     if deep {
         say(b", ");
         say_number(DEPTH as u64);
-        say(b" levels deep: what is deeper, if anything, stays as typed");
+        say(b" levels deep: parts of it may have stayed as typed");
     }
     say(b"\n");
 }
