@@ -1,9 +1,15 @@
 // Texts of nodes, written and read back: runs the lines of standard input on one store and one name list and prints what each answers. A
-// line is a letter, a blank and numbers or bytes:   # BYTES           printed as they are   n NAME            the number of a name   t TEXT
-//            a text read   v SYMBOL, k BITS  a variable, a constant   o CODE FLAGS COUNT IDS  an operator over up to four nodes   r CODE
-// COUNT      an operator over the last answer, twice for two operands, as often as said   i ID              the last answer is this id   p
-// PLACE WORD      a word of the nodes changed   e PLACE BYTE      a byte of the name list changed   w LENGTH          the last answer
-// written to a buffer of so many bytes, and its text read back
+// line is a letter, a blank and numbers or bytes:
+//   # BYTES           printed as they are
+//   n NAME            the number of a name
+//   t TEXT            a text read
+//   v SYMBOL, k BITS  a variable, a constant
+//   o CODE FLAGS COUNT IDS  an operator over up to four nodes
+//   r CODE COUNT      an operator over the last answer, twice for two operands, as often as said
+//   i ID              the last answer is this id
+//   p PLACE WORD      a word of the nodes changed
+//   e PLACE BYTE      a byte of the name list changed
+//   w LENGTH          the last answer written to a buffer of so many bytes, and its text read back
 mod building;
 mod lines;
 mod printing;
