@@ -1,6 +1,6 @@
 -- An expression as a postfix program: operands first, left before right, each operator after its operands.
 use Prim.Native.Nat.{ℕ, zero, suc, _+_, _-_, _≤_, _<_, max}
-use mathlib.Core.Path.{_≡_}
+use mathlib.Core.Path.{_≡_, refl}
 use mathlib.Core.Bool.{Bool, true, false, cond}
 use mathlib.Core.List.{List, [], _∷_, _++_, map}
 use lib.ListN.{drop, take}
@@ -30,6 +30,11 @@ postfix (variable w) = name w ∷ []
 postfix (negated a) = postfix a ++ negate ∷ []
 postfix (linked k x a b) = postfix a ++ (postfix b ++ join (joinOf k x) ∷ [])
 postfix (raised a b) = postfix a ++ (postfix b ++ join raise ∷ [])
+
+-- x - y: the left operand first
+pub left-first : postfix (linked sums true (variable (120 ∷ [])) (variable (121 ∷ []))) ≡ name (120 ∷ []) ∷ name (121 ∷ []) ∷ join minus ∷ []
+unfolding postfix
+left-first = refl
 
 -- how many results a token takes
 abbrev pub operands : Token → ℕ

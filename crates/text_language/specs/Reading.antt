@@ -1,13 +1,13 @@
 -- What a typed text meets: a refusal, or none, and then it denotes one expression.
 use Prim.Native.Nat.{ℕ, _+_, _*_, _≤_, _<_}
-use mathlib.Core.Path.{_≡_}
+use mathlib.Core.Path.{_≡_, refl}
 use mathlib.Core.Bool.{Bool, true, false, cond}
 use mathlib.Core.List.{List, [], _∷_}
 use lib.ListN.{length}
 use lib.Dec.{leb, eqb}
 use lib.Ieee.{binary64, nanBits}
 use Rattle.text_language.specs.Refusals.{badText, notANumber, outsideLanguage, nestedTooDeep}
-use Rattle.text_language.specs.Grammar.{Expr, Text, chain, sums}
+use Rattle.text_language.specs.Grammar.{Expr, constant, Text, chain, sums}
 use Rattle.text_language.specs.Reader.{Got, got, bad, level, read}
 use Rattle.text_language.specs.Scan.{ended}
 use Rattle.text_language.specs.Program.{Token, number, name, negate, join, postfix}
@@ -65,6 +65,11 @@ judge (got e d r) =
     cond (ended r)
     (cond (leb d mostNested) (cond (anyNan (postfix e)) (refuses notANumber) (denotes e)) (refuses nestedTooDeep))
     (refuses outsideLanguage)
+
+-- a NaN nested 65 deep: 12 comes before 10
+pub depth-first : judge (got (constant 0x7FF8000000000000) 65 []) ≡ refuses nestedTooDeep
+unfolding judge
+depth-first = refl
 
 unfoldable pub verdict : List ℕ → Verdict
 unfolding read judge
