@@ -11,7 +11,7 @@
  * Linking: `interface/install PREFIX` puts libcurvalique.a, for x86-64 Linux, where
  * pkg-config finds it. It needs memcpy and memset of C's library and nothing else.
  *
- * A STORE is two lent lists and two numbers. `nodes` holds the nodes, ten words
+ * A STORE is two lent lists and two numbers. `nodes` holds the nodes, 22 words
  * each (CURVALIQUE_NODE_WORDS), and `node_words` is how many words are lent;
  * `slots` is the duplicate table, and `slot_count` how many slots are lent.
  * `count` is how many nodes there are, and `size` how many slots are in use as
@@ -64,15 +64,15 @@ extern "C" {
 #endif
 
 /* A node's words, in order: kind, payload, hash, coefficient's bits, flags,
- * number of children, four child places (unused ones 0). */
-#define CURVALIQUE_NODE_WORDS 10
+ * number of children, 16 child places (unused ones 0). */
+#define CURVALIQUE_NODE_WORDS 22
 
 /* A name list's entry: a length byte, then 32 bytes, of which unused ones are 0. */
 #define CURVALIQUE_ENTRY_BYTES 33
 #define CURVALIQUE_LONGEST_NAME 32
 
 /* A listing of curvalique_list_sheet has at most so many bytes. */
-#define CURVALIQUE_LISTING_BYTES 98496
+#define CURVALIQUE_LISTING_BYTES 229824
 
 /* The form of a listing's first line. */
 #define CURVALIQUE_FORM_OK 0       /* "ok" and the last answer's id */
@@ -215,7 +215,7 @@ uint64_t curvalique_operator(
     uint64_t *id);
 
 /*
- * A function, by its number, over none to four operands: kind 16, flags 0.
+ * A function, by its number, over none to 16 operands: kind 16, flags 0.
  * Refusals: 20, 6, 4, 21, 22.
  */
 uint64_t curvalique_function(
@@ -262,7 +262,7 @@ uint64_t curvalique_control(
 /* ---- Reading a node back ---- */
 
 /*
- * Writes the ten words of a node. Flag 4 (canonical) is set in a node that a
+ * Writes the 22 words of a node. Flag 4 (canonical) is set in a node that a
  * walk finished a part of its formula with, also one that was spent or stopped
  * later. Changes nothing else. Refusals: 20, 4; the words stay as they were.
  */
@@ -469,7 +469,7 @@ void curvalique_list_sheet(
     uint8_t listing[CURVALIQUE_LISTING_BYTES], size_t *length);
 
 /*
- * Reads a listing back: writes the words of its nodes, ten each, with their
+ * Reads a listing back: writes the words of its nodes, 22 each, with their
  * hashes and coefficients, and no table. Returns 0 if the bytes are a listing
  * whose nodes have place: `count` is then the number of nodes and `form` that of
  * the first line; with CURVALIQUE_FORM_OK or CURVALIQUE_FORM_SPENT `id` is the

@@ -73,7 +73,8 @@ impl Lists {
         let id = self.count;
         unsafe {
             *self.slots.add(at) = id as u32 + 1;
-            let words = [ADD, 0, hash, BITS_OF_ONE, ADD_FLAGS, 2, left, right, 0, 0];
+            let mut words = [0; NODE_WORDS];
+            words[..8].copy_from_slice(&[ADD, 0, hash, BITS_OF_ONE, ADD_FLAGS, 2, left, right]);
             self.node(id).cast::<[u64; NODE_WORDS]>().write(words);
         }
         self.count += 1;

@@ -5,7 +5,7 @@ use std::ffi::c_uint;
 use crate::inputs::Request;
 use crate::store::{Node, Store};
 
-pub const NODE_WORDS: usize = 10;
+pub const NODE_WORDS: usize = 22;
 const MOST_NODES: usize = 65_536;
 const SLOTS: usize = 131_072;
 /// Over 4,096 terms (01).

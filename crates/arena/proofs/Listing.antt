@@ -7,17 +7,18 @@ use lib.Dec.{eqb, leb, ltb}
 use lib.Ieee.{binary64, nanBits}
 use native.Mathlib.Omega.{arith}
 use borrow.Author.Tests.{eq-eqb, ne-eqb, le-leb, lt-leb, lt-ltb, le-ltb, eqb-true, leb-true}
+use Rattle.definitions.specs.Limits.{mostOperands}
 use Rattle.arena.specs.Layout.{mostChildren}
 use Rattle.arena.specs.Kind.{operatorArity, controlArity, listed, isSymbolNumber}
 use Rattle.definitions.specs.Node.{nanConstant}
 use Rattle.definitions.proofs.Deciding.{both, same-test}
 
 -- the digits that the code reads: `LEAST_OPERANDS` and `MOST_OPERANDS`, four bits a kind
-abbrev leastOperands : ℕ → ℕ
-leastOperands kind = 0x122212100 / 2 ^ (kind * 4) % 16
+abbrev leastDigit : ℕ → ℕ
+leastDigit kind = 0x122212100 / 2 ^ (kind * 4) % 16
 
-abbrev mostOperands : ℕ → ℕ
-mostOperands kind = 0x122242400 / 2 ^ (kind * 4) % 16
+abbrev mostDigit : ℕ → ℕ
+mostDigit kind = 0x122242400 / 2 ^ (kind * 4) % 16
 
 -- a count of at least n is at most n just if it is n
 at-least : (n arity : ℕ) → n ≤ arity → leb arity n ≡ eqb arity n
@@ -26,7 +27,7 @@ at-least n arity l = same-test (leb arity n) (eqb arity n)
     (λ e. let z = eqb-true arity n e in le-leb arity n (omega arith))
 
 -- fewer children than the kind's digit of `LEAST_OPERANDS`
-pub too-few : (kind arity : ℕ) → 2 ≤ kind → kind ≤ 8 → arity < leastOperands kind → false ≡ operatorArity kind arity
+pub too-few : (kind arity : ℕ) → 2 ≤ kind → kind ≤ 8 → arity < leastDigit kind → false ≡ operatorArity kind arity
 unfolding operatorArity
 too-few zero arity l h f = absurd (omega arith)
 too-few (suc zero) arity l h f = absurd (omega arith)
@@ -40,7 +41,7 @@ too-few (suc (suc (suc (suc (suc (suc (suc (suc zero)))))))) arity l h f = sym (
 too-few (suc (suc (suc (suc (suc (suc (suc (suc (suc kind))))))))) arity l h f = absurd (omega arith)
 
 -- else the kind's digit of `MOST_OPERANDS` decides
-pub enough : (kind arity : ℕ) → 2 ≤ kind → kind ≤ 8 → leastOperands kind ≤ arity → leb arity (mostOperands kind) ≡ operatorArity kind arity
+pub enough : (kind arity : ℕ) → 2 ≤ kind → kind ≤ 8 → leastDigit kind ≤ arity → leb arity (mostDigit kind) ≡ operatorArity kind arity
 unfolding operatorArity
 enough zero arity l h f = absurd (omega arith)
 enough (suc zero) arity l h f = absurd (omega arith)
@@ -142,9 +143,9 @@ choice false x y h = inr h
 few-operator : (kind arity : ℕ) → operatorArity kind arity ≡ true → arity ≤ mostChildren
 unfolding operatorArity
 few-operator kind arity h = ⊎-elim
-    (λ s. let z = leb-true arity 4 (both (leb 1 arity) (leb arity 4) s .1) in omega arith)
+    (λ s. let z = leb-true arity mostOperands (both (leb 1 arity) (leb arity mostOperands) s .1) in omega arith)
     (λ r. ⊎-elim (λ e. let z = eqb-true arity 1 e in omega arith) (λ e. let z = eqb-true arity 2 e in omega arith) (choice (eqb kind 8) (eqb arity 1) (eqb arity 2) r))
-    (choice (eqb kind 2 || eqb kind 4) (leb 1 arity && leb arity 4) (cond (eqb kind 8) (eqb arity 1) (eqb arity 2)) h)
+    (choice (eqb kind 2 || eqb kind 4) (leb 1 arity && leb arity mostOperands) (cond (eqb kind 8) (eqb arity 1) (eqb arity 2)) h)
 
 few-control : (payload arity : ℕ) → controlArity payload arity ≡ true → arity ≤ mostChildren
 unfolding controlArity

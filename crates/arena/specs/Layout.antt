@@ -1,11 +1,11 @@
--- The words of a node. 01: "A node is 10 words of 64 bits in a lent list: kind, payload, hash, coefficient bits, flags, child count, four
--- child places".
+-- The words of a node. 02 (g): "A node becomes 22 words", 01's "of 64 bits in a lent list: kind, payload, hash, coefficient bits, flags,
+-- child count" and the child places.
 use Prim.Native.Nat.{ℕ}
 use Rattle.arena.specs.declared.DagArena.{DagArena}
 pub use Rattle.definitions.specs.Limits.{mostChildren, mostNodes}
 
 abbrev pub nodeWords : ℕ
-nodeWords = 10
+nodeWords = 22
 
 -- where a node's words stand, counted from its first
 abbrev pub kindWord : ℕ

@@ -13,10 +13,11 @@ pub use node::mark;
 pub use node::store_node;
 pub use node::store_parts;
 
-// 01: "A node is 10 words of 64 bits in a lent list: kind, payload, hash, coefficient bits, flags, child
-// count, four child places". Each word's place is counted from the node's first.
-pub const MOST_CHILDREN: usize = 4;
+// 02 (g): "Functions may have up to 16 children".
+pub const MOST_CHILDREN: usize = 16;
 
+// 02 (g): "A node becomes 22 words", 01's "of 64 bits in a lent list: kind, payload, hash, coefficient bits, flags, child
+// count" and the child places. Each word's place is counted from the node's first.
 pub const KIND: usize = 0;
 
 pub const PAYLOAD: usize = 1;

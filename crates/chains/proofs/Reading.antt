@@ -7,7 +7,7 @@ use lib.ListN.{length, getD}
 use lib.Dec.{leb, eqb}
 use native.Mathlib.Omega.{arith}
 use borrow.Author.Tests.{leb-true, eq-eqb}
-use Rattle.definitions.specs.Limits.{mostChildren, mostNodes}
+use Rattle.definitions.specs.Limits.{mostChildren, mostOperands, mostNodes}
 use Rattle.definitions.specs.Node.{at, addKind}
 use Rattle.definitions.proofs.Deciding.{both}
 use Rattle.arena.specs.declared.DagArena.{DagArena}
@@ -24,8 +24,8 @@ use Rattle.chains.proofs.Chains.{Layered}
 add-filled : (kind payload arity : ℕ) → listed kind payload arity ≡ true → kind ≡ addKind → 0 < arity
 unfolding listed operatorArity
 add-filled kind payload arity h e =
-    let t = both (eqb payload 0) (leb 1 arity && leb arity 4) (subst (λ (k : ℕ). listed k payload arity ≡ true) e h) in
-    leb-true 1 arity (both (leb 1 arity) (leb arity 4) (t .1) .0)
+    let t = both (eqb payload 0) (leb 1 arity && leb arity mostOperands) (subst (λ (k : ℕ). listed k payload arity ≡ true) e h) in
+    leb-true 1 arity (both (leb 1 arity) (leb arity mostOperands) (t .1) .0)
 
 pub readable : (words slots : List ℕ) (s : DagArena) → Sound words slots s → Readable words (s .count)
 readable words slots s h = record { lookup = R.lookup-of words slots s h; filled = λ i l e. add-filled _ _ _ (R.listed-at words slots s h i l) e }

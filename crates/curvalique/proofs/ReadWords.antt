@@ -1,25 +1,24 @@
 -- A node's words.
 use Prim.Native.Nat.{ℕ}
 use mathlib.Core.Path.{_≡_, refl, sym, ap, _∙_}
-use mathlib.Core.List.{List, [], _∷_}
+use mathlib.Core.List.{List, _++_, append-nil}
 use native.Mathlib.Omega.{arith}
-use lib.ListN.{length, getD}
+use lib.ListN.{length, drop}
+use lib.Seq.{drop-length}
 use Rattle.arena.specs.declared.DagArena.{DagArena}
-use Rattle.arena.specs.Node.{wordsOf}
+use Rattle.arena.specs.declared.node.DagNode.{DagNode}
+use Rattle.arena.specs.Layout.{nodeWords}
+use Rattle.arena.specs.Node.{wordsOf, put}
 use Rattle.builder.specs.declared.reading.NodeRead.{NodeRead}
 use Rattle.builder.specs.declared.reading.Found.{Found}
 use Rattle.builder.specs.declared.reading.Found.the-variants.{Node, Refused}
 use Rattle.builder.specs.Reads.{Reads}
 use Rattle.curvalique.specs.Reading.{ReadsWords}
 
--- four places, each by itself
-pub four-places : (places : List ℕ) → length places ≡ 4 → getD places 0 0 ∷ getD places 1 0 ∷ getD places 2 0 ∷ getD places 3 0 ∷ [] ≡ places
-four-places [] e = absurd (omega arith)
-four-places (a ∷ []) e = absurd (omega arith)
-four-places (a ∷ b ∷ []) e = absurd (omega arith)
-four-places (a ∷ b ∷ c ∷ []) e = absurd (omega arith)
-four-places (a ∷ b ∷ c ∷ d ∷ []) e = refl
-four-places (a ∷ b ∷ c ∷ d ∷ f ∷ r) e = absurd (omega arith)
+-- the words of a node, where there is place for one
+pub only-node : (words : List ℕ) (n : DagNode) → length words ≡ nodeWords → put words 0 n ≡ wordsOf n
+unfolding put
+only-node words n e = ap (λ (rest : List ℕ). wordsOf n ++ rest) (ap (λ (k : ℕ). drop k words) (sym e) ∙ drop-length words) ∙ append-nil (wordsOf n)
 
 not-node : (number : ℕ) → Refused number ≡ Node → ⊥
 not-node number e = let z : _≡_ {A = ℕ} 0 1 = cc in omega arith

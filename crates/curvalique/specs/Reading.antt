@@ -1,4 +1,4 @@
--- A node read back as its ten words.
+-- A node read back as its words.
 use Prim.Native.Nat.{ℕ, _≤_, _<_}
 use mathlib.Core.Path.{_≡_}
 use mathlib.Core.List.{List}

@@ -9,26 +9,16 @@ use arena::NODE_WORDS;
 use builder::Found;
 use outputs::leaving::ANSWERED;
 
-// A node as its ten words.
+// A node as its words.
 fn words_of(node: DagNode) -> [u64; NODE_WORDS]
     ensures { λ r. ⌜ r ≡ wordsOf node ⌝ }
 {
-    let children = node.children;
-    [
-        node.kind,
-        node.payload,
-        node.hash,
-        node.coefficient,
-        node.flags,
-        node.arity,
-        children[0],
-        children[1],
-        children[2],
-        children[3],
-    ]
+    let mut words = [0; NODE_WORDS];
+    arena::store_node(&mut words, 0, node);
+    words
 }
 
-// The node of an id, as its ten words.
+// The node of an id, as its words.
 #[no_mangle]
 pub extern "C" fn curvalique_node(
     nodes: &[u64],

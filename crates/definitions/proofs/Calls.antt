@@ -8,6 +8,7 @@ use native.Mathlib.Omega.{arith}
 use borrow.Author.Tests.{ltb-true, leb-true, eqb-true}
 use lib.Dec.{T, eqb, leb, ltb}
 use lib.Ieee.Fits.{and-l, and-r}
+use Rattle.definitions.specs.Limits.{mostOperands}
 use Rattle.definitions.specs.Node.{Node, nanConstant, childCountListed}
 use Rattle.definitions.specs.Intern.{Lent, Built, built, stopped, intern}
 use Rattle.definitions.specs.Machine.{Answer, stored, simplified, pruned, refused, Outcome, outcome, Request, allBelow, storedAs, storeCall}
@@ -28,7 +29,7 @@ lower-of n (k ∷ ks) t = (ltb-true k n (T-is (ltb k n) (and-l (ltb k n) (allBel
 -- an Add or a Sub has a child
 filled-add : (p n : ℕ) → T (childCountListed 2 p n) → 0 < n
 unfolding childCountListed
-filled-add p n t = leb-true 1 n (T-is (leb 1 n) (and-l (leb 1 n) (leb n 4) t))
+filled-add p n t = leb-true 1 n (T-is (leb 1 n) (and-l (leb 1 n) (leb n mostOperands) t))
 
 filled-sub : (p n : ℕ) → T (childCountListed 3 p n) → 0 < n
 unfolding childCountListed

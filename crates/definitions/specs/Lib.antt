@@ -32,4 +32,5 @@ pub mod Listing
 pub mod NoNaN
 pub mod Examples
 pub mod StrictExamples
+pub mod LongCallExamples
 pub mod StrictFits

@@ -1,13 +1,17 @@
--- The numbers of document 01 that have a meaning, each once.
+-- The numbers of documents 01 and 02 that have a meaning, each once.
 use Prim.Native.Nat.{ℕ}
 
 -- "65,536 at most" (refusal 21)
 abbrev pub mostNodes : ℕ
 mostNodes = 65536
 
--- "four child places"
+-- 02 (g), "Functions may have up to 16 children": a node has so many child places
 abbrev pub mostChildren : ℕ
-mostChildren = 4
+mostChildren = 16
+
+-- "Add and Mul one to four"
+abbrev pub mostOperands : ℕ
+mostOperands = 4
 
 -- "the table starts at 64 slots"
 abbrev pub firstTableSize : ℕ

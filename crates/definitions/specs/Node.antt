@@ -5,7 +5,7 @@ use mathlib.Core.List.{List, [], _∷_}
 use lib.ListN.{getD}
 use lib.Dec.{leb, ltb, eqb}
 use lib.Ieee.{binary64, nanBits}
-use Rattle.definitions.specs.Limits.{mostChildren}
+use Rattle.definitions.specs.Limits.{mostChildren, mostOperands}
 
 -- ---- kinds: 0 variable, 1 constant, 2 to 8 operator Add, Sub, Mul, Div, Pow, Mod, Neg, 16 function, 32 control
 abbrev pub variableKind : ℕ
@@ -106,13 +106,13 @@ nanConstant k p = eqb k constantKind && nanBits binary64 p
 
 -- "Add and Mul one to four, Neg one, other operators two"
 abbrev pub operatorChildren : ℕ → ℕ → Bool
-operatorChildren k n = cond (eqb k addKind || eqb k mulKind) (leb 1 n && leb n mostChildren) (cond (eqb k negKind) (eqb n 1) (eqb n 2))
+operatorChildren k n = cond (eqb k addKind || eqb k mulKind) (leb 1 n && leb n mostOperands) (cond (eqb k negKind) (eqb n 1) (eqb n 2))
 
 -- "Select and IfElse three, ForLoop four"
 abbrev pub controlChildren : ℕ → ℕ → Bool
 controlChildren p n = cond (eqb p forLoopControl) (eqb n 4) (eqb n 3)
 
--- whether a node of a kind and payload may have so many children; variables and constants have none, a function none to four
+-- whether a node of a kind and payload may have so many children; variables and constants have none, a function none to 16 (02 g)
 unfoldable pub childCountListed : ℕ → ℕ → ℕ → Bool
 childCountListed k p n =
     cond (leb addKind k && leb k negKind) (operatorChildren k n)

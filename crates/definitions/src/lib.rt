@@ -9,5 +9,5 @@ ghost use Rattle.definitions.specs.Limits.{mostChildren};
 pub fn most_children() -> usize
     ensures { λ r. ⌜ r ≡ mostChildren ⌝ }
 {
-    4
+    16
 }

@@ -10,6 +10,7 @@ use lib.Dec.{T, leb, eqb, eqb→eq, lit≤, lit<}
 use lib.Ieee.{binary64, ofBits, le, lt, eq, add as addFloat, mul as mulFloat, toBits}
 use native.Mathlib.Omega.{arith}
 use borrow.Author.Tests.{lt-leb}
+use Rattle.arena.specs.Layout.{nodeWords}
 use Rattle.arena.specs.Kind.{listed, operatorArity}
 use Rattle.arena.specs.Node.{nodeAt, wordsOf, one, nodeHash, coefficient, newNode, wordsFrom}
 use Rattle.hash.specs.Fnv.{nodeHashOf, fnvFrom, timesPrime, bytes32, bytes64, childrenBytes}
@@ -86,13 +87,13 @@ held-empty = record {
     sounds namesPart = no-names (bytesFor []) .sound
 
 -- the nodes of a state, beside the one name
-held-named : (ns : List Node) → T (storeSound (wordsFor ns) (length ns)) → nodesIn (wordsFor ns) (length ns) ≡ ns → length (wordsFor ns) ≡ 50
+held-named : (ns : List Node) → T (storeSound (wordsFor ns) (length ns)) → nodesIn (wordsFor ns) (length ns) ≡ ns → length (wordsFor ns) ≡ lentNodes * nodeWords
     → Held (record { nodes = ns; names = flow ∷ [] })
 unfolding namesOf
 held-named ns t v w = record {
   sound = sounds;
   view = ap (λ (ms : List Node). record { nodes = ms; names = flow ∷ [] }) v;
-  lent = ap₂ (λ (a b : ℕ). record { store = record { nodes = a / 10; slots = b }; names = 1 }) w (inserted-length (hashAt (wordsFor ns)) firstTableSize (length ns));
+  lent = ap₂ (λ (a b : ℕ). record { store = record { nodes = a / nodeWords; slots = b }; names = 1 }) w (inserted-length (hashAt (wordsFor ns)) firstTableSize (length ns));
 }
   where
     sounds : (p : Part) → lentController .Sound (memoryFor (record { nodes = ns; names = flow ∷ [] })) p
@@ -115,9 +116,9 @@ outer = node addKind 0 bothFlags (0 ∷ 2 ∷ [])
 abbrev kept : Node
 kept = node addKind 0 bothFlags (0 ∷ 0 ∷ [])
 
-held : (ns : List Node) → T (storeSound (wordsFor ns) (length ns)) → nodesIn (wordsFor ns) (length ns) ≡ ns → T (eqb (length (wordsFor ns)) 50)
+held : (ns : List Node) → T (storeSound (wordsFor ns) (length ns)) → nodesIn (wordsFor ns) (length ns) ≡ ns → T (eqb (length (wordsFor ns)) (lentNodes * nodeWords))
     → Held (record { nodes = ns; names = flow ∷ [] })
-held ns t v l = held-named ns t v (eqb→eq (length (wordsFor ns)) 50 l)
+held ns t v l = held-named ns t v (eqb→eq (length (wordsFor ns)) (lentNodes * nodeWords) l)
 
 all-held : All Held (controllers lentHere emptyController calls)
 unfolding controllers sameName addFloat le lt eq ofBits storeSound nodesIn plainNode nodeAt wordsFrom wordsOf newNode nodeHashOf fnvFrom timesPrime bytes32 bytes64 childrenBytes coefficient listed operatorArity one nodeHash

@@ -29,7 +29,7 @@ lentHere = record { store = record { nodes = lentNodes; slots = firstTableSize }
 abbrev pub padded : ℕ → List ℕ → List ℕ
 padded n l = take n (l ++ replicate n 0)
 
--- the ten words of a node
+-- the words of a node
 abbrev pub nodeInWords : Node → List ℕ
 nodeInWords n =
     let flags = cond (n .canonical) (n .flags + canonical) (n .flags) in

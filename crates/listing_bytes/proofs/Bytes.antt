@@ -22,10 +22,10 @@ use Rattle.sheet.specs.Sheets.{RunsFresh}
 use Rattle.listing_bytes.specs.Listed.{listingLent, Listed}
 
 -- the longest line for each node that the words hold, and one more
-pub room : (words : List ℕ) (count long : ℕ) → Nodes words count → length words ≡ 5120 → long ≡ 98496 → (count + 1) * lineBytes ≤ long
+pub room : (words : List ℕ) (count long : ℕ) → Nodes words count → length words ≡ 512 * nodeWords → long ≡ 513 * lineBytes → (count + 1) * lineBytes ≤ long
 room words count long n w b = let f = n .formed .fits in omega arith
 
-pub listed : (s words slots : List ℕ) (none : DagArena) (r : Ran) (words′ slots′ before after : List ℕ) (n : ℕ) → none .count ≡ 0 → length words ≡ 5120 → length slots ≡ 1024 → RunsFresh s words slots none r words′ slots′ → Fills (allLines (r .outcome) words′ (r .arena .count)) n before after → Listed s before n after
+pub listed : (s words slots : List ℕ) (none : DagArena) (r : Ran) (words′ slots′ before after : List ℕ) (n : ℕ) → none .count ≡ 0 → length words ≡ 512 * nodeWords → length slots ≡ 1024 → RunsFresh s words slots none r words′ slots′ → Fills (allLines (r .outcome) words′ (r .arena .count)) n before after → Listed s before n after
 listed s words slots none r words′ slots′ before after n z w l p f =
     let opened : freshRefused (lent words slots) ≡ false = ap (λ (k : ℕ). ltb k 64) l in
     let same : lent words slots ≡ listingLent = ap₂ (λ (a b : ℕ). record { nodes = a / nodeWords; slots = b }) w l in

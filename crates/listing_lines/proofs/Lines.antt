@@ -9,6 +9,7 @@ use lib.Seq.{take-suc, take-suc-set, take-all, take-length, drop-set-lt, drop-dr
 use lib.Dec.{lit≤}
 use native.Mathlib.Omega.{arith}
 use native.Mathlib.Numerals.{add-one}
+use Rattle.definitions.specs.Limits.{mostChildren}
 use Rattle.definitions.specs.Node.{Node, at, blank}
 use Rattle.definitions.specs.Machine.{Answer, stored, simplified, pruned, refused}
 use Rattle.definitions.specs.Sheet.{Ran}
@@ -102,7 +103,7 @@ from-empty {a} {b} {x} e p l =
 -- so many children of a node written behind a line
 pub record Listed (base : Line) (children : List ℕ) (r : Line) (place : ℕ) : Type 0 where
   pub within : place ≤ length children
-  pub few : length children ≤ 4
+  pub few : length children ≤ mostChildren
   pub extends : Extends base (childrenPart (take place children)) (place * numberBytes) r
 
 children-snoc : (l : List ℕ) (c : ℕ) → childrenPart (l ++ (c ∷ [])) ≡ childrenPart l ++ (space ∷ decimal c)
@@ -110,7 +111,7 @@ unfolding childrenPart
 children-snoc [] c = append-nil (space ∷ decimal c)
 children-snoc (d ∷ l) c = ap (λ (t : List ℕ). space ∷ (decimal d ++ t)) (children-snoc l c) ∙ sym (append-assoc (space ∷ decimal d) (childrenPart l) (space ∷ decimal c))
 
-pub listed-none : (base : Line) (children : List ℕ) → length children ≤ 4 → Listed base children base 0
+pub listed-none : (base : Line) (children : List ℕ) → length children ≤ mostChildren → Listed base children base 0
 unfolding childrenPart
 listed-none base children h = record { within = omega arith; few = h; extends = record { is = sym (append-nil (text base)); longer = omega arith; long = omega arith; rest = refl } }
 
@@ -133,7 +134,7 @@ module _ (base : Line) (children : List ℕ) (r : Line) (place : ℕ) (d : Liste
 
   pub listed-all : place ≡ length children → Extends base (childrenPart children) childrenBytes r
   listed-all e =
-      let few : length children ≤ 4 = d .few in
+      let few : length children ≤ mostChildren = d .few in
       let h : r .length ≤ base .length + place * numberBytes = d .extends .long in
       record {
         is = d .extends .is ∙ ap (λ (x : List ℕ). text base ++ childrenPart x) (ap (λ (k : ℕ). take k children) e ∙ take-length children);

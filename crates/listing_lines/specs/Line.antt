@@ -1,14 +1,15 @@
 -- A line's text, and how it grows.
-use Prim.Native.Nat.{ℕ, _+_, _≤_}
+use Prim.Native.Nat.{ℕ, _+_, _*_, _≤_}
 use mathlib.Core.Path.{_≡_}
 use mathlib.Core.List.{List, [], _++_}
 use lib.ListN.{length, take, drop, replicate}
+use Rattle.definitions.specs.Limits.{mostChildren}
 use Rattle.listing_lines.specs.declared.line.Line.{Line}
 use Rattle.listing_lines.specs.declared.digits.Digits.{Digits}
 
 -- the bytes of a line; no line of the listing fills them
 abbrev pub lineBytes : ℕ
-lineBytes = 192
+lineBytes = 448
 
 -- the most digits that a number takes, and with the space before it
 abbrev pub mostDigits : ℕ
@@ -19,7 +20,7 @@ numberBytes = 21
 
 -- a space and a number for each child
 abbrev pub childrenBytes : ℕ
-childrenBytes = 84
+childrenBytes = mostChildren * numberBytes
 
 -- the bytes of a line that are its text
 abbrev pub text : Line → List ℕ

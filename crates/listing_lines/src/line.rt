@@ -3,9 +3,9 @@ ghost use Prim.Native.Nat.{_+_, _≤_};
 ghost use lib.ListN.{length};
 ghost use Rattle.listing_lines.specs.Line.{lineBytes, Extends, EmptyLine};
 
-// The longest line of a node has three numbers of at most 20 digits, 16 hex digits, four children, and a byte between or
-// after each: 164 bytes.
-pub const LINE_BYTES: usize = 192;
+// The longest line of a node has three numbers of at most 20 digits, 16 hex digits, 16 children, and a byte between or after
+// each: 416 bytes.
+pub const LINE_BYTES: usize = 448;
 
 pub struct Line {
     pub bytes: [u8; LINE_BYTES],

@@ -3,7 +3,7 @@ use Prim.Native.Nat.{ℕ, suc, _+_, _≤_, _<_}
 use mathlib.Core.Path.{_≡_, refl, sym, ap, ap₂, _∙_, subst}
 use mathlib.Core.Bool.{Bool, true, false}
 use mathlib.Core.List.{List, [], _∷_, _++_, append-assoc}
-use lib.ListN.{length, getD, take, drop, set, length-append, length-set}
+use lib.ListN.{length, getD, take, drop, set, replicate, length-append, length-set}
 use lib.Seq.{take-suc-set, length-take-le, getD-at, getD-set-same, getD-set-other}
 use native.Mathlib.Omega.{arith}
 use native.Mathlib.Numerals.{add-one}
@@ -72,7 +72,7 @@ pub record ChildrenRead (bytes : List ℕ) (at : ℕ) (places : List ℕ) (count
   pub text : drop at bytes ≡ childrenPart (take count places) ++ drop next bytes
   pub first : (cs rest : List ℕ) → ((j : ℕ) → getD cs j 0 < wordEnd) → drop at bytes ≡ childrenPart cs ++ lineFeed ∷ rest → GoesOn bytes next (take count places) cs rest
 
-pub none-read : (bytes : List ℕ) (at : ℕ) → ChildrenRead bytes at (0 ∷ 0 ∷ 0 ∷ 0 ∷ []) 0 at
+pub none-read : (bytes : List ℕ) (at : ℕ) → ChildrenRead bytes at (replicate mostChildren 0) 0 at
 unfolding childrenPart
 none-read bytes at = record {
   placed = record { four = refl; few = omega arith; unused = λ j l. no-children j; small = λ j. let z = no-children j in omega arith };

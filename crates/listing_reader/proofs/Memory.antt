@@ -10,10 +10,10 @@ use native.Mathlib.Nat.{eq-or-lt-of-le, le-of-suc-le-suc}
 use Rattle.definitions.specs.Node as N
 use Rattle.definitions.specs.Listing.{lineFeed, nodeLine, nodeLines}
 use Rattle.arena.specs.declared.node.DagNode.{DagNode}
-use Rattle.arena.specs.Layout.{nodeWords, mostNodes, mostChildren}
+use Rattle.arena.specs.Layout.{nodeWords, mostNodes, mostChildren, childrenWord}
 use Rattle.arena.specs.Node.{nodeAt, wordsOf, wordsFrom, put}
 use Rattle.arena.specs.Nodes.{WellFormed, AllWellFormed}
-use Rattle.arena.proofs.Words.{children-length}
+use Rattle.arena.proofs.Words.{children-length, words-at}
 use Rattle.arena.proofs.Putting.{put-length, put-old, put-new}
 use Rattle.store.specs.View.{plainNode, nodesIn}
 use Rattle.store.proofs.Viewing.{plain-more, plain-length, plain-same}
@@ -174,11 +174,9 @@ word-of w k (suc (suc zero)) l = refl
 word-of w k (suc (suc (suc zero))) l = refl
 word-of w k (suc (suc (suc (suc zero)))) l = refl
 word-of w k (suc (suc (suc (suc (suc zero))))) l = refl
-word-of w k (suc (suc (suc (suc (suc (suc zero)))))) l = refl
-word-of w k (suc (suc (suc (suc (suc (suc (suc zero))))))) l = ap (λ (x : ℕ). getD w x 0) (let e : k * 10 + 7 ≡ suc (k * 10 + 6) = omega arith in e)
-word-of w k (suc (suc (suc (suc (suc (suc (suc (suc zero)))))))) l = ap (λ (x : ℕ). getD w x 0) (let e : k * 10 + 8 ≡ suc (suc (k * 10 + 6)) = omega arith in e)
-word-of w k (suc (suc (suc (suc (suc (suc (suc (suc (suc zero))))))))) l = ap (λ (x : ℕ). getD w x 0) (let e : k * 10 + 9 ≡ suc (suc (suc (k * 10 + 6))) = omega arith in e)
-word-of w k (suc (suc (suc (suc (suc (suc (suc (suc (suc (suc j)))))))))) l = absurd (omega arith)
+word-of w k (suc (suc (suc (suc (suc (suc j)))))) l =
+    ap (λ (x : ℕ). getD w x 0) (let e : k * nodeWords + suc (suc (suc (suc (suc (suc j))))) ≡ k * nodeWords + childrenWord + j = omega arith in e)
+    ∙ sym (words-at mostChildren w (k * nodeWords + childrenWord) j (omega arith))
 
 pub same-words : (w w′ : List ℕ) (count : ℕ) → count * nodeWords ≤ length w → count * nodeWords ≤ length w′ → ((k : ℕ) → k < count → nodeAt w k ≡ nodeAt w′ k) → take (count * nodeWords) w ≡ take (count * nodeWords) w′
 same-words w w′ count f f′ h =
@@ -187,13 +185,13 @@ same-words w w′ count f f′ h =
   where
     word : (x : ℕ) → x < count * nodeWords → getD (take (count * nodeWords) w) x 0 ≡ getD (take (count * nodeWords) w′) x 0
     word x b =
-        let z : x ≡ x / 10 * 10 + x % 10 = omega arith in
-        let k : x / 10 < count = omega arith in
-        let j : x % 10 < nodeWords = omega arith in
+        let z : x ≡ x / nodeWords * nodeWords + x % nodeWords = omega arith in
+        let k : x / nodeWords < count = omega arith in
+        let j : x % nodeWords < nodeWords = omega arith in
         getD-take (count * nodeWords) w x 0 b
         ∙ ap (λ (y : ℕ). getD w y 0) z
-        ∙ word-of w (x / 10) (x % 10) j
-        ∙ ap (λ (n : DagNode). getD (wordsOf n) (x % 10) 0) (h (x / 10) k)
-        ∙ sym (word-of w′ (x / 10) (x % 10) j)
+        ∙ word-of w (x / nodeWords) (x % nodeWords) j
+        ∙ ap (λ (n : DagNode). getD (wordsOf n) (x % nodeWords) 0) (h (x / nodeWords) k)
+        ∙ sym (word-of w′ (x / nodeWords) (x % nodeWords) j)
         ∙ sym (ap (λ (y : ℕ). getD w′ y 0) z)
         ∙ sym (getD-take (count * nodeWords) w′ x 0 b)

@@ -9,7 +9,7 @@ use lib.Dec.{T, eqb, leb, ltb}
 use lib.Ieee.{binary64, ofBits}
 use native.Mathlib.Omega.{arith}
 use borrow.Author.Tests.{eqb-true, leb-true, ltb-true, ltb-false}
-use Rattle.definitions.specs.Limits.{mostTerms, mostDepth, mostChildren}
+use Rattle.definitions.specs.Limits.{mostTerms, mostDepth, mostOperands}
 use Rattle.definitions.specs.Refusals.{badOperand, badCode, notANumber, badChildCount, tooManyTerms}
 use Rattle.definitions.specs.Node.{Node, at, addKind, subKind, nanConstant, childCountListed}
 use Rattle.definitions.specs.Intern.{Lent, Built, built, stopped, intern}
@@ -177,8 +177,8 @@ filled kind payload count h = go (eqb kind addKind) (eqb kind subKind) refl refl
   where
     go : (a b : Bool) → eqb kind addKind ≡ a → eqb kind subKind ≡ b → T (a || b) → 0 < count
     go true b e f t =
-        let p = and-true (eqb payload 0) (leb 1 count && leb count mostChildren) (subst (λ (k : ℕ). kindListed k payload count ≡ true) (eqb-true kind addKind e) h) in
-        leb-true 1 count (and-true (leb 1 count) (leb count mostChildren) (p .1) .0)
+        let p = and-true (eqb payload 0) (leb 1 count && leb count mostOperands) (subst (λ (k : ℕ). kindListed k payload count ≡ true) (eqb-true kind addKind e) h) in
+        leb-true 1 count (and-true (leb 1 count) (leb count mostOperands) (p .1) .0)
     go false true e f t =
         let p = and-true (eqb payload 0) (eqb count 2) (subst (λ (k : ℕ). kindListed k payload count ≡ true) (eqb-true kind subKind f) h) in
         omega (arith, eqb-true count 2 (p .1))

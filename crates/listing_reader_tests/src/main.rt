@@ -1,22 +1,20 @@
 // Reads listings and prints for each the answer: the first line's outcome and the count of nodes, then the words of each
 // node that a listing tells, or the number of the line that is wrong, or `full`. The file `stdout` has what 01 asks for.
+use arena::ARITY;
+use arena::CHILDREN;
+use arena::FLAGS;
+use arena::KIND;
+use arena::NODE_WORDS;
+use arena::PAYLOAD;
 use libc::STDOUT_FILENO;
 use listing_lines::Outcome;
 use listing_reader::Answer;
 
-const MOST_WORDS: usize = 40;
+// Words for four nodes.
+const MOST_WORDS: usize = 4 * NODE_WORDS;
 
-const NODE_WORDS: usize = 10;
-// The places of a node's words, the hash and the coefficient left out.
-const KIND: usize = 0;
-
-const PAYLOAD: usize = 1;
-
-const FLAGS: usize = 4;
-
-const ARITY: usize = 5;
-
-const CHILDREN: usize = 6;
+// The last child place.
+const LAST_CHILD: usize = NODE_WORDS - 1;
 
 fn print_number(n: u64) {
     io::write_all(STDOUT_FILENO, b" ");
@@ -40,6 +38,7 @@ fn print_node(nodes: &[u64], first: usize) {
         print_word(nodes, first + CHILDREN + 1);
         print_word(nodes, first + CHILDREN + 2);
         print_word(nodes, first + CHILDREN + 3);
+        print_word(nodes, first + LAST_CHILD);
         io::write_all(STDOUT_FILENO, b"\n");
     }
 }
@@ -140,10 +139,16 @@ fn missing_lines() {
     show(b"refused 18446744073709551615 at 18446744073709551615\n");
 }
 
-// Four nodes have place, a fifth has not; a wrong fifth line is refused first.
+// Four nodes have place, a fifth has not; a wrong fifth line is refused first. A function has 16 children, not 17.
 fn places() {
     show(
         b"ok 0\n0 16 0000000000000001 0\n1 16 0000000000000002 0 0\n2 32 0000000000000002 0 0 1 0 1\n3 4 0000000000000000 3 2 1 0 2\n",
+    );
+    show(
+        b"ok 0\n0 16 0000000000000001 0\n1 16 0000000000000002 0 0 0 0 0 0 0 0 0 0 0 0 0 0 0 0 0\n",
+    );
+    show(
+        b"ok 0\n0 16 0000000000000001 0\n1 16 0000000000000002 0 0 0 0 0 0 0 0 0 0 0 0 0 0 0 0 0 0\n",
     );
     show(
         b"ok 0\n0 16 0000000000000001 0\n1 16 0000000000000002 0\n2 16 0000000000000003 0\n3 16 0000000000000004 0\n4 16 0000000000000005 0\n",

@@ -1,6 +1,7 @@
 // Lines that no run of the listing program shows. The first nine are first lines with numbers of up to 20 digits; then come the
 // lines of a store's four nodes; then 4 for an id not below the count, and 20 for a count that is not the store's.
 use arena::DagArena;
+use arena::NODE_WORDS;
 use builder::FreshStore;
 use libc::STDOUT_FILENO;
 use listing_lines::Found;
@@ -10,7 +11,8 @@ use listing_lines::Outcome;
 use listing_lines::first_line;
 
 // A store of 8 nodes and 64 slots.
-const WORDS: usize = 80;
+// Words for eight nodes.
+const WORDS: usize = 8 * NODE_WORDS;
 
 const SLOTS: usize = 64;
 

@@ -34,8 +34,8 @@ fn show(matched: Matched) {
     }
 }
 
-// What `patterns::try_apply` answers for a kind, two ids and a number of children, of which the third and fourth are the second again; and
-// the nodes that it added.
+// What `patterns::try_apply` answers for a kind, two ids and a number of children, of which those from the third on are the second again;
+// and the nodes that it added.
 pub fn apply(
     nodes: &mut [u64],
     slots: &mut [u32],
@@ -54,7 +54,8 @@ pub fn apply(
         text(b" too many");
         return arena;
     }
-    let children = [lhs as u32, rhs as u32, rhs as u32, rhs as u32];
+    let mut children = [rhs as u32; MOST_CHILDREN];
+    children[0] = lhs as u32;
     let used = arity as usize;
     let applied = patterns::try_apply(nodes, slots, arena, Mode::Standard, kind, &children[..used]);
     let matched = applied.matched;

@@ -5,6 +5,7 @@ use crate::printing::number;
 use crate::printing::refused;
 use crate::printing::text;
 use arena::DagArena;
+use arena::MOST_CHILDREN;
 use builder::Found;
 use libc::STDOUT_FILENO;
 
@@ -14,12 +15,23 @@ const PAYLOAD_DIGITS: usize = 16;
 // More ids than a script's store has.
 const MOST_LISTED: u64 = 2_000;
 
-// On a line of its own the id, kind, payload, flags, the number of children and the four child places; or a refusal.
+// The children of a node.
+fn children(places: [u64; MOST_CHILDREN], arity: u64) {
+    let mut j: usize = 0;
+    while j < MOST_CHILDREN {
+        if (j as u64) < arity {
+            number(places[j]);
+        }
+        j += 1;
+    }
+}
+
+// On a line of its own the id, kind, payload, flags, the number of children and the children; or a refusal.
 fn node(nodes: &[u64], slots: &[u32], arena: DagArena, id: u32) {
     let read = builder::node(nodes, slots, arena, id);
     let found = read.answer;
     let node = read.node;
-    let children = node.children;
+    let places = node.children;
     text(b"\n   ");
     number(id as u64);
     match found {
@@ -31,10 +43,7 @@ fn node(nodes: &[u64], slots: &[u32], arena: DagArena, id: u32) {
             number(node.flags);
             number(node.arity);
             text(b":");
-            number(children[0]);
-            number(children[1]);
-            number(children[2]);
-            number(children[3]);
+            children(places, node.arity);
         }
     }
 }

@@ -1,8 +1,8 @@
 // The memory of a script.
 ghost use Prim.Native.Nat.{_≤_};
 
-// All that can be lent: 1,638 nodes, 4,096 slots and 124 names.
-pub const WORDS: usize = 16_384;
+// All that can be lent: 1,675 nodes, 4,096 slots and 124 names.
+pub const WORDS: usize = 36_864;
 
 pub const SLOTS: usize = 4_096;
 

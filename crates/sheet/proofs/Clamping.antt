@@ -7,7 +7,7 @@ use lib.ListN.{length, getD, length-map}
 use lib.Dec.{leb, ltb, eqb}
 use native.Mathlib.Omega.{arith}
 use borrow.Author.Tests.{lt-ltb, le-ltb, lt-leb, ne-eqb}
-use Rattle.definitions.specs.Limits.{mostDepth, mostChildren}
+use Rattle.definitions.specs.Limits.{mostDepth, mostChildren, mostOperands}
 use Rattle.definitions.specs.Refusals.{badOperand, badCode, notANumber, badChildCount}
 use Rattle.definitions.specs.Node.{Node, node, addKind, mulKind, negKind, functionKind, controlKind, forLoopControl, operatorChildren, controlChildren, nanConstant, childCountListed}
 use Rattle.definitions.specs.Intern.{Lent, intern}
@@ -106,7 +106,7 @@ many : (kind payload n : ℕ) → mostChildren < n → childCountListed kind pay
 unfolding childCountListed
 many kind payload n h =
     both-false (leb addKind kind && leb kind negKind) _ _
-    (both-false (eqb kind addKind || eqb kind mulKind) _ _ (ap (λ (b : Bool). leb 1 n && b) (lt-leb n mostChildren h) ∙ and-false (leb 1 n)) (both-false (eqb kind negKind) _ _ (ne-eqb n 1 (λ e. omega arith)) (ne-eqb n 2 (λ e. omega arith))))
+    (both-false (eqb kind addKind || eqb kind mulKind) _ _ (ap (λ (b : Bool). leb 1 n && b) (lt-leb n mostOperands (omega arith)) ∙ and-false (leb 1 n)) (both-false (eqb kind negKind) _ _ (ne-eqb n 1 (λ e. omega arith)) (ne-eqb n 2 (λ e. omega arith))))
     (both-false (eqb kind functionKind) _ _ (lt-leb n mostChildren h)
     (both-false (eqb kind controlKind) _ _ (both-false (eqb payload forLoopControl) _ _ (ne-eqb n 4 (λ e. omega arith)) (ne-eqb n 3 (λ e. omega arith))) (ne-eqb n 0 (λ e. omega arith))))
 

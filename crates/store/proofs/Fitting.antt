@@ -3,21 +3,23 @@ use Prim.Native.Nat.{ℕ, zero, suc, _<_}
 use mathlib.Core.Path.{_≡_, refl, ap}
 use mathlib.Core.Bool.{Bool, true, false, not, _&&_}
 use mathlib.Core.List.{[], _∷_}
-use lib.ListN.{getD}
+use lib.ListN.{getD, replicate}
 use lib.Ieee.{binary64, nanBits}
 use native.Mathlib.Omega.{arith}
+use Rattle.definitions.specs.Limits.{mostChildren}
 use Rattle.definitions.specs.Node.{constantKind, bothFlags}
 use Rattle.arena.specs.Kind.{operatorArity}
 use Rattle.store.specs.View.{listed}
 use Rattle.store.specs.Lookup.{Fits}
 
 -- unused child places are 0
-pub no-children : (j : ℕ) → _≡_ {A = ℕ} (getD (0 ∷ 0 ∷ 0 ∷ 0 ∷ []) j 0) 0
-no-children zero = refl
-no-children (suc zero) = refl
-no-children (suc (suc zero)) = refl
-no-children (suc (suc (suc zero))) = refl
-no-children (suc (suc (suc (suc j)))) = refl
+zeros-at : (k j : ℕ) → _≡_ {A = ℕ} (getD (replicate k 0) j 0) 0
+zeros-at zero j = refl
+zeros-at (suc k) zero = refl
+zeros-at (suc k) (suc j) = zeros-at k j
+
+pub no-children : (j : ℕ) → _≡_ {A = ℕ} (getD (replicate mostChildren 0) j 0) 0
+no-children = zeros-at mostChildren
 
 pub constant-fits : (count b : ℕ) → nanBits binary64 b ≡ false → Fits count constantKind b 0 []
 unfolding listed operatorArity

@@ -8,6 +8,7 @@ use lib.Dec.{ltb, eqb}
 use native.Mathlib.Omega.{arith}
 use borrow.Author.Tests.{eq-eqb, ne-eqb, le-ltb}
 use Rattle.arena.specs.declared.DagArena.{DagArena}
+use Rattle.arena.specs.Layout.{nodeWords}
 use Rattle.definitions.specs.Controller.{LentLists, Controller, AfterCall, emptyController, controllerCall, reading, storePart, namesPart}
 use Rattle.definitions.specs.Machine.{freshRefused}
 use Rattle.definitions.specs.Promise.{All}
@@ -53,7 +54,7 @@ read-fresh s words slots slots₁ entries o arena a d l h e r =
     let called = read-called s (controllerMemory words slots₁ arena entries 0) d a r in
     let parts : All (SoundPart model nameModel _) (storePart ∷ namesPart ∷ []) = (both .sound storePart, (both .sound namesPart, tt)) in
     let long : length slots₁ ≡ length slots = ap length (h .slots-after) ∙ fresh-long (freshRefused (lent words slots)) slots l in
-    let same : lentLists words slots₁ entries ≡ lentLists words slots entries = ap (λ (n : ℕ). record { store = record { nodes = length words / 10; slots = n }; names = lentEntries entries }) long in
+    let same : lentLists words slots₁ entries ≡ lentLists words slots entries = ap (λ (n : ℕ). record { store = record { nodes = length words / nodeWords; slots = n }; names = lentEntries entries }) long in
     let after : controllerCall (lentLists words slots₁ entries) _ (reading s) ≡ readText (lentLists words slots entries) s = ap₂ (λ (x : LentLists) (y : Controller). controllerCall x y (reading s)) same (both .view) in
     record {
       answer = called .answer parts ∙ ap (λ (x : AfterCall). x .answer) after;

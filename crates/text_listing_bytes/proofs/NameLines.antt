@@ -79,10 +79,10 @@ pub take-few : (j : ℕ) (l : List ℕ) → j ≤ 32 → length (take j l) ≤ 3
 take-few j l h = let m : min j (length l) ≤ j = min-le-left j (length l) in omega (arith, length-take j l, m)
 
 -- room in a line
-pub room-for-name : (a b c d n : ℕ) → a ≡ 0 → b ≤ a + 4 → c ≤ b + 21 → d ≤ c + 1 → n ≤ 32 → d + n ≤ 192
+pub room-for-name : (a b c d n : ℕ) → a ≡ 0 → b ≤ a + 4 → c ≤ b + 21 → d ≤ c + 1 → n ≤ 32 → d + n ≤ lineBytes
 room-for-name a b c d n p q r s t = omega arith
 
-pub room-for-feed : (a b c d f n : ℕ) → a ≡ 0 → b ≤ a + 4 → c ≤ b + 21 → d ≤ c + 1 → f ≤ d + n → n ≤ 32 → f + 1 ≤ 192
+pub room-for-feed : (a b c d f n : ℕ) → a ≡ 0 → b ≤ a + 4 → c ≤ b + 21 → d ≤ c + 1 → f ≤ d + n → n ≤ 32 → f + 1 ≤ lineBytes
 room-for-feed a b c d f n p q r s t u = omega arith
 
 -- ---- all lines

@@ -6,6 +6,7 @@ use lib.ListN.{length, take, drop, replicate}
 use lib.Seq.{take-at, drop-at}
 use native.Mathlib.Omega.{arith}
 use Rattle.arena.specs.declared.DagArena.{DagArena}
+use Rattle.arena.specs.Layout.{nodeWords}
 use Rattle.arena.specs.Nodes.{Nodes}
 use Rattle.definitions.specs.Node.{Node}
 use Rattle.definitions.specs.Sheet.{Ran}
@@ -29,25 +30,25 @@ use Rattle.text_listing_bytes.specs.declared.TextListing.{TextListing}
 use Rattle.text_listing_bytes.specs.Listed.{textLent, textListingBytes, lentLists, readText, ReadsFresh, PlaceOf, outcomeOf, ranOf, textListing, Lines, ListedText}
 
 -- how much the program lends
-lent-is : (words slots entries : List ℕ) → length words ≡ 5120 → length slots ≡ 1024 → length entries ≡ 4224 → lentLists words slots entries ≡ textLent
+lent-is : (words slots entries : List ℕ) → length words ≡ 512 * nodeWords → length slots ≡ 1024 → length entries ≡ 4224 → lentLists words slots entries ≡ textLent
 unfolding lentLists
 lent-is words slots entries w l e =
-    ap (λ (n : ℕ). record { store = record { nodes = n / 10; slots = length slots }; names = lentEntries entries }) w
+    ap (λ (n : ℕ). record { store = record { nodes = n / nodeWords; slots = length slots }; names = lentEntries entries }) w
     ∙ ap (λ (n : ℕ). record { store = record { nodes = 512; slots = n }; names = lentEntries entries }) l
     ∙ ap (λ (n : ℕ). record { store = record { nodes = 512; slots = 1024 }; names = n / 33 }) e
 
 -- the nodes and the names are no more than the lists hold
-pub few-nodes : (words : List ℕ) (count : ℕ) → Nodes words count → length words ≡ 5120 → count ≤ 512
+pub few-nodes : (words : List ℕ) (count : ℕ) → Nodes words count → length words ≡ 512 * nodeWords → count ≤ 512
 few-nodes words count h k = let f = h .formed .fits in omega (arith, f, k)
 
 pub few-names : (entries : List ℕ) (names : ℕ) → Sound entries names → length entries ≡ 4224 → names ≤ 128
 few-names entries names h k = let f : names ≤ length entries / 33 = h .lent in omega (arith, f, k)
 
 -- and there is room for their lines
-pub room-for-nodes : (count long : ℕ) → count ≤ 512 → long ≡ 123072 → (count + 1) * lineBytes ≤ long
+pub room-for-nodes : (count long : ℕ) → count ≤ 512 → long ≡ 641 * lineBytes → (count + 1) * lineBytes ≤ long
 room-for-nodes count long h k = omega arith
 
-pub room-for-names : (count names n long : ℕ) → n ≤ (count + 1) * lineBytes → count ≤ 512 → names ≤ 128 → long ≡ 123072 → n + names * lineBytes ≤ long
+pub room-for-names : (count names n long : ℕ) → n ≤ (count + 1) * lineBytes → count ≤ 512 → names ≤ 128 → long ≡ 641 * lineBytes → n + names * lineBytes ≤ long
 room-for-names count names n long f g h k = omega arith
 
 outcome-is : (a : Answer) (place : ℕ) (ns : List Node) → outcomeOf a place ≡ Shown.outcomeOf (ranOf a place ns .refusal) (ranOf a place ns .answers)
@@ -59,7 +60,7 @@ nodes-left (Id id) place ns = refl
 nodes-left (Refused number) place ns = refl
 
 module _ (s words slots entries : List ℕ) (a : Answer) (words′ slots′ : List ℕ) (arena : DagArena) (entries′ : List ℕ) (names : ℕ)
-    (h : ReadsFresh s (lentLists words slots entries) a (controllerMemory words′ slots′ arena entries′ names)) (w : length words ≡ 5120) (l : length slots ≡ 1024) (e : length entries ≡ 4224) where
+    (h : ReadsFresh s (lentLists words slots entries) a (controllerMemory words′ slots′ arena entries′ names)) (w : length words ≡ 512 * nodeWords) (l : length slots ≡ 1024) (e : length entries ≡ 4224) where
   after : readText (lentLists words slots entries) s ≡ readText textLent s
   after = ap (λ (x : LentLists). readText x s) (lent-is words slots entries w l e)
 

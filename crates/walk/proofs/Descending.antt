@@ -8,6 +8,7 @@ use lib.Dec.{eqb}
 use native.Mathlib.Omega.{arith}
 use native.Mathlib.Numerals.{add-one}
 use borrow.Author.Tests.{eq-eqb, ne-eqb}
+use Rattle.definitions.specs.Limits.{mostChildren}
 use Rattle.definitions.specs.Node.{Node, at}
 use Rattle.definitions.specs.Walk as W
 use Rattle.definitions.specs.Walk.{Mode, standard, strict, heeds, Frame, frame, Turn, go, takenUnwalked}
@@ -61,7 +62,7 @@ module _ (w : List ℕ) (count : ℕ) (k : Stack) (d : Descendable w count k) wh
   pub may-read : Lookup w count (topId k)
   may-read = d .lookup (topId k) below
 
-  pub little : topCursor k < 4
+  pub little : topCursor k < mostChildren
   little = omega (arith, d .more, R.few w count (topId k) may-read)
 
   module _ (child : ℕ) (e : child ≡ getD (at (nodesIn w count) (topId k) .children) (topCursor k) 0) where

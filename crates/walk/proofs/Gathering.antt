@@ -1,8 +1,8 @@
 -- Child places filled one by one.
 use Prim.Native.Nat.{ℕ, _+_, _≤_, _<_}
 use mathlib.Core.Path.{_≡_, refl, sym, _∙_, subst}
-use mathlib.Core.List.{List, [], _∷_}
-use lib.ListN.{length, getD, set, length-set}
+use mathlib.Core.List.{List}
+use lib.ListN.{length, getD, set, replicate, length-set}
 use lib.Seq.{getD-set-same, getD-set-other}
 use native.Mathlib.Omega.{arith}
 use native.Mathlib.Decide.{ℕ-discrete}
@@ -17,7 +17,7 @@ pub record GatheredSoFar (values : List ℕ) (from n : ℕ) (places : List ℕ) 
   pub done : (i : ℕ) → i < j → getD places i 0 ≡ getD values (from + i) 0
   pub rest : (i : ℕ) → j ≤ i → getD places i 0 ≡ 0
 
-pub gathered-none : (values : List ℕ) (from n : ℕ) → GatheredSoFar values from n (0 ∷ 0 ∷ 0 ∷ 0 ∷ []) 0
+pub gathered-none : (values : List ℕ) (from n : ℕ) → GatheredSoFar values from n (replicate mostChildren 0) 0
 gathered-none values from n = record { within = omega arith; long = refl; done = λ i l. absurd (omega arith); rest = λ i l. no-children i }
 
 pub gathered-next : (values : List ℕ) (from n : ℕ) (places : List ℕ) (j : ℕ) → GatheredSoFar values from n places j → j < n → n ≤ mostChildren

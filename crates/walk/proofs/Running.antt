@@ -9,6 +9,7 @@ use native.Mathlib.Omega.{arith}
 use native.Mathlib.Decide.{ℕ-discrete}
 use native.Mathlib.Nat.{sub-zero}
 use native.Mathlib.Numerals.{add-one}
+use Rattle.arena.specs.Layout.{nodeWords}
 use Rattle.definitions.specs.Limits.{mostDepth}
 use Rattle.definitions.specs.Node.{Node, at}
 use Rattle.definitions.specs.Intern.{Lent}
@@ -64,7 +65,7 @@ module _ (mode : Mode) (l : Lent) (limit : ℕ) where
   walk-spent b n ns (f ∷ fs) vs e h = ap (λ (x : ℕ). walk mode l limit x n ns (f ∷ fs) vs) e
 
 pub lent-same : (m m′ : Memory) → Keeps m m′ → lentOf m′ ≡ lentOf m
-lent-same m m′ k = ap₂ (λ (a b : ℕ). record { nodes = a / 10; slots = b }) (k .long) (k .wide)
+lent-same m m′ k = ap₂ (λ (a b : ℕ). record { nodes = a / nodeWords; slots = b }) (k .long) (k .wide)
 
 -- ---- what holds between turns of a run
 

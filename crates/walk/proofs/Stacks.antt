@@ -107,7 +107,7 @@ pub popped : (ns : List Node) (i : ℕ) (fs : List Frame) (vs : List ℕ) → i 
 popped ns i [] vs l b e a = (ap suc e, (l, a))
 popped ns i (g ∷ gs) vs l b e a = (b .0, b .2, b .3, omega (arith, b .1), (l, a))
 
--- a frame that waits has three values at most
-pub few-held : (ns : List Node) → ((i : ℕ) → i < length ns → length (at ns i .children) ≤ mostChildren) → (fs : List Frame) → Waiting ns fs → held fs ≤ 3 * length fs
+-- a frame that waits has fewer values than a node has children at most
+pub few-held : (ns : List Node) → ((i : ℕ) → i < length ns → length (at ns i .children) ≤ mostChildren) → (fs : List Frame) → Waiting ns fs → held fs + length fs ≤ mostChildren * length fs
 few-held ns k [] h = omega arith
 few-held ns k (f ∷ fs) h = omega (arith, k (f .id) (h .0), h .1, h .2, few-held ns k fs (h .3))

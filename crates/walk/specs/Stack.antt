@@ -1,5 +1,5 @@
 -- The walk's arrays as the plain machine's frames and values, and what holds of them between turns.
-use Prim.Native.Nat.{ℕ, zero, suc, _+_, _-_, _≤_, _<_}
+use Prim.Native.Nat.{ℕ, zero, suc, _+_, _-_, _*_, _≤_, _<_}
 use mathlib.Core.Path.{_≡_}
 use mathlib.Core.List.{List, [], _∷_}
 use lib.ListN.{length, getD}
@@ -7,12 +7,13 @@ use Rattle.definitions.specs.Limits.{mostDepth, mostChildren, mostNodes}
 use Rattle.definitions.specs.Node.{Node, at}
 use Rattle.definitions.specs.Walk.{Frame, frame}
 
--- "filled arrays of 256 frames and 1,024 values"
+-- "filled arrays of 256 frames"
 abbrev pub mostFrames : ℕ
 mostFrames = 256
 
+-- 02 (g), "a walk holds at most 16 values a frame"
 abbrev pub mostValues : ℕ
-mostValues = 1024
+mostValues = mostFrames * mostChildren
 
 -- the ids and cursors of frames, the values, and how many frames and values are in use
 pub record Stack : Type 0 where

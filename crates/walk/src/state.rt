@@ -2,13 +2,14 @@
 ghost use Rattle.walk.specs.Turns.{Ready, Starts, Steps, memoryOf, stackOf};
 use crate::turn;
 use arena::DagArena;
+use arena::MOST_CHILDREN;
 use definitions::mode::Mode;
 
-// 01: "the walk's stacks are filled arrays of 256 frames ..
+// 01: "the walk's stacks are filled arrays of 256 frames".
 pub const MOST_FRAMES: usize = 256;
 
-// .. and 1,024 values".
-pub const MOST_VALUES: usize = 1_024;
+// 02 (g): "a walk holds at most 16 values a frame".
+pub const MOST_VALUES: usize = MOST_FRAMES * MOST_CHILDREN;
 
 // 01: "Depth limit 0 to 255".
 pub(crate) const MOST_DEPTH: u32 = 255;

@@ -18,10 +18,10 @@ pub use refusal::Refusal;
 pub use sheet::{RefusedSheet, SheetAnswer};
 pub use store::{Node, Pruned, Simplified, Store};
 
-pub const NODE_WORDS: usize = 10;
+pub const NODE_WORDS: usize = 22;
 pub const ENTRY_BYTES: usize = 33;
 pub const LONGEST_NAME: usize = 32;
-pub const LISTING_BYTES: usize = 98_496;
+pub const LISTING_BYTES: usize = 229_824;
 
 // The forms of a sheet's answer and of a listing's first line.
 pub const FORM_OK: u64 = 0;

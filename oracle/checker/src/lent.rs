@@ -1,13 +1,13 @@
-//! A store as lent lists (01, "dedup and arena"): nodes of 10 words, slots of
-//! 32 bits that hold an id + 1 or 0.
+//! A store as lent lists (01, "dedup and arena"): nodes of 22 words (02 g),
+//! slots of 32 bits that hold an id + 1 or 0.
 
 use crate::hash::hash_of;
 use crate::node::{CHILDREN_MAXIMUM, Children, Kind, Node};
 use crate::refusal::Refusal;
 use crate::store::{Store, TABLE_SIZE_MINIMUM};
 
-/// Kind, payload, hash, coefficient bits, flags, child count, four children.
-pub const WORDS_PER_NODE: usize = 10;
+/// Kind, payload, hash, coefficient bits, flags, child count, child places.
+pub const WORDS_PER_NODE: usize = FIRST_CHILD_WORD + CHILDREN_MAXIMUM;
 const FIRST_CHILD_WORD: usize = 6;
 
 #[derive(Clone, Debug, PartialEq, Eq)]

@@ -2,8 +2,10 @@
 
 use crate::arithmetic::is_not_a_number;
 
-/// The most children that a node has.
-pub const CHILDREN_MAXIMUM: usize = 4;
+/// The most children that a node has: those of a function (02 g).
+pub const CHILDREN_MAXIMUM: usize = 16;
+/// The most children of an Add or a Mul.
+const OPERANDS_MAXIMUM: usize = 4;
 /// Flag 4: the node was the result of a finished frame.
 pub const CANONICAL: u8 = 4;
 /// Flags 1 (commutative) and 2 (associative) together.
@@ -84,7 +86,7 @@ impl Kind {
     pub fn takes_children(self, payload: u64, count: usize) -> bool {
         match self {
             Kind::Variable | Kind::Constant => count == 0,
-            Kind::Operator(Operator::Add | Operator::Mul) => (1..=CHILDREN_MAXIMUM).contains(&count),
+            Kind::Operator(Operator::Add | Operator::Mul) => (1..=OPERANDS_MAXIMUM).contains(&count),
             Kind::Operator(Operator::Neg) => count == 1,
             Kind::Operator(_) => count == 2,
             Kind::Function => count <= CHILDREN_MAXIMUM,
@@ -107,7 +109,7 @@ impl Kind {
     }
 }
 
-/// The child ids of a node, none to four.
+/// The child ids of a node.
 #[derive(Clone, Copy, Debug, PartialEq, Eq)]
 pub struct Children {
     count: u8,
@@ -117,7 +119,7 @@ pub struct Children {
 impl Children {
     pub const NONE: Children = Children { count: 0, places: [0; CHILDREN_MAXIMUM] };
 
-    /// The children in `ids`, of which there are at most four.
+    /// The children in `ids`, of which there are at most as many as places.
     pub fn new(ids: &[u32]) -> Children {
         let mut children = Children::NONE;
         children.places[..ids.len()].copy_from_slice(ids);
@@ -129,7 +131,7 @@ impl Children {
         &self.places[..usize::from(self.count)]
     }
 
-    /// The four places, unused ones 0.
+    /// All places, unused ones 0.
     pub fn places(&self) -> [u32; CHILDREN_MAXIMUM] {
         self.places
     }

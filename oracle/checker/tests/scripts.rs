@@ -7,7 +7,7 @@ use std::fs::read_to_string;
 use checker::{Call, CallAnswer, LentNames, LentStore, Mode, NAME_BYTES, Refusal, WORDS_PER_NODE, call, fnv_1a, sound};
 
 const FOLDER: &str = concat!(env!("CARGO_MANIFEST_DIR"), "/../../crates/call_tests");
-const WORDS: usize = 16_384;
+const WORDS: usize = 36_864;
 const SLOTS: usize = 4_096;
 const BYTES: usize = 4_096;
 const ENTRY_BYTES: usize = NAME_BYTES + 1;
@@ -190,8 +190,8 @@ impl Memory {
                 text += " refused 4";
             } else {
                 let w = store.node_words(id as usize);
-                let [a, b, c, d] = [w[6], w[7], w[8], w[9]];
-                write!(text, " {} {:016x} {} {}: {a} {b} {c} {d}", w[0], w[1], w[4], w[5]).unwrap();
+                let children: String = w[6..][..w[5] as usize].iter().map(|child| format!(" {child}")).collect();
+                write!(text, " {} {:016x} {} {}:{children}", w[0], w[1], w[4], w[5]).unwrap();
             }
         }
         text
@@ -200,7 +200,7 @@ impl Memory {
     /// The hash words of the first nodes, by their other words.
     fn rehash(&mut self, count: usize) {
         for words in self.words.chunks_exact_mut(WORDS_PER_NODE).take(count) {
-            let children = &words[6..6 + (words[5] as usize).min(4)];
+            let children = &words[6..6 + (words[5] as usize).min(WORDS_PER_NODE - 6)];
             let mut bytes = vec![words[0] as u8];
             bytes.extend(words[1].to_be_bytes());
             bytes.extend(children.iter().flat_map(|&child| (child as u32).to_be_bytes()));

@@ -1,8 +1,11 @@
 //! The examples that 01 names, and the cases of its notes, as sheets.
 
+use crate::shapes::ARGUMENTS_MAXIMUM;
 use crate::sheet::{ADD, DIV, MUL, NEG, POW, SUB, Sheet};
 
 const BUDGET: u32 = 100;
+/// More steps than 255 levels of functions of 16 take.
+const LARGE_BUDGET: u32 = 10_000;
 const DEPTH_LIMIT: u8 = 255;
 /// NaNs: quiet and signalling, of either sign.
 const NOT_NUMBERS: [u64; 4] =
@@ -16,6 +19,7 @@ pub fn examples() -> Vec<Vec<u8>> {
     sheets.extend(folded());
     sheets.extend(merged());
     sheets.extend(not_numbers());
+    sheets.extend(long_calls());
     sheets.extend(pruned());
     sheets.iter().map(Sheet::bytes).collect()
 }
@@ -172,6 +176,37 @@ fn not_numbers() -> Vec<Sheet> {
             sheet
         })
         .into()
+}
+
+/// Functions of up to 17 arguments, of which the last is a sum that a walk
+/// replaces; an Add of five; 255 levels of functions of 16 (02 g, refusal 6).
+fn long_calls() -> Vec<Sheet> {
+    let mut sheets: Vec<Sheet> = [4, 5, 11, ARGUMENTS_MAXIMUM, ARGUMENTS_MAXIMUM + 1]
+        .map(|count| {
+            let mut sheet = variables(count as u32 - 1);
+            let zero = sheet.constant(0.0);
+            let sum = sheet.constructed(ADD, 0, zero);
+            let mut arguments: Vec<u16> = (0..count as u16 - 1).collect();
+            arguments.push(sum);
+            let call = sheet.function(3, &arguments);
+            let answer = sheet.simplify(call, DEPTH_LIMIT, BUDGET);
+            sheet.simplify(answer, DEPTH_LIMIT, BUDGET);
+            sheet
+        })
+        .into();
+    let mut sum_of_five = variables(5);
+    sum_of_five.operator(ADD, 3, &[0, 1, 2, 3, 4]);
+    sheets.push(sum_of_five);
+    let mut deep = variables(1);
+    let mut top = 0;
+    for _ in 0..DEPTH_LIMIT {
+        let mut arguments = [0; ARGUMENTS_MAXIMUM];
+        arguments[ARGUMENTS_MAXIMUM - 1] = top;
+        top = deep.function(3, &arguments);
+    }
+    deep.simplify(top, DEPTH_LIMIT, LARGE_BUDGET);
+    sheets.push(deep);
+    sheets
 }
 
 /// The pruning examples: two of three kept, none kept, a root that is no Add,

@@ -2,6 +2,7 @@
 //! than one, for the order of the refusals.
 
 use crate::random::Random;
+use crate::shapes::{ARGUMENTS_MAXIMUM, argument_count};
 
 /// One in this many fields is faulty.
 const FAULTY: usize = 3;
@@ -34,7 +35,7 @@ fn operator(random: &mut Random, index: usize) -> Vec<u8> {
 }
 
 fn function(random: &mut Random, index: usize) -> Vec<u8> {
-    let count = random.between(0, 4);
+    let count = argument_count(random);
     with_operands(random, vec![4, 0, 0, 0, 1], count, index)
 }
 
@@ -67,7 +68,7 @@ fn field(random: &mut Random, last: u8) -> u8 {
 
 /// So many operands, or a faulty number of them.
 fn with_operands(random: &mut Random, mut body: Vec<u8>, count: usize, index: usize) -> Vec<u8> {
-    let count = if random.once_in(FAULTY) { random.pick(&[0, 1, 3, 5, 300]) } else { count };
+    let count = if random.once_in(FAULTY) { random.pick(&[0, 1, 3, 5, ARGUMENTS_MAXIMUM, ARGUMENTS_MAXIMUM + 1, 300]) } else { count };
     for _ in 0..count {
         body = with_operand(random, body, index);
     }

@@ -7,7 +7,7 @@ use crate::lists::Counts;
 use crate::unless_refused;
 
 /// Room for every listing, as the header has it.
-const LISTING_BYTES: usize = 98_496;
+const LISTING_BYTES: usize = 229_824;
 const READ: u64 = 0;
 const WRONG_LINE: u64 = 1;
 

@@ -3,6 +3,7 @@ use lib.ListN.{length}
 use lib.Seq.{length-take-le}
 use native.Mathlib.Omega.{arith}
 use borrow.Author.Needs.{needs}
+use Rattle.listing_lines.specs.Line.{lineBytes}
 use Rattle.listing_tests.proofs.print_line.Statement.{statement}
 use Rattle.listing_tests.proofs.print_line.Tie as tie
 use Rattle.listing_tests.proofs.print_line.Reads as reads
@@ -13,7 +14,7 @@ returns : tie.Need-returns
 returns c = search needs
 
 array-share-prefix-bytes : tie.Need-array-share-prefix-bytes
-array-share-prefix-bytes c = let l : length (c .before .before .args .line .bytes) ≡ 192 = search needs in omega (arith, c .if1 .left)
+array-share-prefix-bytes c = let l : length (c .before .before .args .line .bytes) ≡ lineBytes = search needs in omega (arith, c .if1 .left)
 
 slice-aggregate-write-all : tie.Need-slice-aggregate-write-all
 slice-aggregate-write-all c = sym (length-take-le _ _ (array-share-prefix-bytes (c .before)))

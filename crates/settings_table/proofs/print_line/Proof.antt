@@ -4,6 +4,7 @@ use native.Mathlib.Omega.{arith}
 use lib.ListN.{length}
 use lib.Seq.{length-take-le}
 use borrow.Author.Needs.{needs}
+use Rattle.listing_lines.specs.Line.{lineBytes}
 use Rattle.settings_table.proofs.print_line.Statement.{statement}
 use Rattle.settings_table.proofs.print_line.Tie as tie
 
@@ -12,12 +13,12 @@ table-line-requires c κs = search needs
 
 array-share-prefix-bytes : tie.Need-array-share-prefix-bytes
 array-share-prefix-bytes c =
-    let long : length (c .before .table-line .result .bytes) ≡ 192 = search needs in
+    let long : length (c .before .table-line .result .bytes) ≡ lineBytes = search needs in
     omega (arith, long, c .before .table-line .ensures .within)
 
 slice-aggregate-write-all : tie.Need-slice-aggregate-write-all
 slice-aggregate-write-all c =
-    let long : length (c .before .before .table-line .result .bytes) ≡ 192 = search needs in
+    let long : length (c .before .before .table-line .result .bytes) ≡ lineBytes = search needs in
     sym (length-take-le _ _ (omega (arith, long, c .before .before .table-line .ensures .within)))
 
 write-all-requires : tie.Need-write-all-requires

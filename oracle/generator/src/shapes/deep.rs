@@ -1,6 +1,6 @@
 //! Formulas of many levels, walked at depth limits near their depth.
 
-use super::parts::{BUDGET, simplify};
+use super::parts::{BUDGET, arguments_around, simplify};
 use crate::palette::Palette;
 use crate::random::Random;
 use crate::sheet::{ADD, DIV, MOD, MUL, NEG, SUB, Sheet};
@@ -28,7 +28,10 @@ pub fn levels(random: &mut Random, sheet: &mut Sheet, palette: &Palette, count: 
         top = match random.below(8) {
             0 => sheet.operator(NEG, 0, &[top]),
             1 => sheet.function(function, &[top]),
-            2 => sheet.function(function, &[leaf, top, leaf, leaf]),
+            2 => {
+                let arguments = arguments_around(random, top, leaf);
+                sheet.function(function, &arguments)
+            }
             3 => sheet.operator(ADD, 0, &[leaf, leaf, top]),
             _ => {
                 let operator = random.pick(&[ADD, SUB, MUL, DIV, MOD]);

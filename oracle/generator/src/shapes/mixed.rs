@@ -1,6 +1,6 @@
 //! Every kind of record over any earlier ones.
 
-use super::parts::{child_count, flags, operand, operands, prune, simplify};
+use super::parts::{argument_count, child_count, flags, operand, operands, prune, simplify};
 use crate::palette::Palette;
 use crate::random::Random;
 use crate::sheet::{ADD, DIV, MOD, MUL, NEG, POW, SUB, Sheet};
@@ -28,7 +28,7 @@ fn record(random: &mut Random, sheet: &mut Sheet, palette: &Palette) -> u16 {
             sheet.operator(operator, flags(random), &operands)
         }
         60..68 => {
-            let count = random.between(0, 4);
+            let count = argument_count(random);
             let operands = operands(random, sheet, count);
             sheet.function(random.pick(&palette.functions), &operands)
         }

@@ -9,6 +9,7 @@ mod parts;
 mod towers;
 
 pub use deep::levels;
+pub use parts::{ARGUMENTS_MAXIMUM, argument_count};
 
 use crate::random::Random;
 use crate::sheet::Sheet;

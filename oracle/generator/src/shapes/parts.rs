@@ -9,6 +9,9 @@ pub const BUDGET: u32 = 20_000;
 /// A depth limit that no formula of a common sheet reaches.
 pub const DEPTH_MAXIMUM: u8 = 255;
 
+/// The most arguments of a function (02 g).
+pub const ARGUMENTS_MAXIMUM: usize = 16;
+
 /// An earlier record, half the time one of the last four.
 pub fn operand(random: &mut Random, sheet: &Sheet) -> u16 {
     let count = sheet.len();
@@ -32,6 +35,19 @@ pub fn child_count(random: &mut Random, operator: u8) -> usize {
         ADD | MUL if random.once_in(3) => random.between(1, 4),
         _ => 2,
     }
+}
+
+/// A number of arguments that a function takes, half the time more than four.
+pub fn argument_count(random: &mut Random) -> usize {
+    if random.once_in(2) { random.between(0, 4) } else { random.between(5, ARGUMENTS_MAXIMUM) }
+}
+
+/// Arguments of any number from one on: one record among others that are a second.
+pub fn arguments_around(random: &mut Random, one: u16, other: u16) -> Vec<u16> {
+    let mut arguments = vec![other; argument_count(random).max(1)];
+    let place = random.below(arguments.len());
+    arguments[place] = one;
+    arguments
 }
 
 pub fn depth_limit(random: &mut Random) -> u8 {

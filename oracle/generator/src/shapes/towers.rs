@@ -1,7 +1,7 @@
 //! Levels over a child that changes and is shared: the Rust walks it again
 //! each time it is met.
 
-use super::parts::{flags, simplify};
+use super::parts::{arguments_around, flags, simplify};
 use crate::palette::Palette;
 use crate::random::Random;
 use crate::sheet::{ADD, MOD, MUL, NEG, SUB, Sheet};
@@ -50,7 +50,12 @@ fn level(random: &mut Random, sheet: &mut Sheet, palette: &Palette, top: u16) ->
     let function = random.pick(&palette.functions);
     match random.below(10) {
         0 => sheet.operator(NEG, 0, &[top]),
-        1 => sheet.function(function, &[top, top]),
+        1 => {
+            let leaf = palette.leaf(random, sheet);
+            let mut arguments = arguments_around(random, top, leaf);
+            arguments[0] = top;
+            sheet.function(function, &arguments)
+        }
         2 => sheet.operator(SUB, 0, &[top, top]),
         3 => {
             let leaf = palette.leaf(random, sheet);

@@ -3,6 +3,7 @@ use native.Mathlib.Omega.{arith}
 use lib.ListN.{length}
 use lib.Seq.{length-take-le}
 use borrow.Author.Needs.{needs}
+use Rattle.listing_lines.specs.Line.{lineBytes}
 use Rattle.formula.proofs.threshold.say_hex.Statement.{statement}
 use Rattle.formula.proofs.threshold.say_hex.Tie as tie
 
@@ -11,12 +12,12 @@ hex-line-requires c κs = search needs
 
 array-share-prefix-bytes : tie.Need-array-share-prefix-bytes
 array-share-prefix-bytes c =
-    let long : length (c .before .hex-line .result .bytes) ≡ 192 = search needs in
+    let long : length (c .before .hex-line .result .bytes) ≡ lineBytes = search needs in
     omega (arith, long, c .before .hex-line .ensures .within)
 
 slice-aggregate-write-all : tie.Need-slice-aggregate-write-all
 slice-aggregate-write-all c =
-    let long : length (c .before .before .hex-line .result .bytes) ≡ 192 = search needs in
+    let long : length (c .before .before .hex-line .result .bytes) ≡ lineBytes = search needs in
     sym (length-take-le _ _ (omega (arith, long, c .before .before .hex-line .ensures .within)))
 
 write-all-requires : tie.Need-write-all-requires

@@ -3,6 +3,7 @@ use lib.ListN.{length, take}
 use lib.Seq.{length-take-le}
 use native.Mathlib.Omega.{arith}
 use borrow.Author.Needs.{needs}
+use Rattle.listing_lines.specs.Line.{lineBytes}
 use Rattle.listing_lines.proofs.all.put_line.Statement.{statement}
 use Rattle.listing_lines.proofs.all.put_line.Tie as tie
 use Rattle.listing_lines.proofs.all.put_line.Reads as reads
@@ -10,13 +11,13 @@ use Rattle.listing_lines.proofs.all.put_line.Lts as lts
 use Rattle.listing_lines.proofs.all.put.Reads as put-reads
 
 array-share-prefix-bytes : tie.Need-array-share-prefix-bytes
-array-share-prefix-bytes c = let l : length (c .before .before .before .args .line .bytes) ≡ 192 = search needs in omega (arith, c .before .before .before .pre .0)
+array-share-prefix-bytes c = let l : length (c .before .before .before .args .line .bytes) ≡ lineBytes = search needs in omega (arith, c .before .before .before .pre .0)
 
 slice-aggregate-put : tie.Need-slice-aggregate-put
-slice-aggregate-put c = let l : length (c .before .before .before .before .args .line .bytes) ≡ 192 = search needs in sym (length-take-le _ _ (omega (arith, c .before .before .before .before .pre .0)))
+slice-aggregate-put c = let l : length (c .before .before .before .before .args .line .bytes) ≡ lineBytes = search needs in sym (length-take-le _ _ (omega (arith, c .before .before .before .before .pre .0)))
 
 put-requires : tie.Need-put-requires
-put-requires c κs = let l : length (c .before .before .before .before .args .line .bytes) ≡ 192 = search needs in let e : length (take (c .before .before .before .before .args .line .length) (c .before .before .before .before .args .line .bytes)) ≡ c .before .before .before .before .args .line .length = length-take-le _ _ (omega (arith, c .before .before .before .before .pre .0)) in omega (arith, c .before .before .before .before .pre .0, c .before .before .before .before .pre .1)
+put-requires c κs = let l : length (c .before .before .before .before .args .line .bytes) ≡ lineBytes = search needs in let e : length (take (c .before .before .before .before .args .line .length) (c .before .before .before .before .args .line .bytes)) ≡ c .before .before .before .before .args .line .length = length-take-le _ _ (omega (arith, c .before .before .before .before .pre .0)) in omega (arith, c .before .before .before .before .pre .0, c .before .before .before .before .pre .1)
 
 same-length : tie.Need-same-length
 same-length c = search needs

@@ -17,7 +17,7 @@ abbrev μ-loop : tie.MeasureT-loop
 μ-loop more bytes₀ start i₀ bytes i = length more - i
 
 loop-holds : tie.Need-loop-holds Inv-loop μ-loop
-loop-holds c = let l : length (c .before .args .line .bytes) ≡ 192 = search needs in copied-none _ _ _ _ l
+loop-holds c = let l : length (c .before .args .line .bytes) ≡ lineBytes = search needs in copied-none _ _ _ _ l
 
 shared-slice-read-bytes : tie.Need-shared-slice-read-bytes Inv-loop μ-loop
 shared-slice-read-bytes c = search needs

@@ -2,6 +2,7 @@
 use Prim.Native.Nat.{_-_}
 use native.Mathlib.Omega.{arith}
 use borrow.Author.Needs.{needs}
+use Rattle.arena.specs.Layout.{mostChildren}
 use Rattle.listing_reader.proofs.ChildLines.{ChildrenRead, none-read, one-read, children-stop, children-full}
 use Rattle.listing_reader.proofs.node.children_at.Statement.{statement}
 use Rattle.listing_reader.proofs.node.children_at.Tie as tie
@@ -10,7 +11,7 @@ abbrev Inv-loop : tie.InvT-loop
 Inv-loop bytes at places₀ count₀ next₀ places count next = ChildrenRead bytes at places count next
 
 abbrev μ-loop : tie.MeasureT-loop
-μ-loop bytes at places₀ count₀ next₀ places count next = 4 - count
+μ-loop bytes at places₀ count₀ next₀ places count next = mostChildren - count
 
 loop-holds : tie.Need-loop-holds Inv-loop μ-loop
 loop-holds c = none-read _ _

@@ -53,17 +53,14 @@ same-length-4 c = search needs
 returns-2 : tie.Need-returns-2
 returns-2 c = search needs
 
-cast-t38 : tie.Need-cast-t38
-cast-t38 c = let r = c .before .before .ready .ensures (not-false _ (c .before .if1 .left)) in omega (arith, r .left, r .whole .nodes .formed .many)
+cast-children : tie.Need-cast-children
+cast-children c = let r = c .before .before .ready .ensures (not-false _ (c .before .if1 .left)) in omega (arith, r .right, r .whole .nodes .formed .many)
 
-cast-t39 : tie.Need-cast-t39
-cast-t39 c = let r = c .before .before .ready .ensures (not-false _ (c .before .if1 .left)) in omega (arith, r .right, r .whole .nodes .formed .many)
+cast-children-2 : tie.Need-cast-children-2
+cast-children-2 c = let r = c .before .before .ready .ensures (not-false _ (c .before .if1 .left)) in omega (arith, r .left, r .whole .nodes .formed .many)
 
-cast-t40 : tie.Need-cast-t40
-cast-t40 c = let r = c .before .before .ready .ensures (not-false _ (c .before .if1 .left)) in omega (arith, r .right, r .whole .nodes .formed .many)
-
-cast-t41 : tie.Need-cast-t41
-cast-t41 c = let r = c .before .before .ready .ensures (not-false _ (c .before .if1 .left)) in omega (arith, r .right, r .whole .nodes .formed .many)
+array-write-children : tie.Need-array-write-children
+array-write-children c = search needs
 
 array-share-prefix-children : tie.Need-array-share-prefix-children
 array-share-prefix-children c = search needs
@@ -110,10 +107,9 @@ apply-spec =
     same-length-3
     same-length-4
     returns-2
-    cast-t38
-    cast-t39
-    cast-t40
-    cast-t41
+    cast-children
+    cast-children-2
+    array-write-children
     array-share-prefix-children
     slice-aggregate-try-apply
     try-apply-requires

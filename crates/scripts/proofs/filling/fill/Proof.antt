@@ -4,11 +4,12 @@ use mathlib.Core.Path.{_≡_}
 use lib.ListN.{length}
 use native.Mathlib.Omega.{arith}
 use borrow.Author.Needs.{needs}
+use Rattle.arena.specs.Layout.{nodeWords}
 use Rattle.scripts.proofs.filling.fill.Statement.{statement}
 use Rattle.scripts.proofs.filling.fill.Tie as tie
 
 abbrev Inv-loop : tie.InvT-loop
-Inv-loop nodes slots₀ size count id₀ slots id = (id ≤ count) × (count ≤ length nodes / 10) × (length slots ≡ length slots₀)
+Inv-loop nodes slots₀ size count id₀ slots id = (id ≤ count) × (count ≤ length nodes / nodeWords) × (length slots ≡ length slots₀)
 
 abbrev μ-loop : tie.MeasureT-loop
 μ-loop nodes slots₀ size count id₀ slots id = count - id

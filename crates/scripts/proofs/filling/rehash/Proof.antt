@@ -4,11 +4,12 @@ use mathlib.Core.Path.{_≡_}
 use lib.ListN.{length}
 use native.Mathlib.Omega.{arith}
 use borrow.Author.Needs.{needs}
+use Rattle.arena.specs.Layout.{nodeWords}
 use Rattle.scripts.proofs.filling.rehash.Statement.{statement}
 use Rattle.scripts.proofs.filling.rehash.Tie as tie
 
 abbrev Inv-loop : tie.InvT-loop
-Inv-loop nodes₀ count id₀ nodes id = (id ≤ count) × (count ≤ length nodes / 10) × (length nodes ≡ length nodes₀)
+Inv-loop nodes₀ count id₀ nodes id = (id ≤ count) × (count ≤ length nodes / nodeWords) × (length nodes ≡ length nodes₀)
 
 abbrev μ-loop : tie.MeasureT-loop
 μ-loop nodes₀ count id₀ nodes id = count - id

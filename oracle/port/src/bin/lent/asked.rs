@@ -124,7 +124,7 @@ fn store_call(random: &mut Random, count: usize) -> Call {
             }
         }
         8 => {
-            let many = random.below(6);
+            let many = if random.once_in(2) { random.below(6) } else { random.between(6, 18) };
             Call::Function { number: random.pick(&[0, 5, u32::MAX]), operands: operands(random, count, many) }
         }
         9 => {
