@@ -12,8 +12,8 @@ use Rattle.definitions.specs.Refusals.{notSound}
 use Rattle.definitions.specs.Names.{NameCall, NameAnswer, numbered, unknown, named, refused, entryBytes}
 use Rattle.names.specs.Entry.{entryAt, entryOf}
 use Rattle.names.specs.Sound.{Sound, namesOf, nameAt}
-use Rattle.names.specs.Calls.{plainly}
-use Rattle.names.specs.Memory.{NameMemory, nameMemory, nameModel, namesBytes, namesAfter, NamesLeft, namesLeft, namesLeftBy, CalledOn, NamesEquation, NamesOneWay}
+use Rattle.names.specs.Calls.{plainly, namesLeftBy, Called, CallClauses, ClausesGiveEquation, NamesOneWay}
+use Rattle.names.specs.Memory.{NameMemory, nameMemory, namesBytes, NamesLeft, namesLeft}
 use Rattle.names.proofs.Entries.{entry-length, sound-entry}
 use Rattle.names.proofs.Listing.{names-length}
 
@@ -48,20 +48,20 @@ bytes-same a b count s s′ e past =
 
 -- ---- the equation
 
-module _ (c : NameCall) (m m′ : NameMemory) (a : NameAnswer) (k : CalledOn c m a m′) where
+module _ (bytes : List ℕ) (count : ℕ) (c : NameCall) (a : NameAnswer) (bytes′ : List ℕ) (count′ : ℕ) (k : CallClauses bytes count c a bytes′ count′) where
   abbrev names : List (List ℕ)
-  names = plainly (m .bytes) (m .count) c .names
+  names = plainly bytes count c .names
 
-  many : nameModel .Sound m → m′ .count ≡ length names
-  many h = sym (names-length (m′ .bytes) (m′ .count)) ∙ ap length (k .names h)
+  many : Sound bytes count → count′ ≡ length names
+  many h = sym (names-length bytes′ count′) ∙ ap length (k .names h)
 
-  bytes-left : nameModel .Sound m → m′ .bytes ≡ namesBytes names ++ drop (length names * entryBytes) (m .bytes)
+  bytes-left : Sound bytes count → bytes′ ≡ namesBytes names ++ drop (length names * entryBytes) bytes
   bytes-left h =
-      bytes-are (m′ .bytes) (m′ .count) (k .sound h)
+      bytes-are bytes′ count′ (k .sound h)
       ∙ ap₂ (λ (l : List (List ℕ)) (rest : List ℕ). namesBytes l ++ rest) (k .names h) (k .past)
-      ∙ ap (λ (n : ℕ). namesBytes names ++ drop (n * entryBytes) (m .bytes)) (many h)
+      ∙ ap (λ (n : ℕ). namesBytes names ++ drop (n * entryBytes) bytes) (many h)
 
-  left-by : (d : Dec (nameModel .Sound m)) → namesLeft a m′ ≡ namesLeftBy c m d
+  left-by : (d : Dec (Sound bytes count)) → namesLeft a (nameMemory bytes′ count′) ≡ namesLeftBy c (nameMemory bytes count) d
   left-by (yes h) =
       let answer = k .answered h in
       let bytes = bytes-left h in
@@ -72,17 +72,15 @@ module _ (c : NameCall) (m m′ : NameMemory) (a : NameAnswer) (k : CalledOn c m
       let same = k .refusal notSound answer in
       λ i. namesLeft (answer i) (nameMemory (same .0 i) (same .1 i))
 
-pub names-equation : NamesEquation
-names-equation c m m′ a k d = left-by c m m′ a k d
+pub clauses-give-equation : ClausesGiveEquation
+clauses-give-equation bytes count c a bytes′ count′ k = record { equation = left-by bytes count c a bytes′ count′ k }
 
 -- ---- one way, sound or not
 
-either : {P : Type 0} (a b : List ℕ) → (P → a ≡ b) → ((P → ⊥) → a ≡ b) → a ≡ b
-either {P} a b f g = by (List-discrete ℕ-discrete a b)
-  where
-    by : Dec (a ≡ b) → a ≡ b
-    by (yes e) = e
-    by (no n) = g (λ p. n (f p))
+-- what holds of a sound list and of any other holds, if it can be decided
+pub either : {P A : Type 0} (a b : A) → Dec (a ≡ b) → (P → a ≡ b) → ((P → ⊥) → a ≡ b) → a ≡ b
+either a b (yes e) f g = e
+either a b (no n) f g = g (λ p. n (f p))
 
 -- an answer as a list of numbers, and back
 answerNumbers : NameAnswer → List ℕ
@@ -102,13 +100,13 @@ back unknown = refl
 back (named name) = refl
 back (refused r) = refl
 
-module _ (c : NameCall) (m m′ m″ : NameMemory) (a b : NameAnswer) (k : CalledOn c m a m′) (l : CalledOn c m b m″) where
-  same : Dec (nameModel .Sound m) → namesLeft a m′ ≡ namesLeft b m″
-  same d = left-by c m m′ a k d ∙ sym (left-by c m m″ b l d)
+module _ (c : NameCall) (m m′ m″ : NameMemory) (a b : NameAnswer) (k : Called (m .bytes) (m .count) c a (m′ .bytes) (m′ .count)) (l : Called (m .bytes) (m .count) c b (m″ .bytes) (m″ .count)) where
+  same : Dec (Sound (m .bytes) (m .count)) → namesLeft a m′ ≡ namesLeft b m″
+  same d = k .equation d ∙ sym (l .equation d)
 
   -- a list of numbers that is read off both
   both : (read : NamesLeft → List ℕ) → read (namesLeft a m′) ≡ read (namesLeft b m″)
-  both read = either (read (namesLeft a m′)) (read (namesLeft b m″)) (λ h. ap read (same (yes h))) (λ n. ap read (same (no n)))
+  both read = either (read (namesLeft a m′)) (read (namesLeft b m″)) (List-discrete ℕ-discrete _ _) (λ h. ap read (same (yes h))) (λ n. ap read (same (no n)))
 
   one-way : (a ≡ b) × (m′ ≡ m″)
   one-way =

@@ -7,5 +7,6 @@ pub mod Finding
 pub mod Listing
 pub mod Storing
 pub mod Calling
-pub mod Modelled
 pub mod Determined
+pub mod Clauses
+pub mod Modelled

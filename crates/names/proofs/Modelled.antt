@@ -9,16 +9,19 @@ use Rattle.definitions.specs.Beside.{NamesCalled, FreshNames}
 use Rattle.names.specs.Sound.{Sound, namesOf}
 use Rattle.names.specs.Calls.{Called}
 use Rattle.names.specs.Memory.{nameMemory, nameModel}
+use Rattle.names.proofs.Clauses.{equation-gives-clauses}
 
 pub names-called : (c : NameCall) (bytes : List ℕ) (count : ℕ) (a : NameAnswer) (bytes′ : List ℕ) (count′ : ℕ) → Called bytes count c a bytes′ count′
     → NamesCalled nameModel c (nameMemory bytes count) a (nameMemory bytes′ count′)
-names-called c bytes count a bytes′ count′ h = record {
-  unsound = λ u. let e = h .unsound u in let s = h .refusal notSound e in (e, λ i. nameMemory (s .0 i) (s .1 i));
-  answer = h .answered;
-  left = h .names;
-  sound = h .sound;
-  same-lent = h .same-lent;
-}
+names-called c bytes count a bytes′ count′ h =
+    let clauses = equation-gives-clauses bytes count c a bytes′ count′ h in
+    record {
+      unsound = λ u. let e = clauses .unsound u in let s = clauses .refusal notSound e in (e, λ i. nameMemory (s .0 i) (s .1 i));
+      answer = clauses .answered;
+      left = clauses .names;
+      sound = clauses .sound;
+      same-lent = clauses .same-lent;
+    }
 
 pub no-names : (bytes : List ℕ) → FreshNames nameModel (nameMemory bytes 0)
 unfolding namesOf

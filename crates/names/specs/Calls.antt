@@ -1,4 +1,4 @@
--- What a name call on a lent list answers and leaves: what the plain registry does, or 20.
+-- What a name call on a lent list answers and leaves: one equation, by the plain registry, or 20.
 use Prim.Native.Nat.{ℕ, _-_, _*_, _≤_, _<_}
 use mathlib.Core.Path.{_≡_}
 use mathlib.Core.List.{List, _++_}
@@ -12,6 +12,7 @@ use Rattle.names.specs.declared.Found.{Found}
 use Rattle.names.specs.declared.Found.the-variants.{At, Nothing}
 use Rattle.names.specs.Entry.{entryAt}
 use Rattle.names.specs.Sound.{Sound, namesOf, lentEntries}
+use Rattle.names.specs.Memory.{NameMemory, nameMemory, nameModel, namesAfter, NamesLeft, namesLeft}
 
 -- what an answer says, with the bytes beside it
 abbrev pub answerOf : Answer → List ℕ → NameAnswer
@@ -39,16 +40,15 @@ Finds bytes count key Nothing = (j : ℕ) → j < count → entryAt bytes j ≡ 
 abbrev pub plainly : List ℕ → ℕ → NameCall → NameResult
 plainly bytes count call = nameCall (lentEntries bytes) (namesOf bytes count) call
 
--- a list that is not sound is refused with 20. A call on a sound one answers as the plain registry does, and leaves a sound list of its
--- names. Bytes past the used entries stay, and a refusal changes no byte.
+-- What a name call leaves: 20 and the same memory where the list is not sound, else the plain registry's answer and the memory that its
+-- names give.
+abbrev pub namesLeftBy : (c : NameCall) (m : NameMemory) → Dec (nameModel .Sound m) → NamesLeft
+namesLeftBy c m (yes h) = namesLeft (plainly (m .bytes) (m .count) c .answer) (namesAfter m (plainly (m .bytes) (m .count) c .names))
+namesLeftBy c m (no n) = namesLeft (refused notSound) m
+
+-- What each name call says of the bytes and the count before it, its answer, and the bytes and the count after it: one equation.
 pub record Called (bytes : List ℕ) (count : ℕ) (call : NameCall) (answer : NameAnswer) (bytes′ : List ℕ) (count′ : ℕ) : Type 0 where
-  pub unsound : (Sound bytes count → ⊥) → answer ≡ refused notSound
-  pub answered : Sound bytes count → answer ≡ plainly bytes count call .answer
-  pub names : Sound bytes count → namesOf bytes′ count′ ≡ plainly bytes count call .names
-  pub sound : Sound bytes count → Sound bytes′ count′
-  pub same-lent : lentEntries bytes′ ≡ lentEntries bytes
-  pub past : drop (count′ * entryBytes) bytes′ ≡ drop (count′ * entryBytes) bytes
-  pub refusal : (r : ℕ) → answer ≡ refused r → (bytes′ ≡ bytes) × (count′ ≡ count)
+  pub equation : (d : Dec (Sound bytes count)) → namesLeft answer (nameMemory bytes′ count′) ≡ namesLeftBy call (nameMemory bytes count) d
 
 -- the 32 bytes beside an answer: a name's bytes, and then 0s
 abbrev pub bytesBeside : NameAnswer → List ℕ
@@ -64,8 +64,52 @@ Fits Unknown = Unit {0}
 Fits (Named n) = n ≤ longestName
 Fits (Refused r) = Unit {0}
 
--- a call for a name, answered with 32 bytes beside it
+-- an answer of the plain registry as the code gives it: a name by its length, with the bytes beside it
+abbrev pub givenAs : NameAnswer → Answer
+givenAs (numbered n) = Numbered n
+givenAs unknown = Unknown
+givenAs (named name) = Named (length name)
+givenAs (refused r) = Refused r
+
+abbrev pub nameBytesOf : NameAnswer → NameBytes
+nameBytesOf a = record { answer = givenAs a; bytes = bytesBeside a }
+
+-- a call for a name, which is lent no byte to write: one equation for its answer and the bytes beside it
 pub record NameCalled (bytes : List ℕ) (count number : ℕ) (r : NameBytes) : Type 0 where
+  pub equation : (d : Dec (Sound bytes count)) → r ≡ nameBytesOf (namesLeftBy (nameOf number) (nameMemory bytes count) d .answer)
+
+-- ---- clause by clause, which follows
+
+-- a list that is not sound is refused with 20. A call on a sound one answers as the plain registry does, and leaves a sound list of its
+-- names. Bytes past the used entries stay, and a refusal changes no byte.
+pub record CallClauses (bytes : List ℕ) (count : ℕ) (call : NameCall) (answer : NameAnswer) (bytes′ : List ℕ) (count′ : ℕ) : Type 0 where
+  pub unsound : (Sound bytes count → ⊥) → answer ≡ refused notSound
+  pub answered : Sound bytes count → answer ≡ plainly bytes count call .answer
+  pub names : Sound bytes count → namesOf bytes′ count′ ≡ plainly bytes count call .names
+  pub sound : Sound bytes count → Sound bytes′ count′
+  pub same-lent : lentEntries bytes′ ≡ lentEntries bytes
+  pub past : drop (count′ * entryBytes) bytes′ ≡ drop (count′ * entryBytes) bytes
+  pub refusal : (r : ℕ) → answer ≡ refused r → (bytes′ ≡ bytes) × (count′ ≡ count)
+
+-- a call for a name leaves the list, and 32 bytes stand beside its answer
+pub record NameClauses (bytes : List ℕ) (count number : ℕ) (r : NameBytes) : Type 0 where
   pub called : Called bytes count (nameOf number) (answerOf (r .answer) (r .bytes)) bytes count
   pub beside : r .bytes ≡ bytesBeside (answerOf (r .answer) (r .bytes))
   pub fits : Fits (r .answer)
+
+-- each call's equation gives its clauses, and they give the equation
+abbrev pub EquationGivesClauses : Type 0
+EquationGivesClauses = (bytes : List ℕ) (count : ℕ) (c : NameCall) (a : NameAnswer) (bytes′ : List ℕ) (count′ : ℕ)
+    → Called bytes count c a bytes′ count′ → CallClauses bytes count c a bytes′ count′
+
+abbrev pub ClausesGiveEquation : Type 0
+ClausesGiveEquation = (bytes : List ℕ) (count : ℕ) (c : NameCall) (a : NameAnswer) (bytes′ : List ℕ) (count′ : ℕ)
+    → CallClauses bytes count c a bytes′ count′ → Called bytes count c a bytes′ count′
+
+abbrev pub NameEquationGivesClauses : Type 0
+NameEquationGivesClauses = (bytes : List ℕ) (count number : ℕ) (r : NameBytes) → NameCalled bytes count number r → NameClauses bytes count number r
+
+-- one name call on one memory, sound or not, has one answer and leaves one memory
+abbrev pub NamesOneWay : Type 0
+NamesOneWay = (c : NameCall) (m m′ m″ : NameMemory) (a b : NameAnswer) → Called (m .bytes) (m .count) c a (m′ .bytes) (m′ .count)
+    → Called (m .bytes) (m .count) c b (m″ .bytes) (m″ .count) → (a ≡ b) × (m′ ≡ m″)

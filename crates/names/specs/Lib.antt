@@ -1,5 +1,5 @@
 pub mod Entry
 pub mod Sound
 pub mod Buckets
-pub mod Calls
 pub mod Memory
+pub mod Calls

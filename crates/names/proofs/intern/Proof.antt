@@ -2,6 +2,7 @@
 use borrow.Author.Needs.{needs}
 use borrow.Author.Tests.{not-true, not-false}
 use Rattle.names.proofs.Calling.{called-unsound, intern-length}
+use Rattle.names.proofs.Determined.{clauses-give-equation}
 use Rattle.names.proofs.intern.Statement.{statement}
 use Rattle.names.proofs.intern.Tie as tie
 
@@ -12,7 +13,7 @@ same-length : tie.Need-same-length
 same-length c = search needs
 
 returns : tie.Need-returns
-returns c = called-unsound _ _ _ (c .before .audit .ensures .no (not-true _ (c .if1 .taken)))
+returns c = clauses-give-equation _ _ _ _ _ _ (called-unsound _ _ _ (c .before .audit .ensures .no (not-true _ (c .if1 .taken))))
 
 length-allowed-requires : tie.Need-length-allowed-requires
 length-allowed-requires c κs = search needs
@@ -21,7 +22,7 @@ same-length-2 : tie.Need-same-length-2
 same-length-2 c = search needs
 
 returns-2 : tie.Need-returns-2
-returns-2 c = intern-length _ _ (c .before .before .before .audit .ensures .yes (not-false _ (c .before .before .if1 .left))) _ (c .before .length-allowed .ensures .no (not-true _ (c .if2 .taken)))
+returns-2 c = clauses-give-equation _ _ _ _ _ _ (intern-length _ _ (c .before .before .before .audit .ensures .yes (not-false _ (c .before .before .if1 .left))) _ (c .before .length-allowed .ensures .no (not-true _ (c .if2 .taken))))
 
 intern-allowed-requires : tie.Need-intern-allowed-requires
 intern-allowed-requires c κs = (c .before .before .before .before .audit .ensures .yes (not-false _ (c .before .before .before .if1 .left)), c .before .before .length-allowed .ensures .yes (not-false _ (c .before .if2 .left)))
