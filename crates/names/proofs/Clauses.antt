@@ -1,14 +1,14 @@
 -- The equation of a name call gives its clauses: the plain registry's names make a sound list again.
-use Prim.Native.Nat.{ℕ, zero, suc, _+_, _≤_, _<_, min}
+use Prim.Native.Nat.{ℕ, zero, suc, _+_, _*_, _≤_, _<_}
 use mathlib.Core.Path.{_≡_, refl, sym, ap, _∙_, subst}
 use mathlib.Core.List.{List, List-discrete}
-use lib.ListN.{length}
+use lib.ListN.{length, length-drop}
 use lib.Seq.{take-at}
 use native.Mathlib.Omega.{arith}
 use native.Mathlib.Decide.{ℕ-discrete, decLt, decLe}
 use borrow.Author.Count.{below-more}
 use Rattle.definitions.specs.Refusals.{notSound}
-use Rattle.definitions.specs.Names.{NameCall, internName, lookupName, nameOf, NameAnswer, numbered, unknown, named, refused, longestName, shortestName, mostNames}
+use Rattle.definitions.specs.Names.{NameCall, internName, lookupName, nameOf, NameAnswer, numbered, unknown, named, refused, longestName, shortestName, entryBytes, mostNames}
 use Rattle.names.specs.declared.Answer.{Answer}
 use Rattle.names.specs.declared.Answer.the-variants.{Numbered, Unknown, Named, Refused}
 use Rattle.names.specs.declared.NameBytes.{NameBytes}
@@ -109,6 +109,14 @@ equation-gives-clauses bytes count c a bytes′ count′ k =
         either count′ count (ℕ-discrete _ _) (λ s. sound s .refusal r e .1) (λ n. other n .refusal r e .1),
       );
     }
+
+-- as many bytes are lent after a call
+pub clauses-long : (bytes : List ℕ) (count : ℕ) (c : NameCall) (a : NameAnswer) (bytes′ : List ℕ) (count′ : ℕ) → Sound bytes count → CallClauses bytes count c a bytes′ count′ → length bytes′ ≡ length bytes
+clauses-long bytes count c a bytes′ count′ s k =
+    let lent = k .sound s .lent in
+    let same = k .same-lent in
+    let past = ap length (k .past) in
+    omega (arith, length-drop (count′ * entryBytes) bytes, length-drop (count′ * entryBytes) bytes′)
 
 -- ---- a call for a name
 

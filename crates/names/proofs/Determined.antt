@@ -12,8 +12,8 @@ use Rattle.definitions.specs.Refusals.{notSound}
 use Rattle.definitions.specs.Names.{NameCall, NameAnswer, numbered, unknown, named, refused, entryBytes}
 use Rattle.names.specs.Entry.{entryAt, entryOf}
 use Rattle.names.specs.Sound.{Sound, namesOf, nameAt}
-use Rattle.names.specs.Calls.{plainly, namesLeftBy, Called, CallClauses, ClausesGiveEquation, NamesOneWay}
-use Rattle.names.specs.Memory.{NameMemory, nameMemory, namesBytes, NamesLeft, namesLeft}
+use Rattle.names.specs.Calls.{namesLeftBy, Called, CallClauses, ClausesGiveEquation, NamesOneWay}
+use Rattle.names.specs.Memory.{NameMemory, nameMemory, namesBytes, namesAfter, NamesLeft, namesLeft}
 use Rattle.names.proofs.Entries.{entry-length, sound-entry}
 use Rattle.names.proofs.Listing.{names-length}
 
@@ -40,33 +40,21 @@ module _ (bytes : List ℕ) (count : ℕ) (s : Sound bytes count) where
   bytes-are : bytes ≡ namesBytes (namesOf bytes count) ++ drop (count * entryBytes) bytes
   bytes-are = sym (take-append-drop (count * entryBytes) bytes) ∙ ap (λ (l : List ℕ). l ++ drop (count * entryBytes) bytes) (used count (omega arith))
 
--- lists of the same names are the same if what lies past them is
-pub bytes-same : (a b : List ℕ) (count : ℕ) → Sound a count → Sound b count → namesOf a count ≡ namesOf b count
-    → drop (count * entryBytes) a ≡ drop (count * entryBytes) b → a ≡ b
-bytes-same a b count s s′ e past =
-    bytes-are a count s ∙ ap₂ (λ (names : List (List ℕ)) (rest : List ℕ). namesBytes names ++ rest) e past ∙ sym (bytes-are b count s′)
+-- a sound memory is the one that its names give over any with its bytes past those in use
+pub names-are : (m m′ : NameMemory) → Sound (m′ .bytes) (m′ .count) → drop (m′ .count * entryBytes) (m′ .bytes) ≡ drop (m′ .count * entryBytes) (m .bytes)
+    → m′ ≡ namesAfter m (namesOf (m′ .bytes) (m′ .count))
+names-are m m′ s past =
+    let names = namesOf (m′ .bytes) (m′ .count) in
+    let count : m′ .count ≡ length names = sym (names-length (m′ .bytes) (m′ .count)) in
+    let bytes : m′ .bytes ≡ namesBytes names ++ drop (length names * entryBytes) (m .bytes)
+    = bytes-are (m′ .bytes) (m′ .count) s ∙ ap (λ (rest : List ℕ). namesBytes names ++ rest) (past ∙ ap (λ (n : ℕ). drop (n * entryBytes) (m .bytes)) count) in
+    λ i. nameMemory (bytes i) (count i)
 
 -- ---- the equation
 
 module _ (bytes : List ℕ) (count : ℕ) (c : NameCall) (a : NameAnswer) (bytes′ : List ℕ) (count′ : ℕ) (k : CallClauses bytes count c a bytes′ count′) where
-  abbrev names : List (List ℕ)
-  names = plainly bytes count c .names
-
-  many : Sound bytes count → count′ ≡ length names
-  many h = sym (names-length bytes′ count′) ∙ ap length (k .names h)
-
-  bytes-left : Sound bytes count → bytes′ ≡ namesBytes names ++ drop (length names * entryBytes) bytes
-  bytes-left h =
-      bytes-are bytes′ count′ (k .sound h)
-      ∙ ap₂ (λ (l : List (List ℕ)) (rest : List ℕ). namesBytes l ++ rest) (k .names h) (k .past)
-      ∙ ap (λ (n : ℕ). namesBytes names ++ drop (n * entryBytes) bytes) (many h)
-
   left-by : (d : Dec (Sound bytes count)) → namesLeft a (nameMemory bytes′ count′) ≡ namesLeftBy c (nameMemory bytes count) d
-  left-by (yes h) =
-      let answer = k .answered h in
-      let bytes = bytes-left h in
-      let count = many h in
-      λ i. namesLeft (answer i) (nameMemory (bytes i) (count i))
+  left-by (yes h) = ap₂ namesLeft (k .answered h) (names-are (nameMemory bytes count) (nameMemory bytes′ count′) (k .sound h) (k .past) ∙ ap (namesAfter (nameMemory bytes count)) (k .names h))
   left-by (no n) =
       let answer = k .unsound n in
       let same = k .refusal notSound answer in

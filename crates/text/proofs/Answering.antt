@@ -18,7 +18,7 @@ use Rattle.text_program.specs.declared.checking.Checked.the-variants as checked
 use Rattle.text.specs.Memory.{ControllerMemory, controllerMemory, BothSound, controllerOf, lentOf}
 use Rattle.text.specs.Making.{Makes}
 use Rattle.text_program.specs.Compiling.{Compiled, Compiles}
-use Rattle.text.specs.Reading.{Reads, refused, read}
+use Rattle.text.specs.Reading.{ReadingCases, refused, read}
 
 pub both-sound : (words slots : List ℕ) (arena : DagArena) (entries : List ℕ) (names : ℕ) → model .Sound (memory words slots arena) → Names.Sound entries names → BothSound (controllerMemory words slots arena entries names)
 both-sound words slots arena entries names a b = record { store = a; names = b }
@@ -34,10 +34,10 @@ module _ (s program : List ℕ) (size : ℕ) (c : Compiled s program size) where
   program-fits = subst (Fits 0) (sym (c .tokens)) (fits-text (c .text .reads) (c .shallow))
 
   module _ (d : ControllerMemory) (h : BothSound d) (r : Bool) (e : r ≡ anyNan (tokens s program size)) where
-    pub read-nan : r ≡ true → Reads s d (Refused 10) d
+    pub read-nan : r ≡ true → ReadingCases s d (Refused 10) d
     read-nan t = refused h (nan (c .sized) (c .text) (c .shallow) (ap anyNan (sym (c .tokens)) ∙ sym e ∙ t))
 
-    pub read-made : r ≡ false → (a : Answer) (d′ : ControllerMemory) → Makes (run (lentOf d) (tokens s program size) [] (controllerOf d)) d a d′ → Reads s d a d′
+    pub read-made : r ≡ false → (a : Answer) (d′ : ControllerMemory) → Makes (run (lentOf d) (tokens s program size) [] (controllerOf d)) d a d′ → ReadingCases s d a d′
     read-made t a d′ m =
         read h (record { sized = c .sized; depth = c .depth; text = c .text; shallow = c .shallow; numbers = ap anyNan (sym (c .tokens)) ∙ sym e ∙ t })
         (subst (λ (x : Made). Makes x d a d′) (ap (λ (ts : List Token). run (lentOf d) ts [] (controllerOf d)) (c .tokens) ∙ run-is (lentOf d) (c .expr) (controllerOf d)) m)

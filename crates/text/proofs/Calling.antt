@@ -2,31 +2,23 @@
 use Prim.Native.Nat.{ℕ}
 use mathlib.Core.Path.{_≡_, refl, sym, ap, _∙_}
 use mathlib.Core.List.{List, [], _∷_}
+use native.Mathlib.Decide.{ℕ-discrete}
 use Rattle.definitions.specs.Making.{Controller, LentLists, Made}
-use Rattle.definitions.specs.Controller.{AfterCall, reading, controllerCall, onText, fromMade, Part, storePart, namesPart}
-use Rattle.definitions.specs.Promise.{All}
+use Rattle.definitions.specs.Controller.{AfterCall, reading, fromMade, Part, storePart, namesPart}
+use Rattle.definitions.specs.Promise.{ControllerCalled, All}
 use Rattle.definitions.specs.Beside.{SoundPart}
 use Rattle.store.specs.declared.Answer.{Answer}
 use Rattle.store.specs.declared.Answer.the-variants.{Id, Refused}
 use Rattle.store.specs.Memory.{model}
 use Rattle.names.specs.Memory.{nameModel}
-use Rattle.text_language.specs.Grammar.{Expr}
-use Rattle.text_language.specs.Reading.{Refuses, Denotes, refuses, denotes}
-use Rattle.text_language.proofs.Reading.{verdict-refuses, verdict-denotes}
-use Rattle.text.specs.Memory.{ControllerMemory, BothSound, controllerOf, lentOf}
+use Rattle.names.proofs.Determined.{either}
+use Rattle.text.specs.Memory.{ControllerMemory, lentController, BothSound, controllerOf, lentOf}
 use Rattle.text.specs.Making.{outcome}
-use Rattle.text.specs.Reading.{unsound, refused, read}
-use Rattle.text.specs.Calling.{answered, ReadsAsCalled}
+use Rattle.text.specs.Reading.{answered, ReadingCases, unsound, refused, read}
+use Rattle.text.specs.Calling.{ReadsAsCalled}
 use Rattle.text.proofs.Performing.{same-lent-of}
-
--- the plain machine's reading, by what the text meets
-plain-refused : (l : LentLists) (s : Controller) {text : List ℕ} {k : ℕ} → Refuses text k → controllerCall l s (reading text) ≡ onText l s (refuses k)
-unfolding controllerCall
-plain-refused l s h = ap (onText l s) (verdict-refuses h)
-
-plain-read : (l : LentLists) (s : Controller) {text : List ℕ} {e : Expr} → Denotes text e → controllerCall l s (reading text) ≡ onText l s (denotes e)
-unfolding controllerCall
-plain-read l s h = ap (onText l s) (verdict-denotes h)
+use Rattle.text.proofs.Determined.{plain-refused, plain-read}
+use Rattle.text.proofs.Cases.{equation-gives-case}
 
 answer-of : (a : Answer) (s : Controller) → answered a ≡ fromMade (outcome a s) .answer
 answer-of (Id i) s = refl
@@ -43,8 +35,8 @@ module _ (d : ControllerMemory) where
   taken : BothSound d → All (SoundPart model nameModel d) (storePart ∷ namesPart ∷ [])
   taken h = (h .store, (h .names, tt))
 
-pub read-called : ReadsAsCalled
-read-called s d d′ a (unsound n) = record {
+case-called : (s : List ℕ) (d d′ : ControllerMemory) (a : Answer) → ReadingCases s d a d′ → ControllerCalled lentController (reading s) d (answered a) d′
+case-called s d d′ a (unsound n) = record {
   unsound = λ u. (refl, refl);
   answer = λ t. absurd (n (held-of d t));
   left = λ t. absurd (n (held-of d t));
@@ -52,7 +44,7 @@ read-called s d d′ a (unsound n) = record {
   untouched = tt;
   same-lent = refl;
 }
-read-called s d d′ a (refused h r) = record {
+case-called s d d′ a (refused h r) = record {
   unsound = λ u. absurd (u (taken d h));
   answer = λ t. sym (ap (λ (x : AfterCall). x .answer) (plain-refused (lentOf d) (controllerOf d) r));
   left = λ t. sym (ap (λ (x : AfterCall). x .left) (plain-refused (lentOf d) (controllerOf d) r));
@@ -60,7 +52,7 @@ read-called s d d′ a (refused h r) = record {
   untouched = tt;
   same-lent = refl;
 }
-read-called s d d′ a (read h e m) = record {
+case-called s d d′ a (read h e m) = record {
   unsound = λ u. absurd (u (taken d h));
   answer = λ t. answer-of a (controllerOf d′) ∙ ap (λ (x : Made). fromMade x .answer) (m .is) ∙ sym (ap (λ (x : AfterCall). x .answer) (plain-read (lentOf d) (controllerOf d) e));
   left = λ t. left-of a (controllerOf d′) ∙ ap (λ (x : Made). fromMade x .left) (m .is) ∙ sym (ap (λ (x : AfterCall). x .left) (plain-read (lentOf d) (controllerOf d) e));
@@ -72,3 +64,20 @@ read-called s d d′ a (read h e m) = record {
     sounds : (p : Part) → SoundPart model nameModel d p → SoundPart model nameModel d′ p
     sounds storePart g = m .extends .store .sound
     sounds namesPart g = m .extends .names
+
+pub read-called : ReadsAsCalled
+read-called s d d′ a r =
+    let sound : BothSound d → ControllerCalled lentController (reading s) d (answered a) d′ = λ h. case-called s d d′ a (equation-gives-case s d d′ a r (yes h)) in
+    let other : (BothSound d → ⊥) → ControllerCalled lentController (reading s) d (answered a) d′ = λ n. case-called s d d′ a (equation-gives-case s d d′ a r (no n)) in
+    let same : (part : LentLists → ℕ) → part (lentOf d′) ≡ part (lentOf d) = λ part. either _ _ (ℕ-discrete _ _) (λ h. ap part (sound h .same-lent)) (λ n. ap part (other n .same-lent)) in
+    let nodes = same (λ l. l .store .nodes) in
+    let slots = same (λ l. l .store .slots) in
+    let names = same (λ l. l .names) in
+    record {
+      unsound = λ u. other (λ h. u (taken d h)) .unsound u;
+      answer = λ t. sound (held-of d t) .answer t;
+      left = λ t. sound (held-of d t) .left t;
+      sound = λ t. sound (held-of d t) .sound t;
+      untouched = tt;
+      same-lent = λ i. record { store = record { nodes = nodes i; slots = slots i }; names = names i };
+    }

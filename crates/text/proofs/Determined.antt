@@ -1,85 +1,65 @@
--- Two readings of one text on one memory are one.
+-- What extends sound lists is the memory that its nodes and names give: each case of a reading has the equation.
 use Prim.Native.Nat.{ℕ}
 use mathlib.Core.Path.{_≡_, refl, sym, ap, _∙_}
 use mathlib.Core.List.{List}
-use lib.ListN.{length}
-use native.Mathlib.Omega.{arith}
-use Rattle.definitions.specs.Lists.{Controller}
+use Rattle.definitions.specs.Refusals.{notSound}
 use Rattle.definitions.specs.Beside.{beside}
-use Rattle.definitions.specs.Making as Plain
-use Rattle.definitions.specs.Making.{make}
+use Rattle.definitions.specs.Making.{Controller, LentLists, Made, make}
+use Rattle.definitions.specs.Controller.{controllerCall, reading, onText, fromMade}
 use Rattle.store.specs.declared.Answer.{Answer}
 use Rattle.store.specs.declared.Answer.the-variants.{Id, Refused}
-use Rattle.store.specs.Memory.{model, memoryAfter}
+use Rattle.store.specs.Memory.{model}
 use Rattle.store.proofs.Staying.{stays-is}
-use Rattle.names.specs.Sound.{namesOf}
-use Rattle.names.specs.Memory.{nameMemory, nameModel}
-use Rattle.names.proofs.Listing.{names-length}
-use Rattle.names.proofs.Determined.{bytes-same}
+use Rattle.names.specs.Memory.{nameModel}
+use Rattle.names.proofs.Determined.{names-are}
 use Rattle.text_language.specs.Grammar.{Expr}
-use Rattle.text_language.proofs.Reading.{one-refusal, not-both, one-expression}
-use Rattle.text.specs.Memory.{ControllerMemory, controllerOf, lentOf, BothSound, Extends}
+use Rattle.text_language.specs.Reading.{Refuses, Denotes, refuses, denotes}
+use Rattle.text_language.proofs.Reading.{verdict-refuses, verdict-denotes}
+use Rattle.text.specs.Memory.{ControllerMemory, controllerOf, lentOf, controllerAfter, BothSound, Extends}
 use Rattle.text.specs.Making.{outcome, Makes}
-use Rattle.text.specs.Reading.{unsound, refused, read, ReadsOneWay}
+use Rattle.text.specs.Reading.{answered, readingLeft, readingLeftOf, readingLeftBy, unsound, refused, read, CaseGivesEquation}
+use Rattle.text.proofs.Performing.{extends-refl}
 
--- ---- lists that extend the same ones, with the same nodes and names in them
+pub extends-is : (m m′ : ControllerMemory) → BothSound m → Extends m m′ → m′ ≡ controllerAfter m (controllerOf m′)
+extends-is m m′ h f =
+    let store = stays-is (m .store) (m′ .store) (h .store) (f .store) in
+    let names = names-are (m .names) (m′ .names) (f .names) (f .past) in
+    λ i. beside model nameModel (store i) (names i)
 
-module _ (m m′ m″ : ControllerMemory) (h : BothSound m) (f : Extends m m′) (g : Extends m m″) (e : controllerOf m′ ≡ controllerOf m″) where
-  same-store : m′ .store ≡ m″ .store
-  same-store =
-      stays-is (m .store) (m′ .store) (h .store) (f .store)
-      ∙ ap (λ (c : Controller). memoryAfter (m .store) (c .nodes)) e
-      ∙ sym (stays-is (m .store) (m″ .store) (h .store) (g .store))
+-- ---- the plain machine's reading, by what the text meets
 
-  names : namesOf (m′ .names .bytes) (m′ .names .count) ≡ namesOf (m″ .names .bytes) (m″ .names .count)
-  names = ap (λ (c : Controller). c .names) e
+pub plain-refused : (l : LentLists) (s : Controller) {text : List ℕ} {k : ℕ} → Refuses text k → controllerCall l s (reading text) ≡ onText l s (refuses k)
+unfolding controllerCall
+plain-refused l s h = ap (onText l s) (verdict-refuses h)
 
-  many : m′ .names .count ≡ m″ .names .count
-  many = sym (names-length (m′ .names .bytes) (m′ .names .count)) ∙ ap length names ∙ names-length (m″ .names .bytes) (m″ .names .count)
+pub plain-read : (l : LentLists) (s : Controller) {text : List ℕ} {e : Expr} → Denotes text e → controllerCall l s (reading text) ≡ onText l s (denotes e)
+unfolding controllerCall
+plain-read l s h = ap (onText l s) (verdict-denotes h)
 
-  bytes : m′ .names .bytes ≡ m″ .names .bytes
-  bytes =
-      bytes-same (m′ .names .bytes) (m″ .names .bytes) (m′ .names .count) (f .names) (rw many (g .names))
-      (names ∙ ap (namesOf (m″ .names .bytes)) (sym many)) (f .past ∙ (rw many (sym (g .past))))
+-- ---- the equation of each case
 
-  same-names : m′ .names ≡ m″ .names
-  same-names = λ i. nameMemory (bytes i) (many i)
+equation-unsound : (s : List ℕ) (m : ControllerMemory) → (BothSound m → ⊥) → (d : Dec (BothSound m)) → readingLeft (answered (Refused notSound)) m ≡ readingLeftBy s m d
+equation-unsound s m n (yes h) = absurd (n h)
+equation-unsound s m n (no _) = refl
 
-  pub same-memory : m′ ≡ m″
-  same-memory = λ i. beside model nameModel (same-store i) (same-names i)
+equation-refused : (s : List ℕ) (m : ControllerMemory) (k : ℕ) → BothSound m → Refuses s k → (d : Dec (BothSound m)) → readingLeft (answered (Refused k)) m ≡ readingLeftBy s m d
+equation-refused s m k h r (yes _) = ap (readingLeft (answered (Refused k))) (extends-is m m h (extends-refl m h)) ∙ ap (readingLeftOf m) (sym (plain-refused (lentOf m) (controllerOf m) r))
+equation-refused s m k h r (no n) = absurd (n h)
 
--- ---- one answer, one text read twice
+left-as : (m : ControllerMemory) (a : Answer) (c : Controller) → readingLeft (answered a) (controllerAfter m c) ≡ readingLeftOf m (fromMade (outcome a c))
+left-as m (Id i) c = refl
+left-as m (Refused r) c = refl
 
-outcome-answer : (a b : Answer) (s t : Controller) → outcome a s ≡ outcome b t → a ≡ b
-outcome-answer (Id i) (Id j) s t e = let q : i ≡ j = cc in ap Id q
-outcome-answer (Id i) (Refused r) s t e = let z : _≡_ {A = ℕ} 0 1 = cc in absurd (omega arith)
-outcome-answer (Refused r) (Id i) s t e = let z : _≡_ {A = ℕ} 0 1 = cc in absurd (omega arith)
-outcome-answer (Refused r) (Refused k) s t e = let q : r ≡ k = cc in ap Refused q
+equation-read : (s : List ℕ) (m m′ : ControllerMemory) (a : Answer) (e : Expr) → BothSound m → Denotes s e → Makes (make (lentOf m) e (controllerOf m)) m a m′
+    → (d : Dec (BothSound m)) → readingLeft (answered a) m′ ≡ readingLeftBy s m d
+equation-read s m m′ a e h t x (yes _) =
+    ap (readingLeft (answered a)) (extends-is m m′ h (x .extends))
+    ∙ left-as m a (controllerOf m′)
+    ∙ ap (λ (y : Made). readingLeftOf m (fromMade y)) (x .is)
+    ∙ ap (readingLeftOf m) (sym (plain-read (lentOf m) (controllerOf m) t))
+equation-read s m m′ a e h t x (no n) = absurd (n h)
 
-abbrev left-of : Plain.Made → Controller
-left-of (Plain.made i s) = s
-left-of (Plain.stopped r s) = s
-
-outcome-left : (a b : Answer) (s t : Controller) → outcome a s ≡ outcome b t → s ≡ t
-outcome-left (Id i) (Id j) s t e = ap left-of e
-outcome-left (Id i) (Refused r) s t e = ap left-of e
-outcome-left (Refused r) (Id i) s t e = ap left-of e
-outcome-left (Refused r) (Refused k) s t e = ap left-of e
-
-both-read : (s : List ℕ) (m m′ m″ : ControllerMemory) (a b : Answer) (e f : Expr) → BothSound m → e ≡ f → Makes (make (lentOf m) e (controllerOf m)) m a m′
-    → Makes (make (lentOf m) f (controllerOf m)) m b m″ → (a ≡ b) × (m′ ≡ m″)
-both-read s m m′ m″ a b e f h q x y =
-    let o : outcome a (controllerOf m′) ≡ outcome b (controllerOf m″) = x .is ∙ ap (λ (g : Expr). make (lentOf m) g (controllerOf m)) q ∙ sym (y .is) in
-    let c : controllerOf m′ ≡ controllerOf m″ = outcome-left a b (controllerOf m′) (controllerOf m″) o in
-    (outcome-answer a b (controllerOf m′) (controllerOf m″) o, same-memory m m′ m″ h (x .extends) (y .extends) c)
-
-pub reads-one-way : ReadsOneWay
-reads-one-way s m m′ m″ a b (unsound n) (unsound k) = (refl, refl)
-reads-one-way s m m′ m″ a b (unsound n) (refused h r) = absurd (n h)
-reads-one-way s m m′ m″ a b (unsound n) (read h d x) = absurd (n h)
-reads-one-way s m m′ m″ a b (refused h r) (unsound k) = absurd (k h)
-reads-one-way s m m′ m″ a b (refused h r) (refused k q) = (ap Refused (one-refusal r q), refl)
-reads-one-way s m m′ m″ a b (refused h r) (read k d x) = absurd (not-both r d)
-reads-one-way s m m′ m″ a b (read h d x) (unsound k) = absurd (k h)
-reads-one-way s m m′ m″ a b (read h d x) (refused k q) = absurd (not-both q d)
-reads-one-way s m m′ m″ a b (read {e = e} h d x) (read {e = f} k c y) = both-read s m m′ m″ a b e f h (one-expression d c) x y
+pub case-gives-equation : CaseGivesEquation
+case-gives-equation s m m′ a (unsound n) = record { equation = equation-unsound s m n }
+case-gives-equation s m m′ a (refused {k = k} h r) = record { equation = equation-refused s m k h r }
+case-gives-equation s m m′ a (read {e = e} h t x) = record { equation = equation-read s m m′ a e h t x }

@@ -1,8 +1,11 @@
+pub mod StoreCalls
 pub mod Performing
 pub mod Tags
 pub mod Operators
 pub mod Running
 pub mod Answering
 pub mod Below
-pub mod Calling
 pub mod Determined
+pub mod Existing
+pub mod Cases
+pub mod Calling

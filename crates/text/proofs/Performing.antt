@@ -29,6 +29,7 @@ use Rattle.names.specs.declared.Answer.the-variants as named
 use Rattle.names.specs.Sound as Names
 use Rattle.names.specs.Calls as Calls
 use Rattle.names.proofs.Listing.{names-length}
+use Rattle.names.proofs.Clauses.{equation-gives-clauses}
 use Rattle.text_language.specs.Grammar.{constant, variable, negated, linked, raised}
 use Rattle.text_language.specs.Reader.{Got, got, bad, atomOf}
 use Rattle.text_language.specs.Program.{Token, number, name, firstOperator, tokenOf, atomToken, operatorToken, tokenAt}
@@ -113,25 +114,28 @@ module _ (d : ControllerMemory) (h : BothSound d) (w entries : List ℕ) (count 
   abbrev pub after : ControllerMemory
   after = beside model nameModel (d .store) (nameMemory entries count)
 
+  clauses : Calls.CallClauses (d .names .bytes) (d .names .count) (internName w) (Calls.answerOf a []) entries count
+  clauses = equation-gives-clauses (d .names .bytes) (d .names .count) (internName w) (Calls.answerOf a []) entries count c
+
   pub name-extends : Extends d after
   name-extends = record {
     store = stays-refl (d .store) (h .store);
-    names = c .sound (h .names);
+    names = clauses .sound (h .names);
     count =
         let m = more-names (Names.lentEntries (d .names .bytes)) (Names.namesOf (d .names .bytes) (d .names .count)) w in
-        let e = ap (λ (x : List (List ℕ)). length x) (c .names (h .names)) in
+        let e = ap (λ (x : List (List ℕ)). length x) (clauses .names (h .names)) in
         let p = names-length (d .names .bytes) (d .names .count) in
         let q = names-length entries count in
         omega (arith, m, e, p, q);
     long = long;
-    past = c .past;
+    past = clauses .past;
   }
 
   naming-is : naming (lentOf d) w (controllerOf d) ≡ namedAs (model .view (d .store) .nodes) (Calls.answerOf a []) (Names.namesOf entries count)
   unfolding naming
   naming-is =
-      ap (λ (x : Registry.NameAnswer). namedAs (model .view (d .store) .nodes) x (Calls.plainly (d .names .bytes) (d .names .count) (internName w) .names)) (sym (c .answered (h .names)))
-      ∙ ap (namedAs (model .view (d .store) .nodes) (Calls.answerOf a [])) (sym (c .names (h .names)))
+      ap (λ (x : Registry.NameAnswer). namedAs (model .view (d .store) .nodes) x (Calls.plainly (d .names .bytes) (d .names .count) (internName w) .names)) (sym (clauses .answered (h .names)))
+      ∙ ap (namedAs (model .view (d .store) .nodes) (Calls.answerOf a [])) (sym (clauses .names (h .names)))
 
   abbrev on : ℕ → Controller → Plain.Made
   on n t = storing (lentOf d) (M.variable n) t

@@ -1,15 +1,12 @@
 -- A reading as a call of the controller: what the contract of the code gives.
 use mathlib.Core.List.{List}
 use Prim.Native.Nat.{ℕ}
-use Rattle.definitions.specs.Controller.{reading, ControllerAnswer, fromStore}
+use Rattle.definitions.specs.Controller.{reading}
 use Rattle.definitions.specs.Promise.{ControllerCalled}
 use Rattle.store.specs.declared.Answer.{Answer}
-use Rattle.store.specs.Memory.{answerOf}
 use Rattle.text.specs.Memory.{ControllerMemory, lentController}
 use Rattle.text.specs.Reading.{Reads}
-
-abbrev pub answered : Answer → ControllerAnswer
-answered a = fromStore (answerOf a)
+pub use Rattle.text.specs.Reading.{answered}
 
 -- the contract of `read` is what demand 3 takes of a reading
 abbrev pub ReadsAsCalled : Type 0

@@ -8,8 +8,8 @@ use Rattle.definitions.specs.Names.{entryBytes}
 use Rattle.definitions.specs.Lists.{Controller, LentLists}
 use Rattle.definitions.specs.Promise.{ControllerModel}
 use Rattle.definitions.specs.Beside.{Beside, beside, controllerModel}
-use Rattle.store.specs.Memory.{memory, model, Stays}
-use Rattle.names.specs.Memory.{nameMemory, nameModel}
+use Rattle.store.specs.Memory.{memory, model, memoryAfter, Stays}
+use Rattle.names.specs.Memory.{nameMemory, nameModel, namesAfter}
 
 -- the lent words and slots with the store's counts, and beside them the lent name bytes with theirs
 abbrev pub ControllerMemory : Type 0
@@ -28,6 +28,10 @@ controllerOf m = lentController .view m
 
 abbrev pub lentOf : ControllerMemory → LentLists
 lentOf m = lentController .lent m
+
+-- the memory that a plain controller gives over one with at most its nodes and names
+abbrev pub controllerAfter : ControllerMemory → Controller → ControllerMemory
+controllerAfter m s = beside model nameModel (memoryAfter (m .store) (s .nodes)) (namesAfter (m .names) (s .names))
 
 -- the store and the name list are sound
 pub record BothSound (m : ControllerMemory) : Type 0 where
