@@ -14,8 +14,9 @@ use Rattle.definitions.specs.Refusals.{badNameLength, notSound, noNamePlace}
 use Rattle.definitions.specs.Names.{NameCall, internName, lookupName, NameAnswer, numbered, named, refused, NameResult, answers, nameCall, internAt, lookupAt, numberFrom, lengthAllowed, shortestName, longestName, mostNames}
 use Rattle.names.specs.declared.Answer.{Answer}
 use Rattle.names.specs.declared.Answer.the-variants.{Numbered, Unknown, Named, Refused}
-use Rattle.names.specs.Sound.{namesOf, lentEntries}
-use Rattle.names.specs.Calls.{answerOf, Called, plainly}
+use Rattle.names.specs.Sound.{Sound, namesOf, lentEntries}
+use Rattle.names.specs.Memory.{nameMemory, namesAfter, NamesLeft, namesLeft}
+use Rattle.names.specs.Calls.{answerOf, Called, plainly, namesLeftBy}
 use Rattle.calls.specs.declared.handing.LastReply.the-variants as Last
 use Rattle.encoding.specs.Encoding.{bytesOf}
 use Rattle.encoding.specs.Spelling.{mostNameBytes}
@@ -83,7 +84,8 @@ module _ (bytes : List ℕ) (count : ℕ) (c d : NameCall) (a : Answer) (out byt
   no-name : ((b : List ℕ) → plainly bytes count c .answer ≡ named b → ⊥) → Called bytes count c (answerOf a []) bytes′ count′ → (n : ℕ) → a ≡ Named n → ⊥
   no-name never h n q =
       let e : answerOf a [] ≡ named (take n []) = ap (λ (x : Answer). answerOf x []) q in
-      clash _ (take n []) notSound (sym e ∙ h .unsound (λ s. never (take n []) (sym (h .answered s) ∙ e)))
+      let not-sound : Sound bytes count → ⊥ = λ s. never (take n []) (sym (ap (λ (x : NamesLeft). x .answer) (h .equation (yes s))) ∙ e) in
+      clash _ (take n []) notSound (sym e ∙ ap (λ (x : NamesLeft). x .answer) (h .equation (no not-sound)))
 
   beside : (x : Answer) → ((n : ℕ) → x ≡ Named n → ⊥) → answerOf x [] ≡ answerOf x out
   beside (Numbered n) k = refl
@@ -102,16 +104,11 @@ module _ (bytes : List ℕ) (count : ℕ) (c d : NameCall) (a : Answer) (out byt
   as-another : ((b : List ℕ) → plainly bytes count c .answer ≡ named b → ⊥) → plainly bytes count c ≡ plainly bytes count d
       → Called bytes count c (answerOf a []) bytes′ count′ → Called bytes count d (answerOf a out) bytes′ count′
   as-another never same h =
-      subst (λ (x : NameAnswer). Called bytes count d x bytes′ count′) (beside a (no-name never h))
-      (record {
-        unsound = h .unsound;
-        answered = λ s. h .answered s ∙ ap (λ (r : NameResult). r .answer) same;
-        names = λ s. h .names s ∙ ap (λ (r : NameResult). r .names) same;
-        sound = h .sound;
-        same-lent = h .same-lent;
-        past = h .past;
-        refusal = h .refusal;
-      })
+      subst (λ (x : NameAnswer). Called bytes count d x bytes′ count′) (beside a (no-name never h)) (record { equation = by })
+    where
+      by : (x : Dec (Sound bytes count)) → namesLeft (answerOf a []) (nameMemory bytes′ count′) ≡ namesLeftBy d (nameMemory bytes count) x
+      by (yes s) = h .equation (yes s) ∙ ap (λ (r : NameResult). namesLeft (r .answer) (namesAfter (nameMemory bytes count) (r .names))) same
+      by (no n) = h .equation (no n)
 
 module _ (bytes : List ℕ) (count : ℕ) (operands name : List ℕ) (a : Answer) (out bytes′ : List ℕ) (count′ : ℕ) (is : name ≡ take mostNameBytes (bytesOf operands)) where
   pub interns-spelled : Called bytes count (internName name) (answerOf a []) bytes′ count′ → Called bytes count (internName (bytesOf operands)) (answerOf a out) bytes′ count′

@@ -1,24 +1,26 @@
 -- A text typed by operands, and the reading that its first 8,193 bytes stand for.
 use Prim.Native.Nat.{ℕ, _≤_, _<_}
-use mathlib.Core.Path.{_≡_, subst}
+use mathlib.Core.Path.{_≡_, sym, ap, _∙_, subst}
 use mathlib.Core.List.{List}
 use lib.ListN.{length, take}
 use lib.Seq.{take-all, length-take-le}
 use native.Mathlib.Omega.{arith}
 use native.Mathlib.Decide.{decLe}
 use Rattle.store.specs.declared.Answer.{Answer}
-use Rattle.text_language.specs.Reading.{mostBytes, Refuses, long}
-use Rattle.text_language.proofs.Reading.{one-refusal, not-both}
-use Rattle.text.specs.Memory.{ControllerMemory}
-use Rattle.text.specs.Reading.{Reads, unsound, refused, read}
+use Rattle.text_language.specs.Reading.{mostBytes, long}
+use Rattle.text.specs.Memory.{ControllerMemory, controllerOf, lentOf, BothSound}
+use Rattle.text.specs.Reading.{answered, readingLeft, readingLeftOf, readingLeftBy, Reads}
+use Rattle.text.proofs.Determined.{plain-refused}
 use Rattle.encoding.specs.Encoding.{bytesOf}
 use Rattle.encoding.specs.Spelling.{mostTextBytes}
 
 -- a longer text is refused whatever stands past its first bytes
 both-long : (s t : List ℕ) (d d′ : ControllerMemory) (a : Answer) → mostBytes < length s → mostBytes < length t → Reads s d a d′ → Reads t d a d′
-both-long s t d d′ a h k (unsound n) = unsound n
-both-long s t d d′ a h k (refused {k = j} w r) = let e : 1 ≡ j = one-refusal (long h) r in refused w (subst (Refuses t) e (long k))
-both-long s t d d′ a h k (read w e m) = absurd (not-both (long h) e)
+both-long s t d d′ a h k r = record { equation = by }
+  where
+    by : (x : Dec (BothSound d)) → readingLeft (answered a) d′ ≡ readingLeftBy t d x
+    by (yes w) = r .equation (yes w) ∙ ap (readingLeftOf d) (plain-refused (lentOf d) (controllerOf d) (long h) ∙ sym (plain-refused (lentOf d) (controllerOf d) (long k)))
+    by (no n) = r .equation (no n)
 
 first-long : (text : List ℕ) → (length text ≤ mostTextBytes → ⊥) → mostBytes < length (take mostTextBytes text)
 first-long text l = let e : length (take mostTextBytes text) ≡ mostTextBytes = length-take-le mostTextBytes text (omega arith) in omega arith

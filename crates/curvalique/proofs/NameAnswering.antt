@@ -12,7 +12,9 @@ use Rattle.definitions.specs.Refusals.{badNameLength, noNamePlace}
 use Rattle.names.specs.declared.Answer.{Answer}
 use Rattle.names.specs.declared.Answer.the-variants.{Numbered, Unknown, Named, Refused}
 use Rattle.names.specs.declared.NameBytes.{NameBytes}
-use Rattle.names.specs.Calls.{answerOf, Called, NameCalled, plainly, bytesBeside, Fits}
+use Rattle.names.specs.Calls.{answerOf, Called, NameCalled, NameClauses, plainly, bytesBeside, Fits}
+use Rattle.names.specs.Memory.{NamesLeft}
+use Rattle.names.proofs.Clauses.{name-equation-gives-clauses}
 use Rattle.names.specs.Sound.{Sound, lentEntries, namesOf}
 use Rattle.outputs.specs.Calls.{OutputsStay}
 use Rattle.outputs.specs.NameCalls.{nameUnlessRefused, numberIfKnown, nameIfKnown, Known, Padded, nameOutputs}
@@ -85,8 +87,8 @@ module _ (bytes : List ℕ) (count : ℕ) where
   fits : (may : NameAnswer → Bool) (call : NameCall) (answer : NameAnswer) (bytes′ : List ℕ) (count′ : ℕ)
       → may (refused 20) ≡ true → may (plainly bytes count call .answer) ≡ true → Called bytes count call answer bytes′ count′ → may answer ≡ false → ⊥
   fits may call answer bytes′ count′ u p h f =
-      let not-sound : Sound bytes count → ⊥ = λ s. false≢true (sym f ∙ ap may (h .answered s) ∙ p) in
-      false≢true (sym f ∙ ap may (h .unsound not-sound) ∙ u)
+      let not-sound : Sound bytes count → ⊥ = λ s. false≢true (sym f ∙ ap (λ (x : NamesLeft). may (x .answer)) (h .equation (yes s)) ∙ p) in
+      false≢true (sym f ∙ ap (λ (x : NamesLeft). may (x .answer)) (h .equation (no not-sound)) ∙ u)
 
   pub intern-fits : (name : List ℕ) (answer : NameAnswer) (bytes′ : List ℕ) (count′ : ℕ) → Called bytes count (internName name) answer bytes′ count′ → internAnswer answer ≡ false → ⊥
   intern-fits name answer bytes′ count′ = fits internAnswer (internName name) answer bytes′ count′ refl (plain-intern (lentEntries bytes) (namesOf bytes count) name)
@@ -133,8 +135,11 @@ module _ (bytes : List ℕ) (count : ℕ) where
   -- ---- a name, with its bytes
 
   module _ (n : ℕ) (found : NameBytes) (h : NameCalled bytes count n found) where
+    clauses : NameClauses bytes count n found
+    clauses = name-equation-gives-clauses bytes count n found h
+
     given : (answer : Answer) → found .answer ≡ answer → Called bytes count (nameOf n) (answerOf answer (found .bytes)) bytes count
-    given answer e = subst (λ (a : Answer). Called bytes count (nameOf n) (answerOf a (found .bytes)) bytes count) e (h .called)
+    given answer e = subst (λ (a : Answer). Called bytes count (nameOf n) (answerOf a (found .bytes)) bytes count) e (clauses .called)
 
     never-numbered : (number : ℕ) → found .answer ≡ Numbered number → ⊥
     never-numbered number e = name-fits n (numbered number) bytes count (given (Numbered number) e) refl
@@ -144,7 +149,7 @@ module _ (bytes : List ℕ) (count : ℕ) where
     name-unknown size out kept before after e = (given Unknown e, (not-known kept, (λ _ p. absurd (omega arith), λ p. absurd (omega arith))))
 
     padded : (size : ℕ) → found .answer ≡ Named size → Padded 0 1 size (found .bytes)
-    padded size e = λ _ _. (subst Fits e (h .fits), h .beside ∙ ap (λ (a : Answer). bytesBeside (answerOf a (found .bytes))) e)
+    padded size e = λ _ _. (subst Fits e (clauses .fits), clauses .beside ∙ ap (λ (a : Answer). bytesBeside (answerOf a (found .bytes))) e)
 
     name-known : (size : ℕ) (before after before′ after′ : List ℕ) → found .answer ≡ Named size
         → Called bytes count (nameOf n) (nameUnlessRefused 0 (nameIfKnown 1 size (found .bytes))) bytes count × (Known 0 1 before after × (Padded 0 1 size (found .bytes) × OutputsStay 0 before′ after′))

@@ -14,9 +14,10 @@ use Rattle.store.specs.declared.Answer.{Answer}
 use Rattle.store.specs.declared.Answer.the-variants.{Id, Refused}
 use Rattle.store.specs.Memory.{answerOf}
 use Rattle.text_language.specs.Reading.{Refuses, empty, long, outside, deep, nan}
-use Rattle.text.specs.Memory.{ControllerMemory, controllerMemory, controllerOf, lentOf}
+use Rattle.text.specs.Memory.{ControllerMemory, controllerMemory, controllerOf, lentOf, BothSound}
 use Rattle.text.specs.Making.{outcome}
-use Rattle.text.specs.Reading.{Reads, unsound, refused, read}
+use Rattle.text.specs.Reading.{Reads, ReadingCases, unsound, refused, read}
+use Rattle.text.proofs.Cases.{equation-gives-case}
 use Rattle.outputs.specs.Calls.{arenaOf, OutputsStay, Left}
 use Rattle.curvalique.specs.TextCalls.{idUnlessRefused}
 
@@ -43,11 +44,20 @@ made-numbered : (a : Answer) (s : Controller) (plain : Made) → outcome a s ≡
 made-numbered (Id i) s plain e stops = tt
 made-numbered (Refused number) s plain e stops = stop-numbered (stops number (sym (ap (λ (x : Made). fromMade x .answer) e)))
 
-reads-numbered : {s : List ℕ} {d d′ : ControllerMemory} {a : Answer} → Reads s d a d′ → Numbered a
-reads-numbered (unsound n) = λ z. omega arith
-reads-numbered (refused h r) = text-numbered r
-reads-numbered {s} {d} {d′} {a} (read {e} h t m) =
+case-numbered : {s : List ℕ} {d d′ : ControllerMemory} {a : Answer} → ReadingCases s d a d′ → Numbered a
+case-numbered (unsound n) = λ z. omega arith
+case-numbered (refused h r) = text-numbered r
+case-numbered {s} {d} {d′} {a} (read {e} h t m) =
     made-numbered a (controllerOf d′) _ (m .is) (λ number. reading-stops (lentOf d) s e (controllerOf d) number t)
+
+numbered-stable : (a : Answer) → ((Numbered a → ⊥) → ⊥) → Numbered a
+numbered-stable (Id i) h = tt
+numbered-stable (Refused number) h = λ z. h (λ f. f z)
+
+reads-numbered : (s : List ℕ) (d d′ : ControllerMemory) (a : Answer) → Reads s d a d′ → Numbered a
+reads-numbered s d d′ a r =
+    let by : Dec (BothSound d) → Numbered a = λ x. case-numbered (equation-gives-case s d d′ a r x) in
+    numbered-stable a (λ none. none (by (no (λ h. none (by (yes h))))))
 
 -- what stands behind the pointer is the answer's id
 abbrev stored-id : M.Answer → ℕ
@@ -69,7 +79,7 @@ pub read-in-numbers : (s : List ℕ) (d : ControllerMemory) (words slots : List 
     → Reads s d a (controllerMemory words slots arena entries names) → arenaOf count size ≡ arena → Left (answerOf a) r (M.stored id) before after
     → Reads s d (idUnlessRefused r id) (controllerMemory words slots (arenaOf count size) entries names) × OutputsStay r before after
 read-in-numbers s d words slots arena entries names count size a r id before after h e l =
-    let same = same-answer a r id before after (reads-numbered h) l in (
+    let same = same-answer a r id before after (reads-numbered s d (controllerMemory words slots arena entries names) a h) l in (
       subst (λ (x : DagArena). Reads s d (idUnlessRefused r id) (controllerMemory words slots x entries names)) (sym e)
           (subst (λ (x : Answer). Reads s d x (controllerMemory words slots arena entries names)) (sym (same .0)) h),
       same .1,

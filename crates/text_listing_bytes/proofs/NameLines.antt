@@ -12,7 +12,9 @@ use Rattle.definitions.specs.Names.{NameAnswer, numbered, unknown, named, refus
 use Rattle.names.specs.declared.Answer.{Answer}
 use Rattle.names.specs.declared.Answer.the-variants.{Numbered, Unknown, Named, Refused}
 use Rattle.names.specs.declared.NameBytes.{NameBytes}
-use Rattle.names.specs.Calls.{answerOf, NameCalled, Fits}
+use Rattle.names.specs.Calls.{answerOf, NameCalled, NameClauses, Fits}
+use Rattle.names.specs.Memory.{NamesLeft}
+use Rattle.names.proofs.Clauses.{name-equation-gives-clauses}
 use Rattle.names.specs.Sound.{Sound, namesOf, lentEntries}
 use Rattle.names.proofs.Listing.{names-length}
 use Rattle.listing_lines.specs.declared.line.Line.{Line}
@@ -50,8 +52,11 @@ few-bytes (Named n) f = f
 few-bytes (Refused r) f = omega arith
 
 module _ (bytes : List ℕ) (count number : ℕ) (found : NameBytes) (h : NameCalled bytes count number found) (r : ℕ) (q : r ≡ nameLength (found .answer)) where
+  clauses : NameClauses bytes count number found
+  clauses = name-equation-gives-clauses bytes count number found h
+
   pub name-short : r ≤ 32
-  name-short = subst (λ (k : ℕ). k ≤ 32) (sym q) (few-bytes (found .answer) (h .fits))
+  name-short = subst (λ (k : ℕ). k ≤ 32) (sym q) (few-bytes (found .answer) (clauses .fits))
 
   pub name-is : Sound bytes count → number < count → take r (found .bytes) ≡ getD (namesOf bytes count) number []
   unfolding nameCall
@@ -60,7 +65,7 @@ module _ (bytes : List ℕ) (count number : ℕ) (found : NameBytes) (h : NameCa
       let t = lt-ltb number (length (namesOf bytes count)) (omega (arith, e, l)) in
       ap (λ (k : ℕ). take k (found .bytes)) q
       ∙ bytes-are (found .answer) (found .bytes) (getD (namesOf bytes count) number [])
-      (h .called .answered s ∙ ap (λ (b : Bool). cond b (answers (named (getD (namesOf bytes count) number [])) (namesOf bytes count)) (answers unknown (namesOf bytes count)) .answer) t)
+      (ap (λ (x : NamesLeft). x .answer) (clauses .called .equation (yes s)) ∙ ap (λ (b : Bool). cond b (answers (named (getD (namesOf bytes count) number [])) (namesOf bytes count)) (answers unknown (namesOf bytes count)) .answer) t)
 
 -- ---- the line
 

@@ -5,6 +5,7 @@ use Rattle.definitions.specs.Names.{longestName}
 use Rattle.encoding.specs.Encoding.{callOfCode}
 use Rattle.calls.proofs.CodeCalls.{runs-names, last-naming}
 use Rattle.calls.proofs.SpelledNames.{interns-spelled, looks-up-spelled, interned-beside, looked-up-beside}
+use Rattle.names.proofs.Clauses.{name-equation-gives-clauses}
 use borrow.Author.Needs.{needs}
 use Rattle.calls.proofs.naming.call_names.Statement.{statement}
 use Rattle.calls.proofs.naming.call_names.Tie as tie
@@ -17,7 +18,9 @@ same-length c = search needs
 
 returns : tie.Need-returns
 unfolding callOfCode
-returns c = runs-names _ 21 _ _ _ _ _ _ _ (c .before .before .before .if1 .taken) (c .before .name .ensures .called) (c .before .name .ensures .beside, c .before .name .ensures .fits) (λ b high low. refl)
+returns c =
+    let name = name-equation-gives-clauses _ _ _ _ (c .before .name .ensures) in
+    runs-names _ 21 _ _ _ _ _ _ _ (c .before .before .before .if1 .taken) (name .called) (name .beside, name .fits) (λ b high low. refl)
 
 spell-name-requires : tie.Need-spell-name-requires
 spell-name-requires c κs = search needs
