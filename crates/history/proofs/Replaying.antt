@@ -19,8 +19,7 @@ use Rattle.definitions.proofs.Histories.{demand3}
 use Rattle.definitions.proofs.Lifting.{fresh-beside}
 use Rattle.definitions.proofs.Listing.{last-more}
 use Rattle.store.specs.View.{lent}
-use Rattle.store.specs.Memory.{memory, model, memoryAfter, Stays}
-use Rattle.store.proofs.Staying.{stays-is}
+use Rattle.store.specs.Memory.{memory, model}
 use Rattle.builder.specs.declared.opening.FreshStore.{FreshStore}
 use Rattle.builder.specs.declared.opening.FreshStore.the-variants as F
 use Rattle.builder.specs.Opens.{freshAnswer, freshSlots, freshMemory, Opens}
@@ -30,7 +29,8 @@ use Rattle.names.proofs.Modelled.{no-names}
 use Rattle.calls.specs.declared.handing.CallResult.{CallResult}
 use Rattle.calls.specs.declared.handing.LastReply.the-variants as Last
 use Rattle.calls.specs.declared.reply.Reply.the-variants.{Nothing}
-use Rattle.text.specs.Memory.{ControllerMemory, controllerMemory, lentController}
+use Rattle.text.specs.Memory.{ControllerMemory, controllerMemory, lentController, controllerAfter, BothSound, Extends}
+use Rattle.text.proofs.Determined.{extends-is}
 use Rattle.definitions.specs.Beside.{beside}
 use Rattle.calls.specs.Memory.{freshControllerMemory, CallLeaves, done}
 use Rattle.history.specs.declared.Run.{Run}
@@ -41,7 +41,7 @@ use Rattle.encoding.specs.Finding.{WholeCall}
 use Rattle.history.specs.Replaying.{RunsCallAt, after, Continues, RunsAll, lentIn, Promised, NothingRun, Replays}
 use Rattle.history.proofs.Keeping.{history-of}
 use Rattle.calls.proofs.CodeCalls.{store-beside}
-use Rattle.history.proofs.Turns.{turns-more, stays-in-turn, NamesStay, names-in-turn, last-is}
+use Rattle.history.proofs.Turns.{turns-more, extends-in-turn, last-is}
 use Rattle.encoding.proofs.Decoding.{decode-none, decode-some, unread-none, unread-some, none-in-nothing}
 
 -- the calls before a place were run, so many of them, and with those from there on they are all
@@ -131,19 +131,19 @@ pub promised : (words slots bytes : List ℕ) (cs : List ControllerCall) (r : Ca
 promised words slots bytes cs r words′ slots′ bytes′ f e h =
     let fresh = fresh-beside model nameModel (freshMemory words slots) (nameMemory bytes 0) f (no-names bytes) in
     let p = demand3 lentController (freshControllerMemory words slots bytes) cs (h .answers) (h .memories) fresh (history-of (h .left)) in
-    let s : Stays (freshMemory words slots) (memory words′ slots′ (r .arena)) = subst (λ (m : ControllerMemory). Stays (freshMemory words slots) (m .store)) (h .last-memory) (stays-in-turn (h .left) (f .sound)) in
-    let n = subst (λ (m : ControllerMemory). NamesStay (nameMemory bytes 0) (m .names)) (h .last-memory) (names-in-turn (h .left) (no-names bytes .sound)) in
+    let at-first = freshControllerMemory words slots bytes in
+    let both : BothSound at-first = record { store = f .sound; names = no-names bytes .sound } in
+    let extends : Extends at-first (after words′ slots′ bytes′ r) = subst (Extends at-first) (h .last-memory) (extends-in-turn (h .left) both) in
     let plain : Promise (lentIn words slots bytes) cs (h .answers) (map (lentController .view) (h .memories))
     = subst (λ l. Promise (record { store = l; names = lentEntries bytes }) cs (h .answers) (map (lentController .view) (h .memories))) e (p .0) in
-    let nodes : lentController .view (after words′ slots′ bytes′ r) ≡ lastOf emptyController (controllers (lentIn words slots bytes) emptyController cs)
+    let left : lentController .view (after words′ slots′ bytes′ r) ≡ lastOf emptyController (controllers (lentIn words slots bytes) emptyController cs)
     = ap (lentController .view) (sym (h .last-memory)) ∙ view-last (freshControllerMemory words slots bytes) (h .memories) ∙ ap (λ (c : Controller). lastOf c (map (lentController .view) (h .memories))) (fresh .view) ∙ ap (lastOf emptyController) (plain .plain-states) in
     record {
       fresh = fresh;
       run = h;
       promise = plain;
       sound = p .1;
-      store = stays-is (freshMemory words slots) (memory words′ slots′ (r .arena)) (f .sound) s ∙ ap (λ (c : Controller). memoryAfter (freshMemory words slots) (c .nodes)) nodes;
-      bytes-past = n .past;
+      memory = extends-is at-first (after words′ slots′ bytes′ r) both extends ∙ ap (controllerAfter at-first) left;
     }
 
 -- ---- a store that is opened, or not

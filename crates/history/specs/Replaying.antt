@@ -1,5 +1,5 @@
 -- What a list of calls that is run leaves: demand 3's promise.
-use Prim.Native.Nat.{ℕ, _*_}
+use Prim.Native.Nat.{ℕ}
 use mathlib.Core.Path.{_≡_}
 use mathlib.Core.Bool.{true, false}
 use mathlib.Core.Option.{Option, none, some}
@@ -7,13 +7,11 @@ use mathlib.Core.List.{List, [], _∷_, map}
 use lib.ListN.{length, drop, replicate}
 use Rattle.definitions.specs.Refusals.{noSlotPlace}
 use Rattle.definitions.specs.Machine as M
-use Rattle.definitions.specs.Names.{entryBytes, longestName}
+use Rattle.definitions.specs.Names.{longestName}
 use Rattle.definitions.specs.Listing.{lastOf}
 use Rattle.definitions.specs.Controller.{LentLists, ControllerCall, ControllerAnswer, emptyController, controllers, Part}
 use Rattle.definitions.specs.Promise.{FreshController, Promise, All}
 use Rattle.store.specs.View.{lent}
-use Rattle.store.specs.Memory.{memory, memoryAfter}
-use Rattle.builder.specs.Opens.{freshMemory}
 use Rattle.names.specs.Sound.{lentEntries}
 use Rattle.calls.specs.declared.handing.CallResult.{CallResult}
 use Rattle.calls.specs.declared.handing.LastReply.the-variants as Last
@@ -21,7 +19,7 @@ use Rattle.calls.specs.declared.reply.Reply.the-variants.{Nothing}
 use Rattle.history.specs.declared.Run.{Run}
 use Rattle.history.specs.declared.Replayed.{Replayed}
 use Rattle.history.specs.declared.Opening.the-variants.{Opened, Refused}
-use Rattle.text.specs.Memory.{ControllerMemory, controllerMemory, lentController}
+use Rattle.text.specs.Memory.{ControllerMemory, controllerMemory, lentController, controllerAfter}
 use Rattle.calls.specs.Memory.{freshControllerMemory, LeavesInTurn}
 use Rattle.encoding.specs.Encoding.{firstCall, decode, readWords}
 use Rattle.encoding.specs.Finding.{callBetween}
@@ -72,11 +70,9 @@ pub record Promised (words slots bytes : List ℕ) (cs : List ControllerCall) (r
   pub run : Continues (freshControllerMemory words slots bytes) cs r (after words′ slots′ bytes′ r)
   pub promise : Promise (lentIn words slots bytes) cs (run .answers) (map (lentController .view) (run .memories))
   pub sound : All (λ m. (p : Part) → lentController .Sound m p) (run .memories)
-  -- the store after the last is the memory that the plain machine's nodes give over the fresh one
-  pub store : memory words′ slots′ (r .arena) ≡ memoryAfter (freshMemory words slots)
-      (lastOf emptyController (controllers (lentIn words slots bytes) emptyController cs) .nodes)
-  -- bytes past the used entries stay
-  pub bytes-past : drop (r .names * entryBytes) bytes′ ≡ drop (r .names * entryBytes) bytes
+  -- store and names after the last are the memory that the plain machine's nodes and names give over the fresh one
+  pub memory : after words′ slots′ bytes′ r ≡ controllerAfter (freshControllerMemory words slots bytes)
+      (lastOf emptyController (controllers (lentIn words slots bytes) emptyController cs))
 
 -- no call was run: there is no reply, no store and no name
 pub record NothingRun (r : Run) : Type 0 where
