@@ -5,3 +5,4 @@ pub mod SheetAnswers
 pub mod OneRun
 pub mod Beginnings
 pub mod Listings
+pub mod Lists
