@@ -16,7 +16,7 @@ ghost use Rattle.definitions.specs.Walk.{standard};
 ghost use Rattle.store.specs.View.{Sound};
 ghost use Rattle.patterns.specs.Deciding.{Both, declines};
 ghost use Rattle.patterns.specs.Fired.{Fires};
-ghost use Rattle.patterns.specs.Applied.{Operands, Ready, Applies, appliedOf};
+ghost use Rattle.patterns.specs.Applied.{Operands, Ready, Applies};
 use arena::DagArena;
 use arena::kind::ADD;
 use arena::kind::MOD;
@@ -25,8 +25,6 @@ use definitions::mode::Mode;
 use firing::Decision;
 use firing::Fired;
 use firing::Pattern;
-use store::Answer;
-use store::Built;
 
 // What stands in the operator's place: an id; a constant; or a constant and then an operator over it and another operand, the
 // constant on the left or on the right.
@@ -133,26 +131,6 @@ fn pattern(nodes: &[u64], count: u64, mode: Mode, kind: u64, children: &[u32]) -
     }
 }
 
-// What the store built for a pattern, as an answer of try_apply.
-fn answered(built: Built, fired: Fired) -> Applied
-    ensures { λ r. ⌜ r ≡ appliedOf built fired ⌝ }
-{
-    let answer = built.answer;
-    let arena = built.arena;
-    match answer {
-        Answer::Id(id) => Applied {
-            matched: Matched::Id(id),
-            arena,
-            fired,
-        },
-        Answer::Refused(refusal) => Applied {
-            matched: Matched::Refused(refusal),
-            arena,
-            fired: Fired::Nothing,
-        },
-    }
-}
-
 // The first pattern of a mode that fits a kind over new children, carried out.
 pub fn try_apply(
     nodes: &mut [u64],
@@ -173,7 +151,7 @@ pub fn try_apply(
     match result {
         PatternResult::Fits(replacement) => {
             let built = carrying::carry_out(nodes, slots, arena, replacement);
-            answered(built, fired)
+            carrying::answered(built, fired)
         }
         PatternResult::Declined => Applied {
             matched: Matched::Declined,

@@ -2,8 +2,8 @@ use mathlib.Core.Path.{sym, ap}
 use Rattle.store.specs.declared.Answer.{Answer}
 use Rattle.patterns.specs.Applied.{applied}
 use borrow.Author.Needs.{needs}
-use Rattle.patterns.proofs.answered.Statement.{statement}
-use Rattle.patterns.proofs.answered.Tie as tie
+use Rattle.patterns.proofs.carrying.answered.Statement.{statement}
+use Rattle.patterns.proofs.carrying.answered.Tie as tie
 
 enum-known-answer : tie.Need-enum-known-answer
 enum-known-answer c = search needs
