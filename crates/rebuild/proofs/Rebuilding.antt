@@ -175,7 +175,7 @@ module _ (m : Memory) (id : ℕ) (c : List ℕ) (b : Rebuildable m id c) where
       declined words″ slots″ q x = record {
         builds = subst (λ (y : I.Built). Builds (m .words) (m .slots) (m .arena) y words″ slots″ q) (rebuilt-by _ e)
             (subst (λ (y : Memory). Builds (y .words) (y .slots) (y .arena) (rebuilt (lentOf y) (nodesOf y) id c none) words″ slots″ q) (sym unchanged) x);
-        fires = fires-by _ e (nothing-fires _);
+        fires = fires-by Matches.the-variants.Declined e (nothing-fires (rebuilt (lentOf m) (nodesOf m) id c none));
       }
 
   -- ---- marked
