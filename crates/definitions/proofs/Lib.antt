@@ -39,3 +39,4 @@ pub mod SheetCalls
 pub mod Listing
 pub mod NoNaN
 pub mod StrictFits
+pub mod Firing

@@ -6,6 +6,7 @@ pub mod Intern
 pub mod Patterns
 pub mod Strict
 pub mod Walk
+pub mod Firing
 pub mod Modes
 pub mod Prune
 pub mod Threshold

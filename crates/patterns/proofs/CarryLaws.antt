@@ -3,13 +3,15 @@ use Prim.Native.Nat.{ℕ, _/_, _<_}
 use mathlib.Core.Path.{_≡_, refl, sym, ap, ap₂, _∙_, subst}
 use mathlib.Core.Bool.{Bool}
 use mathlib.Core.List.{List}
-use mathlib.Core.Option.{Option, some}
+use mathlib.Core.Option.{some}
 use native.Mathlib.Omega.{arith}
 use Rattle.arena.specs.declared.DagArena.{DagArena}
 use Rattle.arena.specs.Layout.{nodeWords}
 use Rattle.definitions.specs.Node as N
 use Rattle.definitions.specs.Intern as I
-use Rattle.store.specs.View.{nodesIn, lent, Sound, Builds, plainBuilt}
+use Rattle.definitions.specs.Walk.{Mode}
+use Rattle.definitions.specs.Firing.{applyAs, firing}
+use Rattle.store.specs.View.{nodesIn, lent, Sound, Builds, plainBuilt, Kept}
 use Rattle.store.specs.View as View
 use Rattle.store.specs.Lookup.{Fits}
 use Rattle.store.specs.declared.Built.{Built}
@@ -18,26 +20,26 @@ use Rattle.store.specs.declared.Answer.the-variants as A
 use Rattle.store.proofs.Keeping.{kept-refl, kept-trans}
 use Rattle.patterns.specs.Carrying.{TwoOperands, Operand, ReplacementLow, besideConstant, carried, BuildsBy}
 use Rattle.patterns.specs.Deciding.{ResultLow, plainResult}
-use Rattle.patterns.specs.Applied.{Applies, appliedOf, matchedOf, plainMatched, MatchedLow}
+use Rattle.patterns.specs.Fired.{firedOf, Fires}
+use Rattle.patterns.specs.Applied.{Applies, applied, appliedOf}
 use Rattle.patterns.specs.declared.Replacement.{Replacement}
 use Rattle.patterns.specs.declared.Replacement.the-variants.{Id}
 use Rattle.patterns.specs.declared.PatternResult.{PatternResult}
 use Rattle.patterns.specs.declared.PatternResult.the-variants as R
+use Rattle.patterns.specs.declared.firing.Fired.{Fired}
+use Rattle.patterns.specs.declared.firing.Fired.the-variants.{Nothing}
+use Rattle.patterns.specs.declared.firing.Decision.{Decision}
 use Rattle.patterns.specs.declared.Applied.{Applied}
 use Rattle.patterns.specs.declared.Matched.the-variants as M
 
 -- ---- an answer of the store, as one of try_apply
-matched-is : (a : Answer) (ns : List N.Node) → plainMatched (matchedOf a) ns ≡ some (plainBuilt a ns)
-matched-is (A.Id i) ns = refl
-matched-is (A.Refused k) ns = refl
-
-matched-low : (a : Answer) (count : ℕ) → View.Low a count → MatchedLow (matchedOf a) count
-matched-low (A.Id i) count h = h
-matched-low (A.Refused k) count h = tt
-
-not-declined : {B : Type 0} (a : Answer) → matchedOf a ≡ M.Declined → B
-not-declined (A.Id i) e = absurd (let z : _≡_ {A = ℕ} 0 1 = cc in omega arith)
-not-declined (A.Refused k) e = absurd (let z : _≡_ {A = ℕ} 0 1 = cc in omega arith)
+module _ {w slots : List ℕ} {s : DagArena} {m : Mode} {k : ℕ} {c : List ℕ} {w′ slots′ : List ℕ} (f : Fired) where
+  applies-answer : (a : Answer) (t : DagArena) → some (plainBuilt a (nodesIn w′ (t .count))) ≡ applyAs m (lent w slots) (nodesIn w (s .count)) k c
+      → firedOf f ≡ firing m (lent w slots) (nodesIn w (s .count)) k c → Kept w slots s w′ slots′ t → View.Low a (t .count) → Applies m k c w slots s w′ slots′ (applied a t f)
+  applies-answer (A.Id i) t is fires kept low =
+      record { is = is; fired = fires; kept = kept; low = low; same = λ e. absurd (let z : _≡_ {A = ℕ} 0 1 = cc in omega arith) }
+  applies-answer (A.Refused n) t is fires kept low =
+      record { is = is; fired = refl; kept = kept; low = tt; same = λ e. absurd (let z : _≡_ {A = ℕ} 0 1 = cc in omega arith) }
 
 module _ {w slots : List ℕ} {s : DagArena} where
   -- nothing is built
@@ -85,16 +87,21 @@ module _ {w slots : List ℕ} {s : DagArena} where
   carries e {w′} {slots′} {r} b = subst (λ (x : Replacement). BuildsBy (carried x) w slots s w′ slots′ r) (sym e) b
 
   -- ---- the answer of try_apply
-  pub applies-built : {p : PatternResult} {x : Replacement} {plain : Option I.Built} {w′ slots′ : List ℕ} {q : Built} {a : Applied} → p ≡ R.Fits x → plainResult (lent w slots) (nodesIn w (s .count)) p ≡ plain → BuildsBy (carried x) w slots s w′ slots′ q → a ≡ appliedOf q → Applies w slots s plain w′ slots′ a
-  applies-built {plain = plain} {w′ = w′} {slots′ = slots′} {q = q} e f b g = subst (λ (a : Applied). Applies w slots s plain w′ slots′ a) (sym g) (record {
-    is = matched-is (q .answer) (nodesIn w′ (q .arena .count)) ∙ ap some (b .answer) ∙ ap (plainResult (lent w slots) (nodesIn w (s .count))) (sym e) ∙ f;
-    kept = b .kept;
-    low = matched-low (q .answer) (q .arena .count) (b .low);
-    same = λ e. not-declined (q .answer) e;
-  })
+  module _ {m : Mode} {k : ℕ} {c : List ℕ} {d : Decision} (fires : Fires m w (s .count) k c d) where
+    pub applies-built : {x : Replacement} {w′ slots′ : List ℕ} {q : Built} {a : Applied} → d .result ≡ R.Fits x → BuildsBy (carried x) w slots s w′ slots′ q → a ≡ appliedOf q (d .fired) → Applies m k c w slots s w′ slots′ a
+    applies-built {w′ = w′} {slots′ = slots′} {q = q} e b g = subst (λ (a : Applied). Applies m k c w slots s w′ slots′ a) (sym g)
+        (applies-answer (d .fired) (q .answer) (q .arena)
+        (ap some (b .answer) ∙ ap (plainResult (lent w slots) (nodesIn w (s .count))) (sym e) ∙ fires .decides .is (lent w slots))
+        (fires .fired (lent w slots)) (b .kept) (b .low))
 
-  pub applies-none : {p : PatternResult} {plain : Option I.Built} → p ≡ R.Declined → plainResult (lent w slots) (nodesIn w (s .count)) p ≡ plain → Sound w slots s → Applies w slots s plain w slots (record { matched = M.Declined; arena = s })
-  applies-none e f h = record { is = ap (plainResult (lent w slots) (nodesIn w (s .count))) (sym e) ∙ f; kept = kept-refl w slots s h; low = tt; same = λ e. (refl, refl, refl) }
+    pub applies-none : d .result ≡ R.Declined → Sound w slots s → Applies m k c w slots s w slots (record { matched = M.Declined; arena = s; fired = Nothing })
+    applies-none e h = record {
+      is = ap (plainResult (lent w slots) (nodesIn w (s .count))) (sym e) ∙ fires .decides .is (lent w slots);
+      fired = refl;
+      kept = kept-refl w slots s h;
+      low = tt;
+      same = λ e. (refl, refl, refl);
+    }
 
 pub known-low : (count : ℕ) {p q : Replacement} → p ≡ q → ReplacementLow count p → ReplacementLow count q
 known-low count e l = subst (ReplacementLow count) e l

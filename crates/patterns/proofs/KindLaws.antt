@@ -12,16 +12,16 @@ use borrow.Author.Tests.{ne-eqb}
 use Rattle.definitions.specs.Node.{Node, at, addKind, subKind, mulKind, divKind, powKind, negKind}
 use Rattle.definitions.specs.Intern.{Lent, Built}
 use Rattle.definitions.specs.Walk.{Mode, standard, strict}
+use Rattle.definitions.specs.Firing.{applyAs}
 use Rattle.definitions.specs.Strict.{strictIdentities, strictApply}
 use Rattle.definitions.specs.Patterns.{orElse, constantValue, addZero, subIdentity, mulIdentity, divIdentity, powIdentity, negDouble, identities, binary64Result, fold, foldBoth, constantFold, mulCoefMerge, addCoefMerge, merges, tryApply}
 use Rattle.store.specs.View.{nodesIn}
 use Rattle.patterns.specs.Deciding.{Decides, plainResult, declines}
-use Rattle.patterns.specs.Strictly.{applyAs}
 use Rattle.patterns.proofs.StrictLaws.{no-strict-identity}
 use Rattle.patterns.specs.declared.PatternResult.{PatternResult}
 use Rattle.patterns.specs.declared.PatternResult.the-variants.{Fits, Declined}
 
-abbrev Plain : Type 0
+abbrev pub Plain : Type 0
 Plain = Lent → List Node → Option Built
 
 -- ---- first that fits
@@ -112,7 +112,7 @@ no-strict-binary l ns k a b h =
     let f = no-fold k a b (n 2 (omega arith) (omega arith)) (n 3 (omega arith) (omega arith)) (n 4 (omega arith) (omega arith)) (n 5 (omega arith) (omega arith)) l ns in
     rw (← i, ← f) refl
 
-no-pattern : (m : Mode) (l : Lent) (ns : List Node) (k : ℕ) (c : List ℕ) → (length c ≡ 1 → k ≡ negKind → ⊥) → (length c ≡ 2 → (k < addKind) ⊎ (powKind < k)) → none ≡ applyAs m l ns k c
+pub no-pattern : (m : Mode) (l : Lent) (ns : List Node) (k : ℕ) (c : List ℕ) → (length c ≡ 1 → k ≡ negKind → ⊥) → (length c ≡ 2 → (k < addKind) ⊎ (powKind < k)) → none ≡ applyAs m l ns k c
 unfolding applyAs tryApply strictApply
 no-pattern standard l ns k [] u v = refl
 no-pattern standard l ns k (a ∷ []) u v = rw (ne-eqb k negKind (u refl)) refl
@@ -122,40 +122,3 @@ no-pattern strict l ns k [] u v = refl
 no-pattern strict l ns k (a ∷ []) u v = rw (ne-eqb k negKind (u refl)) refl
 no-pattern strict l ns k (a ∷ b ∷ []) u v = no-strict-binary l ns k a b (v refl)
 no-pattern strict l ns k (a ∷ b ∷ c ∷ r) u v = refl
-
--- one child, and two, written out
-one-of : (c : List ℕ) → length c ≡ 1 → c ≡ getD c 0 0 ∷ []
-one-of [] e = absurd (omega arith)
-one-of (a ∷ []) e = refl
-one-of (a ∷ b ∷ c) e = absurd (omega arith)
-
-two-of : (c : List ℕ) → length c ≡ 2 → c ≡ getD c 0 0 ∷ getD c 1 0 ∷ []
-two-of [] e = absurd (omega arith)
-two-of (a ∷ []) e = absurd (omega arith)
-two-of (a ∷ b ∷ []) e = refl
-two-of (a ∷ b ∷ c ∷ d) e = absurd (omega arith)
-
--- an operator of two operands in a mode
-pub standard-applies : {m : Mode} → m ≡ standard → (k : ℕ) (c : List ℕ) (l : Lent) (ns : List Node) → tryApply l ns k c ≡ applyAs m l ns k c
-unfolding applyAs
-standard-applies e k c l ns = rw e refl
-
-pub strict-applies : {m : Mode} → m ≡ strict → (k : ℕ) (c : List ℕ) (l : Lent) (ns : List Node) → strictApply l ns k c ≡ applyAs m l ns k c
-unfolding applyAs
-strict-applies e k c l ns = rw e refl
-
-module _ (m : Mode) (k : ℕ) (c : List ℕ) where
-  negated : (m : Mode) (l : Lent) (ns : List Node) (a : ℕ) → negDouble ns a ≡ applyAs m l ns negKind (a ∷ [])
-  unfolding applyAs tryApply strictApply
-  negated standard l ns a = refl
-  negated strict l ns a = refl
-
-  pub one-child : length c ≡ 1 → k ≡ negKind → (l : Lent) (ns : List Node) → negDouble ns (getD c 0 0) ≡ applyAs m l ns k c
-  one-child e h l ns = rw h (negated m l ns (getD c 0 0) ∙ ap (applyAs m l ns negKind) (sym (one-of c e)))
-
-  pub two-children : length c ≡ 2 → (l : Lent) (ns : List Node) → applyAs m l ns k (getD c 0 0 ∷ getD c 1 0 ∷ []) ≡ applyAs m l ns k c
-  two-children e l ns = ap (applyAs m l ns k) (sym (two-of c e))
-
-  -- no pattern for the number of children, or for the kind
-  pub nothing-fits : (length c ≡ 1 → k ≡ negKind → ⊥) → (length c ≡ 2 → (k < addKind) ⊎ (powKind < k)) → (l : Lent) (ns : List Node) → none ≡ applyAs m l ns k c
-  nothing-fits u v l ns = no-pattern m l ns k c u v

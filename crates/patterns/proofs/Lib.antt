@@ -5,4 +5,5 @@ pub mod FoldLaws
 pub mod MergeLaws
 pub mod StrictLaws
 pub mod KindLaws
+pub mod FiringLaws
 pub mod CarryLaws

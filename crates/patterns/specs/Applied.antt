@@ -8,11 +8,16 @@ use Rattle.arena.specs.declared.DagArena.{DagArena}
 use Rattle.definitions.specs.Limits.{mostChildren}
 use Rattle.definitions.specs.Node.{Node}
 use Rattle.definitions.specs.Intern as I
-use Rattle.store.specs.View.{nodesIn, Kept}
+use Rattle.definitions.specs.Walk.{Mode}
+use Rattle.definitions.specs.Firing.{Pattern, applyAs, firing}
+use Rattle.store.specs.View.{nodesIn, lent, Kept}
 use Rattle.store.specs.Lookup.{Lookup}
 use Rattle.store.specs.declared.Built.{Built}
 use Rattle.store.specs.declared.Answer.{Answer}
 use Rattle.store.specs.declared.Answer.the-variants as A
+use Rattle.patterns.specs.Fired.{firedOf}
+use Rattle.patterns.specs.declared.firing.Fired.{Fired}
+use Rattle.patterns.specs.declared.firing.Fired.the-variants.{Nothing}
 use Rattle.patterns.specs.declared.Applied.{Applied}
 use Rattle.patterns.specs.declared.Matched.{Matched}
 use Rattle.patterns.specs.declared.Matched.the-variants.{Declined, Id, Refused}
@@ -38,20 +43,24 @@ MatchedLow Declined count = Unit {0}
 MatchedLow (Id i) count = i < count
 MatchedLow (Refused k) count = Unit {0}
 
--- the answer and the store after it are the plain machine's; where no pattern fits nothing changes
-pub record Applies (w slots : List ℕ) (s : DagArena) (plain : Option I.Built) (w′ slots′ : List ℕ) (r : Applied) : Type 0 where
-  pub is : plainMatched (r .matched) (nodesIn w′ (r .arena .count)) ≡ plain
+-- what fires at an answer: nothing where it is stopped
+abbrev pub firesAt : Matched → Option Pattern → Option Pattern
+firesAt Declined p = none
+firesAt (Id i) p = p
+firesAt (Refused k) p = none
+
+-- the answer, the store after it and the pattern that fired are the plain machine's; where no pattern fits nothing changes
+pub record Applies (m : Mode) (k : ℕ) (c : List ℕ) (w slots : List ℕ) (s : DagArena) (w′ slots′ : List ℕ) (r : Applied) : Type 0 where
+  pub is : plainMatched (r .matched) (nodesIn w′ (r .arena .count)) ≡ applyAs m (lent w slots) (nodesIn w (s .count)) k c
+  pub fired : firedOf (r .fired) ≡ firesAt (r .matched) (firing m (lent w slots) (nodesIn w (s .count)) k c)
   pub kept : Kept w slots s w′ slots′ (r .arena)
   pub low : MatchedLow (r .matched) (r .arena .count)
   pub same : r .matched ≡ Declined → (w′ ≡ w) × (slots′ ≡ slots) × (r .arena ≡ s)
 
--- what the store built, as an answer
-abbrev pub matchedOf : Answer → Matched
-matchedOf (A.Id i) = Id i
-matchedOf (A.Refused k) = Refused k
+-- what the store built for a pattern, as an answer
+abbrev pub applied : Answer → DagArena → Fired → Applied
+applied (A.Id i) s f = record { matched = Id i; arena = s; fired = f }
+applied (A.Refused k) s f = record { matched = Refused k; arena = s; fired = Nothing }
 
-abbrev pub applied : Answer → DagArena → Applied
-applied a s = record { matched = matchedOf a; arena = s }
-
-abbrev pub appliedOf : Built → Applied
-appliedOf b = applied (b .answer) (b .arena)
+abbrev pub appliedOf : Built → Fired → Applied
+appliedOf b f = applied (b .answer) (b .arena) f

@@ -1,5 +1,6 @@
 pub mod Reading
 pub mod Carrying
 pub mod Deciding
+pub mod Fired
 pub mod Applied
 pub mod Strictly

@@ -1,8 +1,13 @@
 // Carrying out a replacement through the store, which alone makes nodes.
+ghost use mathlib.Core.Path.{_≡_};
 ghost use mathlib.Core.List.{[], _∷_};
 ghost use Rattle.store.specs.View.{Sound};
+ghost use Rattle.patterns.specs.Applied.{appliedOf};
 ghost use Rattle.patterns.specs.Carrying.{BuildsBy, constantOf, operatorOf, besideConstant, carried, Number, ReplacementLow, Operand, TwoOperands};
+use crate::Applied;
+use crate::Matched;
 use crate::Replacement;
+use crate::firing::Fired;
 use arena::DagArena;
 use arena::REORDERABLE;
 use arena::kind::CONSTANT;
@@ -101,5 +106,25 @@ pub(crate) fn carry_out(
             other,
             false,
         ),
+    }
+}
+
+// What the store built for a pattern, as an answer of try_apply.
+pub(crate) fn answered(built: Built, fired: Fired) -> Applied
+    ensures { λ r. ⌜ r ≡ appliedOf built fired ⌝ }
+{
+    let answer = built.answer;
+    let arena = built.arena;
+    match answer {
+        Answer::Id(id) => Applied {
+            matched: Matched::Id(id),
+            arena,
+            fired,
+        },
+        Answer::Refused(refusal) => Applied {
+            matched: Matched::Refused(refusal),
+            arena,
+            fired: Fired::Nothing,
+        },
     }
 }

@@ -1,7 +1,9 @@
 // The patterns of patterns.rs over the store, first that fits: identities, then folding, then merging; and the strict ones of 02 (i). Each
-// pattern decides over the nodes as they are what is to stand in an operator's place; `carry_out` then makes it.
+// pattern decides over the nodes as they are what is to stand in an operator's place; `carry_out` then makes it. Which pattern it is goes
+// with the decision.
 mod carrying;
 mod constants;
+pub mod firing;
 mod folding;
 mod identities;
 mod merging;
@@ -9,20 +11,20 @@ mod strict;
 
 ghost use mathlib.Core.Path.{_≡_};
 ghost use mathlib.Core.List.{[], _∷_};
-ghost use lib.ListN.{take};
 ghost use Rattle.definitions.specs.Modes.{modeOf};
-ghost use Rattle.definitions.specs.Patterns as P;
-ghost use Rattle.store.specs.View.{nodesIn, lent, Sound};
-ghost use Rattle.patterns.specs.Deciding.{Both, Decides, declines};
-ghost use Rattle.patterns.specs.Applied.{Operands, Ready, Applies, appliedOf};
-ghost use Rattle.patterns.specs.Strictly.{applyAs};
+ghost use Rattle.definitions.specs.Walk.{standard};
+ghost use Rattle.store.specs.View.{Sound};
+ghost use Rattle.patterns.specs.Deciding.{Both, declines};
+ghost use Rattle.patterns.specs.Fired.{Fires};
+ghost use Rattle.patterns.specs.Applied.{Operands, Ready, Applies};
 use arena::DagArena;
 use arena::kind::ADD;
 use arena::kind::MOD;
 use arena::kind::NEG;
 use definitions::mode::Mode;
-use store::Answer;
-use store::Built;
+use firing::Decision;
+use firing::Fired;
+use firing::Pattern;
 
 // What stands in the operator's place: an id; a constant; or a constant and then an operator over it and another operand, the
 // constant on the left or on the right.
@@ -45,9 +47,11 @@ pub enum Matched {
     Refused(u64),
 }
 
+// 02 (k): "A rule fires when a finished frame takes its result, so not when stopped by 21 or 22."
 pub struct Applied {
     pub matched: Matched,
     pub arena: DagArena,
+    pub fired: Fired,
 }
 
 // Whether a pattern does not fit.
@@ -61,19 +65,20 @@ pub(crate) fn declined(result: PatternResult) -> bool
 }
 
 // The first pattern that fits an operator of two operands.
-fn binary_pattern(nodes: &[u64], count: u64, kind: u64, lhs: u64, rhs: u64) -> PatternResult
+fn binary_pattern(nodes: &[u64], count: u64, kind: u64, lhs: u64, rhs: u64) -> Decision
     requires { ⌜ Both (now nodes) count lhs rhs ⌝ }
-    ensures { λ r. ⌜ Decides (now (nodes .entry)) count (λ l ns. P.tryApply l ns kind (lhs ∷ rhs ∷ [])) r ⌝ }
+    ensures { λ r. ⌜ Fires standard (now (nodes .entry)) count kind (lhs ∷ rhs ∷ []) r ⌝ }
 {
     let identity = identities::identity(nodes, count, kind, lhs, rhs);
     if !declined(identity) {
-        return identity;
+        return firing::named(identity, firing::first_function(kind));
     }
     let folded = folding::constant_fold(nodes, count, kind, lhs, rhs);
     if !declined(folded) {
-        return folded;
+        return firing::named(folded, Pattern::ConstantFold);
     }
-    merging::merge(nodes, count, kind, lhs, rhs)
+    let merged = merging::merge(nodes, count, kind, lhs, rhs);
+    firing::named(merged, firing::merge_function(kind))
 }
 
 // The first pattern of a mode that fits an operator of two operands.
@@ -84,9 +89,9 @@ fn operator_pattern(
     kind: u64,
     lhs: u64,
     rhs: u64,
-) -> PatternResult
+) -> Decision
     requires { ⌜ Both (now nodes) count lhs rhs ⌝ }
-    ensures { λ r. ⌜ Decides (now (nodes .entry)) count (λ l ns. applyAs (modeOf mode) l ns kind (lhs ∷ rhs ∷ [])) r ⌝ }
+    ensures { λ r. ⌜ Fires (modeOf mode) (now (nodes .entry)) count kind (lhs ∷ rhs ∷ []) r ⌝ }
 {
     match mode {
         Mode::Standard => binary_pattern(nodes, count, kind, lhs, rhs),
@@ -95,16 +100,17 @@ fn operator_pattern(
 }
 
 // The first pattern that fits a kind over its children. Only operators have patterns.
-fn pattern(nodes: &[u64], count: u64, mode: Mode, kind: u64, children: &[u32]) -> PatternResult
+fn pattern(nodes: &[u64], count: u64, mode: Mode, kind: u64, children: &[u32]) -> Decision
     requires { ⌜ Ready (now nodes) count (now children) ⌝ }
-    ensures { λ r. ⌜ Decides (now (nodes .entry)) count (λ l ns. applyAs (modeOf mode) l ns kind (now (children .entry))) r ⌝ }
+    ensures { λ r. ⌜ Fires (modeOf mode) (now (nodes .entry)) count kind (now (children .entry)) r ⌝ }
 {
     match kind {
         NEG => {
             if children.len() == 1 {
-                identities::neg_double(nodes, count, children[0] as u64)
+                let double = identities::neg_double(nodes, count, children[0] as u64);
+                firing::named(double, Pattern::NegDouble)
             } else {
-                PatternResult::Declined
+                firing::nothing_fits()
             }
         }
         ADD..=MOD => {
@@ -118,28 +124,10 @@ fn pattern(nodes: &[u64], count: u64, mode: Mode, kind: u64, children: &[u32]) -
                     children[1] as u64,
                 )
             } else {
-                PatternResult::Declined
+                firing::nothing_fits()
             }
         }
-        _ => PatternResult::Declined,
-    }
-}
-
-// What the store built, as an answer of try_apply.
-fn answered(built: Built) -> Applied
-    ensures { λ r. ⌜ r ≡ appliedOf built ⌝ }
-{
-    let answer = built.answer;
-    let arena = built.arena;
-    match answer {
-        Answer::Id(id) => Applied {
-            matched: Matched::Id(id),
-            arena,
-        },
-        Answer::Refused(refusal) => Applied {
-            matched: Matched::Refused(refusal),
-            arena,
-        },
+        _ => firing::nothing_fits(),
     }
 }
 
@@ -153,22 +141,22 @@ pub fn try_apply(
     children: &[u32],
 ) -> Applied
     requires { ⌜ Operands (arena .count) (now children) × Sound (now nodes) (now slots) arena ⌝ }
-    ensures { λ r. ⌜ Applies (now (nodes .entry)) (now (slots .entry)) arena
-        (applyAs (modeOf mode) (lent (now (nodes .entry)) (now (slots .entry))) (nodesIn (now (nodes .entry)) (arena .count)) kind
-        (now (children .entry))) (now (nodes .exit)) (now (slots .exit)) r ⌝ }
+    ensures { λ r. ⌜ Applies (modeOf mode) kind (now (children .entry)) (now (nodes .entry)) (now (slots .entry)) arena (now (nodes .exit))
+        (now (slots .exit)) r ⌝ }
 {
     let count = arena.count;
-    let result = pattern(nodes, count, mode, kind, children);
+    let decision = pattern(nodes, count, mode, kind, children);
+    let result = decision.result;
+    let fired = decision.fired;
     match result {
-        PatternResult::Fits(replacement) => answered(carrying::carry_out(
-            nodes,
-            slots,
-            arena,
-            replacement,
-        )),
+        PatternResult::Fits(replacement) => {
+            let built = carrying::carry_out(nodes, slots, arena, replacement);
+            carrying::answered(built, fired)
+        }
         PatternResult::Declined => Applied {
             matched: Matched::Declined,
             arena,
+            fired: Fired::Nothing,
         },
     }
 }

@@ -3,13 +3,19 @@ ghost use mathlib.Core.Path.{_≡_};
 ghost use mathlib.Core.List.{[], _∷_};
 ghost use Rattle.definitions.specs.Node as N;
 ghost use Rattle.definitions.specs.Strict as S;
+ghost use Rattle.definitions.specs.Walk.{strict};
 ghost use Rattle.store.specs.View.{nodesIn};
 ghost use Rattle.store.specs.Lookup.{Lookup};
 ghost use Rattle.patterns.specs.Deciding.{Both, Decides};
+ghost use Rattle.patterns.specs.Fired.{Fires};
 ghost use Rattle.patterns.specs.Strictly.{neutral, eitherNeutral};
 use crate::PatternResult;
 use crate::Replacement;
 use crate::declined;
+use crate::firing::Decision;
+use crate::firing::Pattern;
+use crate::firing::first_function;
+use crate::firing::named;
 use crate::folding::constant_fold;
 use arena::kind::ADD;
 use arena::kind::CONSTANT;
@@ -74,19 +80,14 @@ fn strict_identity(nodes: &[u64], count: u64, kind: u64, lhs: u64, rhs: u64) -> 
 }
 
 // The strict pattern that fits an operator of two operands. Folding declines a NaN and either zero as divisor.
-pub(crate) fn strict_pattern(
-    nodes: &[u64],
-    count: u64,
-    kind: u64,
-    lhs: u64,
-    rhs: u64,
-) -> PatternResult
+pub(crate) fn strict_pattern(nodes: &[u64], count: u64, kind: u64, lhs: u64, rhs: u64) -> Decision
     requires { ⌜ Both (now nodes) count lhs rhs ⌝ }
-    ensures { λ r. ⌜ Decides (now (nodes .entry)) count (λ l ns. S.strictApply l ns kind (lhs ∷ rhs ∷ [])) r ⌝ }
+    ensures { λ r. ⌜ Fires strict (now (nodes .entry)) count kind (lhs ∷ rhs ∷ []) r ⌝ }
 {
     let identity = strict_identity(nodes, count, kind, lhs, rhs);
     if !declined(identity) {
-        return identity;
+        return named(identity, first_function(kind));
     }
-    constant_fold(nodes, count, kind, lhs, rhs)
+    let folded = constant_fold(nodes, count, kind, lhs, rhs);
+    named(folded, Pattern::ConstantFold)
 }

@@ -13,10 +13,10 @@ use Rattle.definitions.specs.Node as N
 use Rattle.definitions.specs.Node.{sameChildren, at, addKind, mulKind}
 use Rattle.definitions.specs.Intern as I
 use Rattle.definitions.specs.Intern.{built}
-use Rattle.definitions.specs.Patterns.{tryApply}
-use Rattle.definitions.specs.Strict.{strictApply}
 use Rattle.definitions.specs.Walk as W
-use Rattle.definitions.specs.Walk.{Mode, standard, strict, rebuilt, rebuildAs, rebuildOrMatch, rebuildStrictly, rebuiltFlags}
+use Rattle.definitions.specs.Walk.{Mode, standard, strict, rebuilt, rebuildAs, rebuiltFlags}
+use Rattle.definitions.specs.Firing.{Pattern, applyAs, firing, taken, frameFiring}
+use Rattle.definitions.proofs.Firing.{exactly, rebuilt-as}
 use Rattle.definitions.proofs.StrictMarks.{unmarked-set}
 use Rattle.store.specs.View.{nodesIn, lent, Builds, listed, plainBuilt, Low}
 use Rattle.store.specs.Lookup.{Lookup, Marked, Fits}
@@ -26,13 +26,14 @@ use Rattle.store.specs.declared.Answer.the-variants.{Id, Refused}
 use Rattle.store.proofs.Reading as R
 use Rattle.store.proofs.Keeping.{kept-refl, kept-trans}
 use Rattle.patterns.specs.Applied as A
-use Rattle.patterns.specs.Applied.{Applies, Operands, plainMatched}
-use Rattle.patterns.specs.Strictly.{applyAs}
+use Rattle.patterns.specs.Applied.{Applies, Operands, plainMatched, firesAt}
+use Rattle.patterns.specs.Fired.{firedOf}
 use Rattle.patterns.specs.declared.Matched.{Matched}
 use Rattle.patterns.specs.declared.Matched as Matches
 use Rattle.patterns.specs.declared.Applied.{Applied}
 use Rattle.rebuild.specs.Memory.{Memory, memory, nodesOf, lentOf}
-use Rattle.rebuild.specs.Rebuild.{Rebuildable, finished, MarkedAs, Finishes}
+use Rattle.rebuild.specs.Rebuild.{Rebuildable, Rebuilds, finished, MarkedAs, Finishes}
+use Rattle.rebuild.specs.declared.Finished.{Finished}
 
 -- ---- the flags of a rebuilt node
 
@@ -118,66 +119,83 @@ module _ (m : Memory) (id : ℕ) (c : List ℕ) (b : Rebuildable m id c) where
   pub operands : Operands (m .arena .count) c
   operands = record { few = few; low = b .lower }
 
-  module _ (kind : ℕ) (ek : kind ≡ at (nodesOf m) id .kind) where
-    -- a rebuild has the patterns of its mode
-    by-mode : (mode : Mode) → rebuilt (lentOf m) (nodesOf m) id c (applyAs mode (lentOf m) (nodesOf m) (n .kind) c) ≡ rebuildAs mode (lentOf m) (nodesOf m) id c
-    unfolding applyAs rebuildOrMatch rebuildStrictly
-    by-mode standard = refl
-    by-mode strict = refl
+  module _ (kind : ℕ) (ek : kind ≡ at (nodesOf m) id .kind) (mode : Mode) (words′ slots′ : List ℕ) (r : Applied)
+      (applies : Applies mode kind c (m .words) (m .slots) (m .arena) words′ slots′ r) where
+    abbrev here : Memory
+    here = memory words′ slots′ (r .arena)
 
-    tried : (mode : Mode) (o : Option I.Built) → o ≡ applyAs mode (lentOf m) (nodesOf m) kind c
-        → rebuilt (lentOf m) (nodesOf m) id c o ≡ rebuildAs mode (lentOf m) (nodesOf m) id c
-    tried mode o e = ap (rebuilt (lentOf m) (nodesOf m) id c) (e ∙ ap (λ (x : ℕ). applyAs mode (lentOf m) (nodesOf m) x c) ek) ∙ by-mode mode
+    abbrev fits-as : Option Pattern
+    fits-as = firing mode (lentOf m) (nodesOf m) (n .kind) c
 
-    module _ (mode : Mode) (words′ slots′ : List ℕ) (r : Applied)
-        (applies : Applies (m .words) (m .slots) (m .arena) (applyAs mode (lentOf m) (nodesOf m) kind c) words′ slots′ r) where
-      abbrev here : Memory
-      here = memory words′ slots′ (r .arena)
+    module _ (x : Matched) (e : r .matched ≡ x) where
+      matched-as : plainMatched x (nodesOf here) ≡ applyAs mode (lentOf m) (nodesOf m) (n .kind) c
+      matched-as =
+          ap (λ (y : Matched). plainMatched y (nodesOf here)) (sym e) ∙ applies .is ∙ ap (λ (y : ℕ). applyAs mode (lentOf m) (nodesOf m) y c) ek
 
-      matched-as : (x : Matched) → r .matched ≡ x → plainMatched x (nodesOf here) ≡ applyAs mode (lentOf m) (nodesOf m) kind c
-      matched-as x e = ap (λ (y : Matched). plainMatched y (nodesOf here)) (sym e) ∙ applies .is
+      rebuilt-by : rebuilt (lentOf m) (nodesOf m) id c (plainMatched x (nodesOf here)) ≡ rebuildAs mode (lentOf m) (nodesOf m) id c
+      rebuilt-by = ap (rebuilt (lentOf m) (nodesOf m) id c) matched-as ∙ rebuilt-as mode (lentOf m) (nodesOf m) id c
 
-      pub result : (i : ℕ) → r .matched ≡ Matches.the-variants.Id i
-          → Builds (m .words) (m .slots) (m .arena) (rebuildAs mode (lentOf m) (nodesOf m) id c) words′ slots′ (record { answer = Id i; arena = r .arena })
-      result i e = record {
-        answer = tried mode _ (matched-as _ e);
-        kept = applies .kept;
-        low = subst (λ (x : Matched). A.MatchedLow x (r .arena .count)) e (applies .low);
+      -- what fires over the answer is what fires at the frame
+      fires-by : firesAt x fits-as ≡ taken (rebuilt (lentOf m) (nodesOf m) id c (plainMatched x (nodesOf here))) fits-as → firedOf (r .fired) ≡ frameFiring mode (lentOf m) (nodesOf m) id c
+      unfolding frameFiring
+      fires-by at-frame =
+          applies .fired ∙ ap (λ (y : Matched). firesAt y (firing mode (lentOf m) (nodesOf m) kind c)) e
+          ∙ ap (λ (y : ℕ). firesAt x (firing mode (lentOf m) (nodesOf m) y c)) ek
+          ∙ at-frame ∙ ap (λ (y : I.Built). taken y fits-as) rebuilt-by
+
+    pub result : (i : ℕ) → r .matched ≡ Matches.the-variants.Id i
+        → Rebuilds mode m id c words′ slots′ (record { answer = Id i; arena = r .arena; fired = r .fired })
+    result i e = record {
+      builds = record { answer = rebuilt-by _ e; kept = applies .kept; low = subst (λ (x : Matched). A.MatchedLow x (r .arena .count)) e (applies .low) };
+      fires = fires-by _ e refl;
+    }
+
+    pub refusal : (i : ℕ) → r .matched ≡ Matches.the-variants.Refused i
+        → Rebuilds mode m id c words′ slots′ (record { answer = Refused i; arena = r .arena; fired = r .fired })
+    refusal i e = record { builds = record { answer = rebuilt-by _ e; kept = applies .kept; low = tt }; fires = fires-by _ e refl }
+
+    module _ (e : r .matched ≡ Matches.the-variants.Declined) where
+      unchanged : m ≡ memory words′ slots′ (r .arena)
+      unchanged = sym (λ i. memory (applies .same e .0 i) (applies .same e .1 i) (applies .same e .2 i))
+
+      pub still : Rebuildable (memory words′ slots′ (r .arena)) id c
+      still = subst (λ (x : Memory). Rebuildable x id c) unchanged b
+
+      nothing-taken : (y : I.Built) → none ≡ taken y none
+      nothing-taken (I.built ns i) = refl
+      nothing-taken (I.stopped ns k) = refl
+
+      nothing-fires : (y : I.Built) → none ≡ taken y fits-as
+      nothing-fires y =
+          subst (λ (o : Option Pattern). none ≡ taken y o) (sym (exactly mode (lentOf m) (nodesOf m) (n .kind) c .1 (sym (matched-as _ e)))) (nothing-taken y)
+
+      pub declined : (words″ slots″ : List ℕ) (q : Built)
+          → Builds words′ slots′ (r .arena) (rebuilt (lent words′ slots′) (nodesIn words′ (r .arena .count)) id c none) words″ slots″ q
+          → Rebuilds mode m id c words″ slots″ (record { answer = q .answer; arena = q .arena; fired = r .fired })
+      declined words″ slots″ q x = record {
+        builds = subst (λ (y : I.Built). Builds (m .words) (m .slots) (m .arena) y words″ slots″ q) (rebuilt-by _ e)
+            (subst (λ (y : Memory). Builds (y .words) (y .slots) (y .arena) (rebuilt (lentOf y) (nodesOf y) id c none) words″ slots″ q) (sym unchanged) x);
+        fires = fires-by Matches.the-variants.Declined e (nothing-fires (rebuilt (lentOf m) (nodesOf m) id c none));
       }
-
-      pub refusal : (i : ℕ) → r .matched ≡ Matches.the-variants.Refused i
-          → Builds (m .words) (m .slots) (m .arena) (rebuildAs mode (lentOf m) (nodesOf m) id c) words′ slots′ (record { answer = Refused i; arena = r .arena })
-      refusal i e = record { answer = tried mode _ (matched-as _ e); kept = applies .kept; low = tt }
-
-      module _ (e : r .matched ≡ Matches.the-variants.Declined) where
-        unchanged : m ≡ memory words′ slots′ (r .arena)
-        unchanged = sym (λ i. memory (applies .same e .0 i) (applies .same e .1 i) (applies .same e .2 i))
-
-        pub still : Rebuildable (memory words′ slots′ (r .arena)) id c
-        still = subst (λ (x : Memory). Rebuildable x id c) unchanged b
-
-        pub declined : (words″ slots″ : List ℕ) (q : Built)
-            → Builds words′ slots′ (r .arena) (rebuilt (lent words′ slots′) (nodesIn words′ (r .arena .count)) id c none) words″ slots″ q
-            → Builds (m .words) (m .slots) (m .arena) (rebuildAs mode (lentOf m) (nodesOf m) id c) words″ slots″ q
-        declined words″ slots″ q x =
-            subst (λ (y : I.Built). Builds (m .words) (m .slots) (m .arena) y words″ slots″ q) (tried mode none (matched-as _ e))
-            (subst (λ (y : Memory). Builds (y .words) (y .slots) (y .arena) (rebuilt (lentOf y) (nodesOf y) id c none) words″ slots″ q) (sym unchanged) x)
 
   -- ---- marked
 
-  module _ (mode : Mode) (words′ slots′ : List ℕ) (r : Built)
-      (builds : Builds (m .words) (m .slots) (m .arena) (rebuildAs mode (lentOf m) (nodesOf m) id c) words′ slots′ r) where
+  module _ (mode : Mode) (words′ slots′ : List ℕ) (r : Finished) (rebuilds : Rebuilds mode m id c words′ slots′ r) where
     abbrev between : Memory
     between = memory words′ slots′ (r .arena)
+
+    abbrev builds : Builds (m .words) (m .slots) (m .arena) (rebuildAs mode (lentOf m) (nodesOf m) id c) words′ slots′ (record { answer = r .answer; arena = r .arena })
+    builds = rebuilds .builds
 
     answered-as : (x : Answer) → r .answer ≡ x → plainBuilt x (nodesOf between) ≡ rebuildAs mode (lentOf m) (nodesOf m) id c
     answered-as x e = ap (λ (y : Answer). plainBuilt y (nodesOf between)) (sym e) ∙ builds .answer
 
-    pub stops : (number : ℕ) → r .answer ≡ Refused number → Finishes mode m id c (Refused number) (memory words′ slots′ (r .arena))
+    pub stops : (number : ℕ) → r .answer ≡ Refused number → Finishes mode m id c (Refused number) (r .fired) (memory words′ slots′ (r .arena))
     stops number e = record {
       plainly = λ fs vs. ap (W.finish mode fs vs) (answered-as _ e);
       kept = builds .kept;
       low = tt;
+      fires = rebuilds .fires;
     }
 
     module _ (i : ℕ) (e : r .answer ≡ Id i) where
@@ -188,9 +206,10 @@ module _ (m : Memory) (id : ℕ) (c : List ℕ) (b : Rebuildable m id c) where
       pub may-mark : (j : ℕ) → j ≡ i → Lookup words′ (r .arena .count) j
       may-mark j is = R.lookup-of words′ slots′ (r .arena) (builds .kept .whole) j (let h = result-low in omega (arith, is))
 
-      pub marks : (words″ : List ℕ) → MarkedAs mode words′ (r .arena .count) i words″ → Finishes mode m id c (Id i) (memory words″ slots′ (r .arena))
+      pub marks : (words″ : List ℕ) → MarkedAs mode words′ (r .arena .count) i words″ → Finishes mode m id c (Id i) (r .fired) (memory words″ slots′ (r .arena))
       marks words″ x = record {
         plainly = λ fs vs. ap (λ (ns : List N.Node). W.go ns fs (i ∷ vs)) (x .is) ∙ ap (W.finish mode fs vs) (answered-as _ e);
         kept = kept-trans (m .words) (m .slots) (m .arena) words′ slots′ (r .arena) words″ slots′ (r .arena) (builds .kept) (x .kept slots′ (r .arena) refl (builds .kept .whole));
         low = result-low;
+        fires = rebuilds .fires;
       }

@@ -1,18 +1,19 @@
-// What a finished frame of the walk gives (01, "engine: the walk"): rebuild_or_match, and the result's mark.
+// What a finished frame of the walk gives (01, "engine: the walk"): rebuild_or_match, the result's mark, and which pattern fired (02 k).
 ghost use mathlib.Core.Path.{_≡_};
 ghost use mathlib.Core.Option.{none};
 ghost use Rattle.definitions.specs.Modes.{modeOf};
-ghost use Rattle.definitions.specs.Walk.{rebuiltFlags, rebuilt, rebuildAs};
+ghost use Rattle.definitions.specs.Walk.{rebuiltFlags, rebuilt};
 ghost use Rattle.store.specs.Lookup.{Lookup};
 ghost use Rattle.store.specs.View.{nodesIn, lent, Builds};
 ghost use Rattle.rebuild.specs.Memory.{memory};
-ghost use Rattle.rebuild.specs.Rebuild.{Rebuildable, MarkedAs, Finishes};
+ghost use Rattle.rebuild.specs.Rebuild.{Rebuildable, Rebuilds, MarkedAs, Finishes};
 use arena::DagArena;
 use arena::REORDERABLE;
 use arena::kind::ADD;
 use arena::kind::MUL;
 use definitions::mode::Mode;
 use patterns::Matched;
+use patterns::firing::Fired;
 use store::Answer;
 use store::Built;
 
@@ -21,6 +22,13 @@ const OTHER_FLAGS: u64 = 0;
 
 // How many children the constructors `add` and `mul` take.
 const CONSTRUCTED_ARITY: u64 = 2;
+
+// The result or the refusal that stopped it, the store after it, and the pattern that fired.
+pub struct Finished {
+    pub answer: Answer,
+    pub arena: DagArena,
+    pub fired: Fired,
+}
 
 // The flags of a rebuilt node: an Add or Mul of one, three or four children gets those of other constructors.
 fn rebuilt_flags(kind: u64, arity: u64) -> u64
@@ -72,26 +80,37 @@ fn rebuild_or_match(
     mode: Mode,
     id: u64,
     children: &[u32],
-) -> Built
+) -> Finished
     requires { ⌜ Rebuildable (memory (now nodes) (now slots) arena) id (now children) ⌝ }
-    ensures { λ r. ⌜ Builds (now (nodes .entry)) (now (slots .entry)) arena
-        (rebuildAs (modeOf mode) (lent (now (nodes .entry)) (now (slots .entry))) (nodesIn (now (nodes .entry)) (arena .count)) id
-        (now (children .entry))) (now (nodes .exit)) (now (slots .exit)) r ⌝ }
+    ensures { λ r. ⌜ Rebuilds (modeOf mode) (memory (now (nodes .entry)) (now (slots .entry)) arena) id (now (children .entry))
+        (now (nodes .exit)) (now (slots .exit)) r ⌝ }
 {
     let count = arena.count;
     let kind = store::kind(nodes, count, id);
     let applied = patterns::try_apply(nodes, slots, arena, mode, kind, children);
     let after = applied.arena;
     let matched = applied.matched;
+    let fired = applied.fired;
     match matched {
-        Matched::Declined => rebuild(nodes, slots, after, id, children),
-        Matched::Id(result) => Built {
+        Matched::Declined => {
+            let built = rebuild(nodes, slots, after, id, children);
+            let answer = built.answer;
+            let arena = built.arena;
+            Finished {
+                answer,
+                arena,
+                fired,
+            }
+        }
+        Matched::Id(result) => Finished {
             answer: Answer::Id(result),
             arena: after,
+            fired,
         },
-        Matched::Refused(number) => Built {
+        Matched::Refused(number) => Finished {
             answer: Answer::Refused(number),
             arena: after,
+            fired,
         },
     }
 }
@@ -115,24 +134,27 @@ pub fn finish(
     mode: Mode,
     id: u64,
     children: &[u32],
-) -> Built
+) -> Finished
     requires { ⌜ Rebuildable (memory (now nodes) (now slots) arena) id (now children) ⌝ }
     ensures { λ r. ⌜ Finishes (modeOf mode) (memory (now (nodes .entry)) (now (slots .entry)) arena) id (now (children .entry)) (r .answer)
-        (memory (now (nodes .exit)) (now (slots .exit)) (r .arena)) ⌝ }
+        (r .fired) (memory (now (nodes .exit)) (now (slots .exit)) (r .arena)) ⌝ }
 {
-    let built = rebuild_or_match(nodes, slots, arena, mode, id, children);
-    let after = built.arena;
-    let answer = built.answer;
+    let rebuilt = rebuild_or_match(nodes, slots, arena, mode, id, children);
+    let after = rebuilt.arena;
+    let answer = rebuilt.answer;
+    let fired = rebuilt.fired;
     match answer {
-        Answer::Refused(number) => Built {
+        Answer::Refused(number) => Finished {
             answer: Answer::Refused(number),
             arena: after,
+            fired,
         },
         Answer::Id(result) => {
             mark(nodes, after.count, mode, result);
-            Built {
+            Finished {
                 answer: Answer::Id(result),
                 arena: after,
+                fired,
             }
         }
     }

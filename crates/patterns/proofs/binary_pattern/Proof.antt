@@ -1,8 +1,11 @@
-use mathlib.Core.Path.{sym, _∙_}
-use borrow.Author.Needs.{needs}
+use mathlib.Core.Path.{refl, sym, _∙_}
 use borrow.Author.Tests.{not-true, not-false}
 use Rattle.definitions.specs.Patterns as P
-use Rattle.patterns.proofs.KindLaws as Kinds
+use Rattle.definitions.specs.Firing.{applyAs, firing, binaryFiring}
+use Rattle.definitions.specs.Firing as F
+use Rattle.patterns.specs.declared.firing.Pattern.the-variants.{ConstantFold}
+use Rattle.patterns.proofs.FiringLaws as Firing
+use borrow.Author.Needs.{needs}
 use Rattle.patterns.proofs.binary_pattern.Statement.{statement}
 use Rattle.patterns.proofs.binary_pattern.Tie as tie
 
@@ -12,9 +15,17 @@ identity-requires c κs = search needs
 declined-requires : tie.Need-declined-requires
 declined-requires c κs = search needs
 
+first-function-requires : tie.Need-first-function-requires
+first-function-requires c κs = search needs
+
+named-requires : tie.Need-named-requires
+named-requires c κs = search needs
+
 returns : tie.Need-returns
-unfolding P.tryApply
-returns c = Kinds.first-fits _ (sym (c .before .declined .ensures) ∙ not-true _ (c .if1 .taken)) (c .before .before .identity .ensures)
+unfolding applyAs P.tryApply firing binaryFiring
+returns c = let choice = c .before .before in
+    Firing.first (c .before .first-function .result) (c .before .first-function .ensures) (c .named .ensures) (choice .before .before .identity .ensures) _ _
+    (sym (choice .before .declined .ensures) ∙ not-true _ (choice .if1 .taken))
 
 constant-fold-requires : tie.Need-constant-fold-requires
 constant-fold-requires c κs = search needs
@@ -22,26 +33,33 @@ constant-fold-requires c κs = search needs
 declined-requires-2 : tie.Need-declined-requires-2
 declined-requires-2 c κs = search needs
 
+named-requires-2 : tie.Need-named-requires-2
+named-requires-2 c κs = search needs
+
 returns-2 : tie.Need-returns-2
-unfolding P.tryApply
-returns-2 c = Kinds.second-fits (sym (c .before .before .before .before .declined .ensures) ∙ not-false _ (c .before .before .before .if1 .left)) (c .before .before .before .before .before .identity .ensures) (Kinds.first-fits _ (sym (c .before .declined2 .ensures) ∙ not-true _ (c .if2 .taken)) (c .before .before .constant-fold .ensures))
+unfolding applyAs P.tryApply firing binaryFiring
+returns-2 c = let choice = c .before in
+    let before = choice .before .before .before in
+    Firing.second _ (sym (before .before .declined .ensures) ∙ not-false _ (before .if1 .left)) (before .before .before .identity .ensures)
+    (Firing.first ConstantFold refl (c .named2 .ensures) (choice .before .before .constant-fold .ensures) _ _
+    (sym (choice .before .declined2 .ensures) ∙ not-true _ (choice .if2 .taken)))
 
 merge-requires : tie.Need-merge-requires
 merge-requires c κs = search needs
 
+merge-function-requires : tie.Need-merge-function-requires
+merge-function-requires c κs = search needs
+
+named-requires-3 : tie.Need-named-requires-3
+named-requires-3 c κs = search needs
+
 returns-3 : tie.Need-returns-3
-unfolding P.tryApply
-returns-3 c = Kinds.second-fits (sym (c .before .before .before .before .before .declined .ensures) ∙ not-false _ (c .before .before .before .before .if1 .left)) (c .before .before .before .before .before .before .identity .ensures) (Kinds.second-fits (sym (c .before .before .declined2 .ensures) ∙ not-false _ (c .before .if2 .left)) (c .before .before .before .constant-fold .ensures) (c .merge .ensures))
+unfolding applyAs P.tryApply firing binaryFiring
+returns-3 c = let choice = c .before .before .before in
+    let before = choice .before .before .before in
+    Firing.second _ (sym (before .before .declined .ensures) ∙ not-false _ (before .if1 .left)) (before .before .before .identity .ensures)
+    (Firing.second F.constantFold (sym (choice .before .declined2 .ensures) ∙ not-false _ (choice .if2 .left)) (choice .before .before .constant-fold .ensures)
+    (Firing.last (c .before .merge-function .result) (c .before .merge-function .ensures) (c .named3 .ensures) (c .before .before .merge .ensures)))
 
 pub binary-pattern-spec : {M : Type 1} → statement M
-binary-pattern-spec =
-    tie.close
-    (tie.spec
-    identity-requires
-    declined-requires
-    returns
-    constant-fold-requires
-    declined-requires-2
-    returns-2
-    merge-requires
-    returns-3)
+binary-pattern-spec = tie.close (tie.spec identity-requires declined-requires first-function-requires named-requires returns constant-fold-requires declined-requires-2 named-requires-2 returns-2 merge-requires merge-function-requires named-requires-3 returns-3)

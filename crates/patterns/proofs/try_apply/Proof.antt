@@ -1,6 +1,7 @@
-use borrow.Author.Needs.{needs}
-use Rattle.patterns.proofs.CarryLaws as Carries
+use Rattle.definitions.specs.Modes.{modeOf}
 use Rattle.store.proofs.Reading as S
+use Rattle.patterns.proofs.CarryLaws as Carries
+use borrow.Author.Needs.{needs}
 use Rattle.patterns.proofs.try_apply.Statement.{statement}
 use Rattle.patterns.proofs.try_apply.Tie as tie
 
@@ -11,7 +12,9 @@ enum-known-result : tie.Need-enum-known-result
 enum-known-result c = search needs
 
 carry-out-requires : tie.Need-carry-out-requires
-carry-out-requires c κs = (Carries.known-result-low _ (c .before .before .before .result .given .1) (c .before .before .before .before .before .pattern .ensures .low), c .before .before .before .before .before .before .before .before .before .before .pre .1)
+carry-out-requires c κs = let decided = c .before .before .before .before .before in
+    let s = decided .before .before .before .before .before in
+    (Carries.known-result-low _ (c .before .before .before .result .given .1) (decided .pattern .ensures .decides .low), s .pre .1)
 
 answered-requires : tie.Need-answered-requires
 answered-requires c κs = search needs
@@ -26,25 +29,16 @@ same-length-2 : tie.Need-same-length-2
 same-length-2 c = search needs
 
 returns : tie.Need-returns
-returns c = Carries.applies-built (c .before .before .before .before .before .before .before .before .before .result .given .1) (c .before .before .before .before .before .before .before .before .before .before .before .pattern .ensures .is _) (c .before .before .before .before .before .carry-out .ensures) (c .answered .ensures)
+returns c = let built = c .before .before .before .before .before in
+    let known = built .before .before .before .before in
+    Carries.applies-built (known .before .before .pattern .ensures) (known .result .given .1) (built .carry-out .ensures) (c .answered .ensures)
 
 same-length-3 : tie.Need-same-length-3
 same-length-3 c = search needs
 
 returns-2 : tie.Need-returns-2
-returns-2 c = Carries.applies-none (c .enum-told .given .1) (c .before .before .pattern .ensures .is _) (c .before .before .before .before .before .before .before .pre .1)
+returns-2 c = let decided = c .before .before in
+    Carries.applies-none (decided .pattern .ensures) (c .enum-told .given .1) (decided .before .before .before .before .before .pre .1)
 
 pub try-apply-spec : {M : Type 1} → statement M
-try-apply-spec =
-    tie.close
-    (tie.spec
-    pattern-requires
-    enum-known-result
-    carry-out-requires
-    answered-requires
-    enum-told
-    same-length
-    same-length-2
-    returns
-    same-length-3
-    returns-2)
+try-apply-spec = tie.close (tie.spec pattern-requires enum-known-result carry-out-requires answered-requires enum-told same-length same-length-2 returns same-length-3 returns-2)

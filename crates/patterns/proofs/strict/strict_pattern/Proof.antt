@@ -1,8 +1,9 @@
--- `patterns::strict::strict_pattern` meets its contract.
-use mathlib.Core.Path.{sym, _∙_}
+use mathlib.Core.Path.{refl, sym, _∙_}
 use borrow.Author.Tests.{not-true, not-false}
 use Rattle.definitions.specs.Strict as S
-use Rattle.patterns.proofs.KindLaws as Kinds
+use Rattle.definitions.specs.Firing.{applyAs, firing, binaryFiring}
+use Rattle.patterns.specs.declared.firing.Pattern.the-variants.{ConstantFold}
+use Rattle.patterns.proofs.FiringLaws as Firing
 use borrow.Author.Needs.{needs}
 use Rattle.patterns.proofs.strict.strict_pattern.Statement.{statement}
 use Rattle.patterns.proofs.strict.strict_pattern.Tie as tie
@@ -13,18 +14,29 @@ strict-identity-requires c κs = search needs
 declined-requires : tie.Need-declined-requires
 declined-requires c κs = search needs
 
+first-function-requires : tie.Need-first-function-requires
+first-function-requires c κs = search needs
+
+named-requires : tie.Need-named-requires
+named-requires c κs = search needs
+
 returns : tie.Need-returns
-unfolding S.strictApply
-returns c = Kinds.first-fits _ (sym (c .before .declined .ensures) ∙ not-true _ (c .if1 .taken)) (c .before .before .strict-identity .ensures)
+unfolding applyAs S.strictApply firing binaryFiring
+returns c = let choice = c .before .before in
+    Firing.first (c .before .first-function .result) (c .before .first-function .ensures) (c .named .ensures) (choice .before .before .strict-identity .ensures) _ _
+    (sym (choice .before .declined .ensures) ∙ not-true _ (choice .if1 .taken))
 
 constant-fold-requires : tie.Need-constant-fold-requires
 constant-fold-requires c κs = search needs
 
+named-requires-2 : tie.Need-named-requires-2
+named-requires-2 c κs = search needs
+
 returns-2 : tie.Need-returns-2
-unfolding S.strictApply
-returns-2 c = Kinds.second-fits (sym (c .before .before .declined .ensures) ∙ not-false _ (c .before .if1 .left)) (c .before .before .before .strict-identity .ensures) (c .constant-fold .ensures)
+unfolding applyAs S.strictApply firing binaryFiring
+returns-2 c = let choice = c .before .before in
+    Firing.second _ (sym (choice .before .declined .ensures) ∙ not-false _ (choice .if1 .left)) (choice .before .before .strict-identity .ensures)
+    (Firing.last ConstantFold refl (c .named2 .ensures) (c .before .constant-fold .ensures))
 
 pub strict-pattern-spec : {M : Type 1} → statement M
-strict-pattern-spec =
-    tie.close
-    (tie.spec strict-identity-requires declined-requires returns constant-fold-requires returns-2)
+strict-pattern-spec = tie.close (tie.spec strict-identity-requires declined-requires first-function-requires named-requires returns constant-fold-requires named-requires-2 returns-2)
