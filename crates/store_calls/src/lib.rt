@@ -1,5 +1,6 @@
 // The calls of a store as values: one enum of the calls, one of the answers, and one function that performs any call.
 pub mod answers;
+pub mod codes;
 
 ghost use Rattle.store.specs.Memory.{memory, Leaves};
 ghost use Rattle.store.specs.Sound.{Sound};
