@@ -2,4 +2,5 @@ pub mod CodeTable
 pub mod Decoding
 pub mod EncodedCalls
 pub mod FirstCalls
+pub mod HeaderCalls
 pub mod SpelledBytes

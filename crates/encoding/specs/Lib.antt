@@ -1,3 +1,4 @@
 pub mod Encoding
 pub mod Finding
+pub mod Headers
 pub mod Spelling

@@ -145,6 +145,21 @@ pub fn prune_sound(
     prune_call(nodes, slots, arena, root, threshold::given(threshold))
 }
 
+// A prune of an id by a setting, on a store that is known to be sound.
+pub fn prune_by_setting_sound(
+    nodes: &mut [u64],
+    slots: &mut [u32],
+    arena: DagArena,
+    root: u32,
+    setting: u32,
+) -> Outcome
+    requires { ⌜ Sound (now nodes) (now slots) arena ⌝ }
+    ensures { λ r. ⌜ Leaves (M.pruneBySetting root setting) (memory (now (nodes .entry)) (now (slots .entry)) arena) (meaning (r .answer))
+        (memory (now (nodes .exit)) (now (slots .exit)) (r .arena)) ⌝ }
+{
+    prune_call(nodes, slots, arena, root, threshold::of_setting(setting))
+}
+
 // A prune on any store, which is audited first: 20, then the call on a sound store.
 fn prune_audited(
     nodes: &mut [u64],

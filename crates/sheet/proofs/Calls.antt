@@ -1,165 +1,191 @@
--- Records' calls, from what the calls themselves say.
-use Prim.Native.Nat.{ℕ, _+_, _<_}
+-- A record's call on ids, from the call that was performed.
+use Prim.Native.Nat.{ℕ, _+_, _*_, _≤_, _<_}
 use mathlib.Core.Path.{_≡_, refl, sym, ap, _∙_, subst}
-use mathlib.Core.Bool.{Bool, true, false, _&&_}
+use mathlib.Core.Bool.{Bool, true, false, cond}
 use mathlib.Core.Option.{none, some}
+use mathlib.Core.Logic.{_⊎_, inl, inr}
 use mathlib.Core.List.{List, map}
 use lib.ListN.{length, length-map}
-use lib.Ieee.{binary64, nanBits}
+use lib.Dec.{leb}
 use native.Mathlib.Omega.{arith}
-use borrow.Author.Tests.{ne-eqb}
+use native.Mathlib.Decide.{decLe}
+use borrow.Author.Tests.{le-leb, lt-leb, leb-true}
 use Rattle.definitions.specs.Limits.{mostChildren}
-use Rattle.definitions.specs.Refusals.{badRecord, badCode, badChildCount}
-use Rattle.definitions.specs.Node.{Node, node, constantKind, addKind, nanConstant}
-use Rattle.definitions.specs.Intern.{Lent}
+use Rattle.definitions.specs.Refusals.{badRecord}
+use Rattle.definitions.specs.Node.{Node, node}
 use Rattle.definitions.specs.Machine as M
 use Rattle.definitions.specs.Sheet as Sheet
-use Rattle.store.specs.declared.Answer as S
-use Rattle.store.specs.declared.Built.{Built}
-use Rattle.store.specs.View.{nodesIn}
-use Rattle.store.specs.Memory.{Memory, memory, model, answerOf, Leaves, Stays}
-use Rattle.store.proofs.Staying.{stays-refl, kept-stays, leaves-stays}
+use Rattle.store.specs.Memory.{Memory, model, Leaves}
 use Rattle.store.proofs.Viewing.{plain-length}
-use Rattle.walk.specs.declared.Answer.{Answer as Walked}
-use Rattle.walk.specs.Answers as W
-use Rattle.pruner.specs.declared.Answer.{Answer as Pruned}
-use Rattle.pruner.specs.Answers as P
-use Rattle.builder.specs.Stores.{BuildsSound, Asked}
-use Rattle.records.specs.declared.Body.{Body}
-use Rattle.records.specs.declared.Body.the-variants.{Simplify, Prune}
-use Rattle.definitions.specs.Walk.{Mode}
+use Rattle.store_calls.specs.declared.Call.{Call}
+use Rattle.store_calls.specs.declared.Call.the-variants.{Variable, Constant, Operator, Function, Control, Simplify, Prune, PruneBySetting}
+use Rattle.store_calls.specs.declared.answers.Answer.{Answer}
+use Rattle.store_calls.specs.declared.answers.Answer.the-variants.{Refused}
+use Rattle.store_calls.specs.Calls as Store
+use Rattle.store_calls.specs.Calls.{SameOn, SameCall}
+use Rattle.store_calls.proofs.Same.{leaves-as, same-equal, same-trans}
 use Rattle.definitions.specs.Modes.{modeOf}
-use Rattle.definitions.specs.declared.mode.Mode as Modes
-use Rattle.records.specs.Reading.{callOf}
-use Rattle.sheet.specs.declared.building.Request.{Request}
-use Rattle.sheet.specs.declared.performing.Answer.{Answer}
-use Rattle.sheet.specs.declared.performing.Answer.the-variants.{Refused}
-use Rattle.sheet.specs.Running.{operatorRequest, answerAs, PerformsAs, Performs, idOf, idBelow, wanted, PerformsStore, PerformsBody}
-use Rattle.sheet.proofs.Clamping.{store-same, simplify-same, prune-same, store-many, store-unlisted}
+use Rattle.definitions.specs.declared.mode.Mode.{Mode}
+use Rattle.records.specs.declared.Body.{Body}
+use Rattle.records.specs.declared.Body.the-variants as B
+use Rattle.records.specs.Reading.{callOf, operandsFrom, OperandsInSheet}
+use Rattle.records.proofs.Operands.{operands-length}
+use Rattle.sheet.specs.declared.performing.Request.{Request}
+use Rattle.sheet.specs.declared.performing.Request.the-variants.{Call as Asked, Malformed}
+use Rattle.sheet.specs.Running.{idOf, idBelow, operandsRead, readOf, AsksFor, RequestsIn, PerformsBody}
+use Rattle.sheet.proofs.Clamping.{store-same, simplify-same, prune-same, setting-same, many-same}
 
-module _ (m : Memory) (h : model .Sound m) where
-  abbrev l : Lent
-  l = model .lent m
+-- ---- operands past those that are read
+
+-- the same, or more than a node has children either way
+abbrev Alike : List ℕ → List ℕ → Type 0
+Alike os os′ = (os ≡ os′) ⊎ ((mostChildren < length os) × (mostChildren < length os′))
+
+abbrev plainly : Memory → M.Request → M.After
+plainly m q = M.onNodes (model .view m) (M.storeCall (model .lent m) (model .view m .nodes) q)
+
+many-one : (b : Bool) (kind payload flags : ℕ) (c c′ : M.Store) (os os′ : List ℕ) → M.requested c ≡ M.request b (node kind payload flags os) → M.requested c′ ≡ M.request b (node kind payload flags os′)
+    → mostChildren < length os → mostChildren < length os′ → SameCall (M.store c) (M.store c′)
+unfolding M.call
+many-one b kind payload flags c c′ os os′ e e′ h k m = record {
+  outcome = ap (plainly m) e ∙ ap (M.onNodes (model .view m)) (many-same (model .lent m) (model .view m .nodes) b kind payload flags os os′ h k) ∙ sym (ap (plainly m) e′);
+  changes = λ _. refl;
+}
+
+alike-same : (call : Call) (os os′ : List ℕ) → Alike os os′ → SameCall (Store.callOf call os) (Store.callOf call os′)
+alike-same call os os′ (inl e) = same-equal (Store.callOf call os) (Store.callOf call os′) (ap (Store.callOf call) e)
+alike-same (Variable symbol) os os′ (inr h) = same-equal _ _ refl
+alike-same (Constant bits) os os′ (inr h) = same-equal _ _ refl
+alike-same (Operator code flags) os os′ (inr h) = many-one _ _ _ _ (M.operator code flags os) (M.operator code flags os′) os os′ refl refl (h .0) (h .1)
+alike-same (Function number) os os′ (inr h) = many-one _ _ _ _ (M.function number os) (M.function number os′) os os′ refl refl (h .0) (h .1)
+alike-same (Control code) os os′ (inr h) = many-one _ _ _ _ (M.control code os) (M.control code os′) os os′ refl refl (h .0) (h .1)
+alike-same (Simplify mode root depth budget) os os′ (inr h) = same-equal _ _ refl
+alike-same (Prune root threshold) os os′ (inr h) = same-equal _ _ refl
+alike-same (PruneBySetting root setting) os os′ (inr h) = same-equal _ _ refl
+
+pub read-few : (operands : ℕ) → operands ≤ operandsRead → readOf operands ≡ operands
+read-few operands h = ap (λ (b : Bool). cond b operands operandsRead) (le-leb operands operandsRead h)
+
+pub read-many : (operands : ℕ) → operandsRead < operands → readOf operands ≡ operandsRead
+read-many operands h = ap (λ (b : Bool). cond b operands operandsRead) (lt-leb operands operandsRead h)
+
+-- what is read of operands is at most all of them
+read-within : (operands : ℕ) → readOf operands ≤ operands
+read-within operands = go (decLe operands operandsRead)
+  where
+    go : Dec (operands ≤ operandsRead) → readOf operands ≤ operands
+    go (yes h) = let f = read-few operands h in omega arith
+    go (no n) = let f = read-many operands (omega arith) in omega arith
+
+-- and stands in the sheet
+pub read-fits : (s : List ℕ) (first operands r : ℕ) → first + operands * 2 ≤ length s → r ≡ readOf operands → first + r * 2 ≤ length s
+read-fits s first operands r h e = let w = read-within operands in omega arith
+
+read-alike : (s : List ℕ) (id : ℕ → ℕ) (first operands : ℕ) → Alike (map id (operandsFrom s first (readOf operands))) (map id (operandsFrom s first operands))
+read-alike s id first operands = go (decLe operands operandsRead)
+  where
+    long : (n : ℕ) → length (map id (operandsFrom s first n)) ≡ n
+    long n = length-map (operandsFrom s first n) id ∙ operands-length s first n
+
+    go : Dec (operands ≤ operandsRead) → Alike (map id (operandsFrom s first (readOf operands))) (map id (operandsFrom s first operands))
+    go (yes h) = inl (ap (λ (n : ℕ). map id (operandsFrom s first n)) (read-few operands h))
+    go (no n) = let f = read-many operands (omega arith) in let a = long (readOf operands) in let b = long operands in inr (omega arith, omega arith)
+
+-- ---- ids that no node has
+
+mapped : (f : ℕ → ℕ) (c : M.Store) → M.requested (Sheet.storeOn f c) ≡ M.request (M.requested c .listed) (node (M.requested c .node .kind) (M.requested c .node .payload) (M.requested c .node .flags) (map f (M.requested c .node .children)))
+mapped f (M.variable s) = refl
+mapped f (M.constant b) = refl
+mapped f (M.add a b) = refl
+mapped f (M.sub a b) = refl
+mapped f (M.mul a b) = refl
+mapped f (M.div a b) = refl
+mapped f (M.pow a b) = refl
+mapped f (M.modulo a b) = refl
+mapped f (M.neg a) = refl
+mapped f (M.operator o g c) = refl
+mapped f (M.function n c) = refl
+mapped f (M.select a b c) = refl
+mapped f (M.ifElse a b c) = refl
+mapped f (M.forLoop a b c d) = refl
+mapped f (M.control o c) = refl
+
+module _ (m : Memory) (ids : List ℕ) (done : ℕ) where
+  abbrev count : ℕ
+  count = m .arena .count
 
   abbrev ns : List Node
   ns = model .view m .nodes
 
-  -- a call that is the same as what was called
-  called-as : (c c′ : M.Call) (a : M.Answer) (x : Answer) (m′ : Memory) → M.call l (model .view m) c ≡ M.call l (model .view m) c′ → x ≡ answerAs a → Leaves c m a m′ → Performs c′ m x m′
-  called-as c c′ a x m′ e f k = record {
-    answer = f ∙ ap answerAs (k .called .answer h) ∙ ap (λ (y : M.After). answerAs (y .answer)) e;
-    left = k .called .left h ∙ ap (λ (y : M.After). y .left) e;
-    stays = leaves-stays c m a m′ h k;
-  }
+  counted : length ns ≡ count
+  counted = plain-length (m .words) count
 
-  -- 06 and 07, on the id that was found for the operand
-  module _ (ids : List ℕ) (done operand root : ℕ) (found : root ≡ idBelow ids done (m .arena .count) operand) (m′ : Memory) where
-    counted : length ns ≡ m .arena .count
-    counted = plain-length (m .words) (m .arena .count)
+  store-clamped : (c : M.Store) → M.storeCall (model .lent m) ns (M.requested (Sheet.storeOn (idBelow ids done count) c)) ≡ M.storeCall (model .lent m) ns (M.requested (Sheet.storeOn (idOf ids done count) c))
+  store-clamped c =
+      let q = M.requested c in
+      ap (M.storeCall (model .lent m) ns) (mapped (idBelow ids done count) c)
+      ∙ store-same ids done count (model .lent m) ns counted (q .listed) (q .node .kind) (q .node .payload) (q .node .flags) (q .node .children)
+      ∙ sym (ap (M.storeCall (model .lent m) ns) (mapped (idOf ids done count) c))
 
-    pub simplified : (mode : Mode) (depth budget : ℕ) (a x : Walked) → a ≡ x → Leaves (M.simplify mode root depth budget) m (W.meaning a) m′ → Performs (M.simplify mode (idOf ids done (m .arena .count) operand) depth budget) m (answerAs (W.meaning x)) m′
-    simplified mode depth budget a x e k =
-        called-as (M.simplify mode root depth budget) (M.simplify mode (idOf ids done (m .arena .count) operand) depth budget) (W.meaning a) (answerAs (W.meaning x)) m′
-        (ap (λ (i : ℕ). M.call l (model .view m) (M.simplify mode i depth budget)) found ∙ simplify-same ids done (m .arena .count) l ns counted mode operand depth budget)
-        (ap (λ (y : Walked). answerAs (W.meaning y)) (sym e))
-        k
+  -- brought down to the count, they change no call
+  clamped : (c : M.Call) → SameOn m (Sheet.callOn (idBelow ids done count) c) (Sheet.callOn (idOf ids done count) c)
+  unfolding M.call
+  clamped (M.store c) = record { outcome = ap (M.onNodes (model .view m)) (store-clamped c); changes = λ _. refl }
+  clamped (M.simplify mode o depth budget) = record { outcome = simplify-same ids done count (model .lent m) ns counted mode o depth budget; changes = λ _. refl }
+  clamped (M.prune o threshold) = record { outcome = prune-same ids done count (model .lent m) ns counted o threshold; changes = λ _. refl }
+  clamped (M.pruneBySetting o n) = record { outcome = setting-same ids done count (model .lent m) ns counted o n; changes = λ _. refl }
 
-    pub pruned : (threshold : ℕ) (a x : Pruned) → a ≡ x → Leaves (M.prune root threshold) m (P.meaning a) m′ → Performs (M.prune (idOf ids done (m .arena .count) operand) threshold) m (answerAs (P.meaning x)) m′
-    pruned threshold a x e k =
-        called-as (M.prune root threshold) (M.prune (idOf ids done (m .arena .count) operand) threshold) (P.meaning a) (answerAs (P.meaning x)) m′
-        (ap (λ (i : ℕ). M.call l (model .view m) (M.prune i threshold)) found ∙ prune-same ids done (m .arena .count) l ns counted operand threshold)
-        (ap (λ (y : Pruned). answerAs (P.meaning y)) (sym e))
-        k
+  -- ---- bodies
+  module _ (s : List ℕ) (body : Body) where
+    pub body-whole : (call : Call) (first operands : ℕ) → AsksFor s body (idBelow ids done count) call first operands → (r : ℕ) → r ≡ readOf operands
+        → (children : List ℕ) → children ≡ map (idBelow ids done count) (operandsFrom s first r) → (a : Answer) (m′ : Memory) → Leaves (Store.callOf call children) m (Store.answerOf a) m′
+        → PerformsBody s body ids done m a m′
+    body-whole call first operands q r e children f a m′ k = record {
+      whole = λ c t. let one : q .plain ≡ c = (let i = q .is in cc) in subst (λ (x : M.Call). Leaves (Sheet.callOn (idOf ids done count) x) m (Store.answerOf a) m′) one performed;
+      malformed = λ t. absurd (let i = q .is in let z : _≡_ {A = ℕ} 0 1 = cc in omega arith);
+    }
+      where
+        performed : Leaves (Sheet.callOn (idOf ids done count) (q .plain)) m (Store.answerOf a) m′
+        performed =
+            leaves-as m (Store.callOf call children) (Sheet.callOn (idOf ids done count) (q .plain))
+            (same-trans m _ _ _ (same-equal _ _ (ap (Store.callOf call) (f ∙ ap (λ (n : ℕ). map (idBelow ids done count) (operandsFrom s first n)) e)) m)
+            (same-trans m _ _ _ (alike-same call (map (idBelow ids done count) (operandsFrom s first (readOf operands))) (map (idBelow ids done count) (operandsFrom s first operands)) (read-alike s (idBelow ids done count) first operands) m)
+            (same-trans m _ _ _ (same-equal _ _ (q .same) m) (clamped (q .plain)))))
+            (Store.answerOf a) m′ k
 
-  module _ (q : Request) (operands ids : List ℕ) (done : ℕ) where
-    abbrev handed : List ℕ
-    handed = map (idOf ids done (m .arena .count)) operands
-
-    abbrev below : List ℕ
-    below = map (idBelow ids done (m .arena .count)) operands
-
-    -- an outcome of the node that is wanted
-    stored-as : (o : M.Outcome) (m′ : Memory) → o ≡ M.storeCall l ns (wanted q handed) → model .view m′ ≡ M.state (o .nodes) → Stays m m′ → PerformsStore q operands ids done m (answerAs (o .answer)) m′
-    stored-as o m′ e v k = record {
-      answer = ap (λ (x : M.Outcome). answerAs (x .answer)) e;
-      left = v ∙ ap (λ (x : M.Outcome). M.state (x .nodes)) e;
-      stays = k;
+    pub body-malformed : callOf s body ≡ none → PerformsBody s body ids done m (Refused badRecord) m
+    body-malformed e = record {
+      whole = λ c f. absurd (let z : _≡_ {A = ℕ} 0 1 = cc in omega arith);
+      malformed = λ f. (refl, refl);
     }
 
-    -- a refusal at once
-    refuses : (number : ℕ) → M.storeCall l ns (wanted q handed) ≡ M.outcome (M.refused number) ns → PerformsStore q operands ids done m (Refused number) m
-    refuses number e = stored-as (M.outcome (M.refused number) ns) m (sym e) refl (stays-refl m h)
+-- ---- what a body asks for
 
-    -- "6 number of children", "5 operator, flags, control .. value not listed": before any operand is looked at
-    pub many-refused : q .listed ≡ true → nanConstant (q .kind) (q .payload) ≡ false → mostChildren < length operands → PerformsStore q operands ids done m (Refused badChildCount) m
-    many-refused t v n =
-        refuses badChildCount
-        (ap (λ (b : Bool). M.storeCall l ns (M.request b (node (q .kind) (q .payload) (q .flags) handed))) t
-        ∙ store-many l ns (q .kind) (q .payload) (q .flags) handed v (subst (λ (i : ℕ). mostChildren < i) (sym (length-map operands (idOf ids done (m .arena .count)))) n))
+module _ (body : Body) (id : ℕ → ℕ) where
+  -- a call without operands
+  pub asks-alone : (x : Body) → body ≡ x → (s : List ℕ) (call : Call) (plain : M.Call) → callOf s x ≡ some plain → Store.callOf call (map id (operandsFrom s 0 0)) ≡ Sheet.callOn id plain → (r : Request) → r ≡ Asked call 0 0 → RequestsIn s body id r
+  asks-alone x e s call plain t u r f =
+      subst (RequestsIn s body id) (sym f)
+      (let asks : AsksFor s body id call 0 0 = record { within = omega arith; plain = plain; is = ap (callOf s) e ∙ t; same = u } in asks)
 
-    pub unlisted-refused : q .listed ≡ false → PerformsStore q operands ids done m (Refused badCode) m
-    unlisted-refused t =
-        refuses badCode
-        (ap (λ (b : Bool). M.storeCall l ns (M.request b (node (q .kind) (q .payload) (q .flags) handed))) t
-        ∙ store-unlisted l ns (q .kind) (q .payload) (q .flags) handed)
+  module _ (s : List ℕ) (r : Request) where
+    pub asks-simplify : (mode : Mode) (o depth budget root : ℕ) → body ≡ B.Simplify mode o depth budget → root ≡ id o → r ≡ Asked (Simplify mode root depth budget) 0 0 → RequestsIn s body id r
+    asks-simplify mode o depth budget root e f t =
+        asks-alone (B.Simplify mode o depth budget) e s (Simplify mode root depth budget) (M.simplify (modeOf mode) o depth budget) refl (ap (λ (i : ℕ). M.simplify (modeOf mode) i depth budget) f) r t
 
-    pub built : (children : List ℕ) → children ≡ below → (words slots : List ℕ) (r : Built) → BuildsSound (wanted q children) m (answerOf (r .answer)) (memory words slots (r .arena)) → (x : S.Answer) → r .answer ≡ x → PerformsStore q operands ids done m (answerAs (answerOf x)) (memory words slots (r .arena))
-    built children e words slots r b x t =
-        subst (λ (y : S.Answer). PerformsStore q operands ids done m (answerAs (answerOf y)) (memory words slots (r .arena))) t
-        (stored-as (M.outcome (answerOf (r .answer)) (nodesIn words (r .arena .count))) (memory words slots (r .arena))
-        (b .outcome
-        ∙ ap (λ (c : List ℕ). M.storeCall l ns (wanted q c)) e
-        ∙ store-same ids done (m .arena .count) l ns (plain-length (m .words) (m .arena .count)) (q .listed) (q .kind) (q .payload) (q .flags) operands)
-        refl
-        (kept-stays m (memory words slots (r .arena)) (b .kept)))
+    pub asks-prune : (o threshold root : ℕ) → body ≡ B.Prune o threshold → root ≡ id o → r ≡ Asked (Prune root threshold) 0 0 → RequestsIn s body id r
+    asks-prune o threshold root e f t =
+        asks-alone (B.Prune o threshold) e s (Prune root threshold) (M.prune o threshold) refl (ap (λ (i : ℕ). M.prune i threshold) f) r t
 
--- ---- bodies
+  -- a call over operands
+  pub asks-over : (x : Body) → body ≡ x → (s : List ℕ) (call : Call) (plain : M.Call) (first operands : ℕ) → OperandsInSheet (length s) body → (OperandsInSheet (length s) x → first + operands * 2 ≤ length s)
+      → callOf s x ≡ some plain → Store.callOf call (map id (operandsFrom s first operands)) ≡ Sheet.callOn id plain → AsksFor s body id call first operands
+  asks-over x e s call plain first operands w f t u = record { within = f (subst (OperandsInSheet (length s)) e w); plain = plain; is = ap (callOf s) e ∙ t; same = u }
 
-module _ (s : List ℕ) (body : Body) (ids : List ℕ) (done : ℕ) (m : Memory) where
-  pub body-whole : (c : M.Call) → callOf s body ≡ some c → (a : Answer) (m′ : Memory) → Performs (Sheet.callOn (idOf ids done (m .arena .count)) c) m a m′ → PerformsBody s body ids done m a m′
-  body-whole c e a m′ p = record {
-    whole = λ d f. let same : c ≡ d = cc in subst (λ (x : M.Call). Performs (Sheet.callOn (idOf ids done (m .arena .count)) x) m a m′) same p;
-    malformed = λ f. absurd (let z : _≡_ {A = ℕ} 0 1 = cc in omega arith);
-  }
+-- what was asked for, taken apart
+module _ (s : List ℕ) (body : Body) (id : ℕ → ℕ) (r : Request) (q : RequestsIn s body id r) where
+  pub asked-call : (call : Call) (first operands : ℕ) → r ≡ Asked call first operands → AsksFor s body id call first operands
+  asked-call call first operands e = subst (RequestsIn s body id) e q
 
-  pub body-malformed : callOf s body ≡ none → PerformsBody s body ids done m (Refused badRecord) m
-  body-malformed e = record {
-    whole = λ c f. absurd (let z : _≡_ {A = ℕ} 0 1 = cc in omega arith);
-    malformed = λ f. (refl, refl);
-  }
-
--- ---- each body's record
-
-abbrev AskedFor : Request → Type 0
-AskedFor q = Asked (q .listed) (q .kind) (q .payload) (q .flags)
-
--- what may be asked for may be asked for by a request that is the same
-pub asked-as : (q w : Request) → q ≡ w → AskedFor w → AskedFor q
-asked-as q w e k = subst AskedFor (sym e) k
-
--- and so is what is no NaN
-pub number-as : (q w : Request) → q ≡ w → nanConstant (w .kind) (w .payload) ≡ false → nanConstant (q .kind) (q .payload) ≡ false
-number-as q w e k = subst (λ (r : Request). nanConstant (r .kind) (r .payload) ≡ false) (sym e) k
-
-pub operator-number : (q : Request) (code flags : ℕ) → q ≡ operatorRequest code flags → nanConstant (q .kind) (q .payload) ≡ false
-operator-number q code flags e =
-    number-as q (operatorRequest code flags) e (ap (λ (b : Bool). b && nanBits binary64 0) (ne-eqb (addKind + code) constantKind (λ z. omega arith)))
-
-module _ (s : List ℕ) (body : Body) (ids : List ℕ) (done : ℕ) (m : Memory) (a : Answer) (m′ : Memory) where
-  abbrev onIds : List ℕ → List ℕ
-  onIds = map (idOf ids done (m .arena .count))
-
-  -- a body that builds a node, by a request for what its call wants
-  pub store-body : (c : M.Store) (q w : Request) → callOf s body ≡ some (M.store c) → q ≡ w → wanted w (onIds (M.requested c .node .children)) ≡ M.requested (Sheet.storeOn (idOf ids done (m .arena .count)) c) → PerformsStore q (M.requested c .node .children) ids done m a m′ → PerformsBody s body ids done m a m′
-  unfolding M.call
-  store-body c q w e f t p =
-      body-whole s body ids done m (M.store c) e a m′
-      (subst (λ (r : M.Request). PerformsAs (M.onNodes (model .view m) (M.storeCall (model .lent m) (model .view m .nodes) r)) m a m′)
-      (ap (λ (r : Request). wanted r (onIds (M.requested c .node .children))) f ∙ t)
-      p)
-
-  pub simplify-body : (mode : Modes.Mode) (o depth budget : ℕ) → body ≡ Simplify mode o depth budget → Performs (M.simplify (modeOf mode) (idOf ids done (m .arena .count) o) depth budget) m a m′ → PerformsBody s body ids done m a m′
-  simplify-body mode o depth budget e p = body-whole s body ids done m (M.simplify (modeOf mode) o depth budget) (ap (callOf s) e) a m′ p
-
-  pub prune-body : (o threshold : ℕ) → body ≡ Prune o threshold → Performs (M.prune (idOf ids done (m .arena .count) o) threshold) m a m′ → PerformsBody s body ids done m a m′
-  prune-body o threshold e p = body-whole s body ids done m (M.prune o threshold) (ap (callOf s) e) a m′ p
+  pub asked-nothing : r ≡ Malformed → callOf s body ≡ none
+  asked-nothing e = subst (RequestsIn s body id) e q

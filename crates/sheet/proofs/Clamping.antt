@@ -13,6 +13,7 @@ use Rattle.definitions.specs.Node.{Node, node, addKind, mulKind, negKind, funct
 use Rattle.definitions.specs.Intern.{Lent, intern}
 use Rattle.definitions.specs.Walk.{Mode, walkRoot}
 use Rattle.definitions.specs.Threshold.{given}
+use Rattle.definitions.specs.Settings.{setting}
 use Rattle.definitions.specs.Machine as M
 use Rattle.sheet.specs.Running.{idOf, idBelow}
 
@@ -96,6 +97,10 @@ module _ (ids : List ℕ) (done count : ℕ) where
     unfolding M.call M.pruneCall
     prune-same o threshold = ap (M.onNodes (M.state ns)) (root-same (λ i. M.pruneAt l ns i (given threshold)) o)
 
+    pub setting-same : (o n : ℕ) → M.call l (M.state ns) (M.pruneBySetting (idBelow ids done count o) n) ≡ M.call l (M.state ns) (M.pruneBySetting (idOf ids done count o) n)
+    unfolding M.call M.pruneCall
+    setting-same o n = ap (M.onNodes (M.state ns)) (root-same (λ i. M.pruneAt l ns i (setting n)) o)
+
 -- ---- more operands than any node has children
 
 both-false : (c x y : Bool) → x ≡ false → y ≡ false → cond c x y ≡ false
@@ -110,13 +115,16 @@ many kind payload n h =
     (both-false (eqb kind functionKind) _ _ (lt-leb n mostChildren h)
     (both-false (eqb kind controlKind) _ _ (both-false (eqb payload forLoopControl) _ _ (ne-eqb n 4 (λ e. omega arith)) (ne-eqb n 3 (λ e. omega arith))) (ne-eqb n 0 (λ e. omega arith))))
 
-module _ (l : Lent) (ns : List Node) (kind payload flags : ℕ) (os : List ℕ) where
-  pub store-many : nanConstant kind payload ≡ false → mostChildren < length os → M.storeCall l ns (M.request true (node kind payload flags os)) ≡ M.outcome (M.refused badChildCount) ns
-  unfolding M.storeCall
-  store-many v h =
-      ap₂ (λ (n b : Bool). cond n (M.outcome (M.refused notANumber) ns) (cond b (cond (M.allBelow (length ns) os) (M.storedAs (intern l ns (node kind payload flags os))) (M.outcome (M.refused badOperand) ns)) (M.outcome (M.refused badChildCount) ns)))
-      v (many kind payload (length os) h)
+module _ (l : Lent) (ns : List Node) (b : Bool) (kind payload flags : ℕ) where
+  -- a store call, by whether the number of children is listed
+  abbrev byCount : List ℕ → Bool → M.Outcome
+  byCount os t =
+      cond b
+      (cond (nanConstant kind payload) (M.outcome (M.refused notANumber) ns)
+      (cond t (cond (M.allBelow (length ns) os) (M.storedAs (intern l ns (node kind payload flags os))) (M.outcome (M.refused badOperand) ns)) (M.outcome (M.refused badChildCount) ns)))
+      (M.outcome (M.refused badCode) ns)
 
-  pub store-unlisted : M.storeCall l ns (M.request false (node kind payload flags os)) ≡ M.outcome (M.refused badCode) ns
+  -- two nodes with so many children are refused alike
+  pub many-same : (os os′ : List ℕ) → mostChildren < length os → mostChildren < length os′ → M.storeCall l ns (M.request b (node kind payload flags os)) ≡ M.storeCall l ns (M.request b (node kind payload flags os′))
   unfolding M.storeCall
-  store-unlisted = refl
+  many-same os os′ h k = ap (byCount os) (many kind payload (length os) h) ∙ sym (ap (byCount os′) (many kind payload (length os′) k))

@@ -17,8 +17,8 @@ use Rattle.definitions.specs.Intern.{Lent}
 use Rattle.definitions.specs.Machine as M
 use Rattle.definitions.specs.Sheet as Sheet
 use Rattle.definitions.proofs.Listing.{last-more}
-use Rattle.store.specs.Memory.{Memory, memory, model, Stays}
-use Rattle.store.proofs.Staying.{stays-refl, stays-trans}
+use Rattle.store.specs.Memory.{Memory, memory, model, Leaves, Stays}
+use Rattle.store.proofs.Staying.{stays-refl, stays-trans, leaves-stays}
 use Rattle.store.proofs.Viewing.{plain-length}
 use Rattle.arena.specs.declared.DagArena.{DagArena}
 use Rattle.records.specs.declared.Record.{Record}
@@ -26,11 +26,14 @@ use Rattle.records.specs.Reading.{callOf, ReadsRecord}
 use Rattle.listing_lines.specs.declared.Outcome.{Outcome}
 use Rattle.listing_lines.specs.declared.Outcome.the-variants.{Ok, Empty, Spent, Refused as RefusedAt}
 use Rattle.listing_lines.specs.Outcome.{answeredAs, outcomeOf}
-use Rattle.sheet.specs.declared.performing.Answer.{Answer}
-use Rattle.sheet.specs.declared.performing.Answer.the-variants.{Answered, Refused}
+use Rattle.store_calls.specs.declared.answers.Answer.{Answer}
+use Rattle.store_calls.specs.declared.answers.Answer.the-variants.{Refused as RefusedAnswer}
+use Rattle.store_calls.specs.Calls.{answerOf}
+use Rattle.sheet.specs.declared.running.Noted.{Noted}
+use Rattle.sheet.specs.declared.running.Noted.the-variants.{Answered, Refused}
 use Rattle.sheet.specs.declared.running.Progress.{Progress}
 use Rattle.sheet.specs.declared.running.Turn.the-variants.{More, Refused as RefusedTurn}
-use Rattle.sheet.specs.Running.{answerAs, Performs, PerformsBody, idOf, finishedAs, Doing, RunsRecords, Turned}
+use Rattle.sheet.specs.Running.{notedAs, PerformsBody, idOf, finishedAs, Doing, RunsRecords, Turned}
 
 -- ---- the plain machine's records
 
@@ -79,7 +82,7 @@ record Told (a : M.Answer) (id : ℕ) (spent : Bool) : Type 0 where
   pub noted : Sheet.answerId a ≡ id
   pub says : answeredAs a ≡ cond spent (Spent id) (Ok id)
 
-told : (a : M.Answer) (id : ℕ) (spent : Bool) → Answered id spent ≡ answerAs a → Told a id spent
+told : (a : M.Answer) (id : ℕ) (spent : Bool) → Answered id spent ≡ notedAs a → Told a id spent
 told (M.stored i) id spent e = subst (λ (x : Bool). Told (M.stored i) id x) (let t : false ≡ spent = cc in t) (record { passes = refl; noted = cc; says = ap Ok (let n : i ≡ id = cc in n) })
 told (M.simplified i b steps) id spent e = go b spent (let n : i ≡ id = cc in n) (let t : b ≡ spent = cc in t)
   where
@@ -91,7 +94,7 @@ told (M.simplified i b steps) id spent e = go b spent (let n : i ≡ id = cc in 
 told (M.pruned i k d) id spent e = subst (λ (x : Bool). Told (M.pruned i k d) id x) (let t : false ≡ spent = cc in t) (record { passes = refl; noted = cc; says = ap Ok (let n : i ≡ id = cc in n) })
 told (M.refused r) id spent e = absurd (let z : _≡_ {A = ℕ} 0 1 = cc in omega arith)
 
-refusal-of : (a : M.Answer) (number : ℕ) → Refused number ≡ answerAs a → Sheet.refusalOf a ≡ some number
+refusal-of : (a : M.Answer) (number : ℕ) → Refused number ≡ notedAs a → Sheet.refusalOf a ≡ some number
 refusal-of (M.stored i) number e = absurd (let z : _≡_ {A = ℕ} 0 1 = cc in omega arith)
 refusal-of (M.simplified i b steps) number e = absurd (let z : _≡_ {A = ℕ} 0 1 = cc in omega arith)
 refusal-of (M.pruned i k d) number e = absurd (let z : _≡_ {A = ℕ} 0 1 = cc in omega arith)
@@ -183,29 +186,36 @@ module _ (s : List ℕ) (plain : Sheet.Ran) (m : Memory) (p : Progress) (m′ : 
           go o false e = sym (plain-length (m′ .words) (m′ .arena .count))
 
       module _ (m″ : Memory) where
-        after : (c : M.Call) (a : Answer) → Performs (Sheet.callOn (idOf ids (p .done) (m′ .arena .count)) c) m′ a m″ → Performs (Sheet.callOn (Sheet.operandId (length (st .nodes)) al) c) m′ a m″
-        after c a q = subst (λ (f : ℕ → ℕ). Performs (Sheet.callOn f c) m′ a m″) operand-same q
+        -- a record's call, with what is noted of its answer
+        abbrev Performs : M.Call → Noted → Type 0
+        Performs c n = (n ≡ notedAs (M.call l st c .answer)) × (model .view m″ ≡ M.call l st c .left) × Stays m′ m″
 
-        passed-refused : (number : ℕ) (c : M.Call) → callOf s (r .body) ≡ some c → Performs (Sheet.callOn (Sheet.operandId (length (st .nodes)) al) c) m′ (Refused number) m″ → RunsRecords plain m (RefusedAt number (p .done)) m″
+        after : (c : M.Call) (a : Answer) (n : Noted) → n ≡ notedAs (answerOf a) → Leaves (Sheet.callOn (idOf ids (p .done) (m′ .arena .count)) c) m′ (answerOf a) m″ → Performs (Sheet.callOn (Sheet.operandId (length (st .nodes)) al) c) n
+        after c a n e k =
+            let h = d .stays .sound in
+            subst (λ (f : ℕ → ℕ). Performs (Sheet.callOn f c) n) operand-same
+            (e ∙ ap notedAs (k .called .answer h), k .called .left h, leaves-stays (Sheet.callOn (idOf ids (p .done) (m′ .arena .count)) c) m′ (answerOf a) m″ h k)
+
+        passed-refused : (number : ℕ) (c : M.Call) → callOf s (r .body) ≡ some c → Performs (Sheet.callOn (Sheet.operandId (length (st .nodes)) al) c) (Refused number) → RunsRecords plain m (RefusedAt number (p .done)) m″
         passed-refused number c e q =
             let a = M.call l st (Sheet.callOn (Sheet.operandId (length (st .nodes)) al) c) in
             finish plain m m″ _ al (some (number, length al)) (a .left)
-            (sym (ap (λ (o : Option ℕ). elim o [ none ↦ Sheet.records k l (al ++ a .answer ∷ []) (a .left) (drop (r .next .at) s) | some n ↦ Sheet.ran al (some (n, length al)) (a .left) ]) (refusal-of (a .answer) number (q .answer))) ∙ stepped (some c) e)
-            (refused-at number) (q .left) (stays-trans m m′ m″ (d .stays) (q .stays))
+            (sym (ap (λ (o : Option ℕ). elim o [ none ↦ Sheet.records k l (al ++ a .answer ∷ []) (a .left) (drop (r .next .at) s) | some n ↦ Sheet.ran al (some (n, length al)) (a .left) ]) (refusal-of (a .answer) number (q .0))) ∙ stepped (some c) e)
+            (refused-at number) (q .1) (stays-trans m m′ m″ (d .stays) (q .2))
 
-        pub doing-refused : (number : ℕ) (a : Answer) → a ≡ Refused number → PerformsBody s (r .body) ids (p .done) m′ a m″ → RunsRecords plain m (RefusedAt number (p .done)) m″
-        doing-refused number a t whole = go (callOf s (r .body)) refl
+        pub doing-refused : (number : ℕ) (a : Answer) (n : Noted) → n ≡ notedAs (answerOf a) → n ≡ Refused number → PerformsBody s (r .body) ids (p .done) m′ a m″ → RunsRecords plain m (RefusedAt number (p .done)) m″
+        doing-refused number a n f t q = go (callOf s (r .body)) refl
           where
-            q : PerformsBody s (r .body) ids (p .done) m′ (Refused number) m″
-            q = subst (λ (x : Answer). PerformsBody s (r .body) ids (p .done) m′ x m″) t whole
+            noted : Refused number ≡ notedAs (answerOf a)
+            noted = sym t ∙ f
 
             go : (o : Option M.Call) → callOf s (r .body) ≡ o → RunsRecords plain m (RefusedAt number (p .done)) m″
             go none e =
                 let same = q .malformed e in
-                let n : number ≡ badRecord = (let f = same .0 in cc) in
-                finish plain m m″ _ al (some (badRecord, length al)) st (stepped none e) (ap (λ (i : ℕ). RefusedAt i (p .done)) n ∙ refused-at badRecord) (ap (model .view) (same .1))
+                let i : number ≡ badRecord = (let g : Refused number ≡ Refused badRecord = noted ∙ ap (λ (x : Answer). notedAs (answerOf x)) (same .0) in cc) in
+                finish plain m m″ _ al (some (badRecord, length al)) st (stepped none e) (ap (λ (j : ℕ). RefusedAt j (p .done)) i ∙ refused-at badRecord) (ap (model .view) (same .1))
                 (subst (λ (y : Memory). Stays m y) (sym (same .1)) (d .stays))
-            go (some c) e = passed-refused number c e (after c (Refused number) (q .whole c e))
+            go (some c) e = passed-refused number c e (after c a (Refused number) noted (q .whole c e))
 
         module _ (id : ℕ) (spent : Bool) (p′ : Progress) (done′ : p′ .done ≡ p .done + 1) (at′ : p′ .at ≡ r .next .at) (id′ : p′ .id ≡ id) (spent′ : p′ .spent ≡ spent) where
           noted-more : (a : M.Answer) → Sheet.answerId a ≡ id → (i : ℕ) → i < p .done + 1 → getD (set ids (p .done) id) i 0 ≡ Sheet.answerId (getD (al ++ a ∷ []) i (M.refused 0))
@@ -225,10 +235,10 @@ module _ (s : List ℕ) (plain : Sheet.Ran) (m : Memory) (p : Progress) (m′ : 
                   ∙ getD-set-same ids (p .done) id 0 (omega arith)
                   ∙ sym (ap Sheet.answerId (getD-at al a [] (M.refused 0) i (long ∙ sym z)) ∙ e)
 
-          passed-more : (c : M.Call) → callOf s (r .body) ≡ some c → Performs (Sheet.callOn (Sheet.operandId (length (st .nodes)) al) c) m′ (Answered id spent) m″ → Doing s plain m p′ m″ (set ids (p .done) id)
+          passed-more : (c : M.Call) → callOf s (r .body) ≡ some c → Performs (Sheet.callOn (Sheet.operandId (length (st .nodes)) al) c) (Answered id spent) → Doing s plain m p′ m″ (set ids (p .done) id)
           passed-more c e q =
               let a = M.call l st (Sheet.callOn (Sheet.operandId (length (st .nodes)) al) c) in
-              let t = told (a .answer) id spent (q .answer) in
+              let t = told (a .answer) id spent (q .0) in
               let few : p .done + 1 ≤ mostRecords = omega arith in
               let w : length ids ≡ mostRecords = d .wide in
               let ahead : length (al ++ a .answer ∷ []) ≡ length al + length (a .answer ∷ []) = length-append al (a .answer ∷ []) in
@@ -244,21 +254,21 @@ module _ (s : List ℕ) (plain : Sheet.Ran) (m : Memory) (p : Progress) (m′ : 
                     ∙ sym (some-done (p′ .done) (p′ .id) (p′ .spent) (λ z. omega arith) ∙ ap₂ (λ (b : Bool) (i : ℕ). cond b (Spent i) (Ok i)) spent′ id′);
                 goes =
                     ap₂ (λ (n j : ℕ). Sheet.records (mostRecords - n) (model .lent m″) (al ++ a .answer ∷ []) (model .view m″) (drop j s)) done′ at′
-                    ∙ ap₂ (λ (l′ : Lent) (st′ : M.State). Sheet.records k l′ (al ++ a .answer ∷ []) st′ (drop (r .next .at) s)) (q .stays .same-lent) (q .left)
+                    ∙ ap₂ (λ (l′ : Lent) (st′ : M.State). Sheet.records k l′ (al ++ a .answer ∷ []) st′ (drop (r .next .at) s)) (q .2 .same-lent) (q .1)
                     ∙ sym (ap (λ (o : Option ℕ). elim o [ none ↦ Sheet.records k l (al ++ a .answer ∷ []) (a .left) (drop (r .next .at) s) | some n ↦ Sheet.ran al (some (n, length al)) (a .left) ]) (t .passes))
                     ∙ stepped (some c) e;
-                stays = stays-trans m m′ m″ (d .stays) (q .stays);
+                stays = stays-trans m m′ m″ (d .stays) (q .2);
               }
 
-          pub doing-more : (a : Answer) → a ≡ Answered id spent → PerformsBody s (r .body) ids (p .done) m′ a m″ → Doing s plain m p′ m″ (set ids (p .done) id)
-          doing-more a t whole = go (callOf s (r .body)) refl
+          pub doing-more : (a : Answer) (n : Noted) → n ≡ notedAs (answerOf a) → n ≡ Answered id spent → PerformsBody s (r .body) ids (p .done) m′ a m″ → Doing s plain m p′ m″ (set ids (p .done) id)
+          doing-more a n f t q = go (callOf s (r .body)) refl
             where
-              q : PerformsBody s (r .body) ids (p .done) m′ (Answered id spent) m″
-              q = subst (λ (x : Answer). PerformsBody s (r .body) ids (p .done) m′ x m″) t whole
+              noted : Answered id spent ≡ notedAs (answerOf a)
+              noted = sym t ∙ f
 
               go : (o : Option M.Call) → callOf s (r .body) ≡ o → Doing s plain m p′ m″ (set ids (p .done) id)
-              go none e = absurd (let f = q .malformed e .0 in let z : _≡_ {A = ℕ} 0 1 = cc in omega arith)
-              go (some c) e = passed-more c e (after c (Answered id spent) (q .whole c e))
+              go none e = absurd (let g : Answered id spent ≡ Refused badRecord = noted ∙ ap (λ (x : Answer). notedAs (answerOf x)) (q .malformed e .0) in let z : _≡_ {A = ℕ} 0 1 = cc in omega arith)
+              go (some c) e = passed-more c e (after c a (Answered id spent) noted (q .whole c e))
 
 -- ---- a turn's two ways
 

@@ -6,8 +6,8 @@ use lib.ListN.{length, take, set, length-set}
 use lib.Seq.{take-suc-set}
 use native.Mathlib.Omega.{arith}
 use native.Mathlib.Numerals.{add-one}
-use Rattle.definitions.specs.Limits.{mostChildren}
 use Rattle.records.specs.Reading.{operandFrom, operandsFrom}
+use Rattle.sheet.specs.Running.{operandsRead}
 
 map-snoc : (f : ℕ → ℕ) (l : List ℕ) (x : ℕ) → map f (l ++ x ∷ []) ≡ map f l ++ f x ∷ []
 map-snoc f [] x = refl
@@ -23,16 +23,16 @@ operands-snoc s first (suc n) =
 -- so many places hold the ids of as many operands
 pub record IdsPlaced (f : ℕ → ℕ) (s : List ℕ) (first operands : ℕ) (children : List ℕ) (k : ℕ) : Type 0 where
   pub within : k ≤ operands
-  pub long : length children ≡ mostChildren
+  pub long : length children ≡ operandsRead
   pub is : take k children ≡ map f (operandsFrom s first k)
 
-pub placed-none : (f : ℕ → ℕ) (s : List ℕ) (first operands : ℕ) (children : List ℕ) → length children ≡ mostChildren → IdsPlaced f s first operands children 0
+pub placed-none : (f : ℕ → ℕ) (s : List ℕ) (first operands : ℕ) (children : List ℕ) → length children ≡ operandsRead → IdsPlaced f s first operands children 0
 unfolding operandsFrom
 placed-none f s first operands children l = record { within = omega arith; long = l; is = refl }
 
-pub placed-more : (f : ℕ → ℕ) (s : List ℕ) (first operands : ℕ) (children : List ℕ) (k : ℕ) → IdsPlaced f s first operands children k → k < operands → operands ≤ mostChildren → (o v : ℕ) → o ≡ operandFrom s (first + k * 2) → v ≡ f o → IdsPlaced f s first operands (set children k v) (k + 1)
+pub placed-more : (f : ℕ → ℕ) (s : List ℕ) (first operands : ℕ) (children : List ℕ) (k : ℕ) → IdsPlaced f s first operands children k → k < operands → operands ≤ operandsRead → (o v : ℕ) → o ≡ operandFrom s (first + k * 2) → v ≡ f o → IdsPlaced f s first operands (set children k v) (k + 1)
 placed-more f s first operands children k d h few o v e g =
-    let long : length children ≡ mostChildren = d .long in
+    let long : length children ≡ operandsRead = d .long in
     record {
       within = omega arith;
       long = length-set children k v ∙ long;

@@ -1,7 +1,7 @@
 -- What doing a sheet's records, one after another, says of the memory before them, their outcome and the memory after them.
 use Prim.Native.Nat.{ℕ, _+_, _*_, _-_, _≤_, _<_}
 use mathlib.Core.Path.{_≡_}
-use mathlib.Core.Bool.{Bool, true, false, _&&_, cond}
+use mathlib.Core.Bool.{Bool, false, cond}
 use mathlib.Core.Option.{Option, none, some}
 use mathlib.Core.List.{List, [], map}
 use lib.ListN.{length, getD, drop}
@@ -9,40 +9,34 @@ use lib.Dec.{leb, ltb, eqb}
 use Rattle.arena.specs.declared.DagArena.{DagArena}
 use Rattle.definitions.specs.Limits.{mostRecords, mostChildren}
 use Rattle.definitions.specs.Refusals.{badRecord}
-use Rattle.definitions.specs.Node.{addKind, controlKind, forLoopControl, lastOperator, bothFlags, node, nanConstant}
 use Rattle.definitions.specs.Machine as M
 use Rattle.definitions.specs.Sheet as Sheet
-use Rattle.store.specs.Memory.{Memory, memory, model, Stays}
+use Rattle.store.specs.Memory.{Memory, memory, model, Leaves, Stays}
+use Rattle.store_calls.specs.declared.Call.{Call}
+use Rattle.store_calls.specs.declared.answers.Answer.{Answer}
+use Rattle.store_calls.specs.declared.answers.Answer.the-variants.{Refused as RefusedAnswer}
+use Rattle.store_calls.specs.Calls as Store
 use Rattle.records.specs.declared.Body.{Body}
-use Rattle.records.specs.Reading.{callOf}
+use Rattle.records.specs.Reading.{callOf, operandsFrom, OperandsInSheet}
 use Rattle.listing_lines.specs.declared.Outcome.{Outcome}
 use Rattle.listing_lines.specs.declared.Outcome.the-variants.{Ok, Empty, Spent, Refused as RefusedAt}
 use Rattle.listing_lines.specs.Outcome.{outcomeOf}
-use Rattle.sheet.specs.declared.building.Request.{Request}
-use Rattle.sheet.specs.declared.performing.Answer.{Answer}
-use Rattle.sheet.specs.declared.performing.Answer.the-variants.{Answered, Refused}
+use Rattle.sheet.specs.declared.performing.Request.{Request}
+use Rattle.sheet.specs.declared.performing.Request.the-variants.{Call as Asked, Malformed}
+use Rattle.sheet.specs.declared.running.Noted.{Noted}
+use Rattle.sheet.specs.declared.running.Noted.the-variants.{Answered, Refused}
 use Rattle.sheet.specs.declared.running.Progress.{Progress}
 use Rattle.sheet.specs.declared.running.Turn.{Turn}
 use Rattle.sheet.specs.declared.running.Turn.the-variants.{More, Refused as RefusedTurn}
 
 -- ---- one record
 
--- a call's answer as its record has it: the id and whether the budget ran out, or the refusal's number
-abbrev pub answerAs : M.Answer → Answer
-answerAs (M.stored id) = Answered id false
-answerAs (M.simplified id spent steps) = Answered id spent
-answerAs (M.pruned id kept dropped) = Answered id false
-answerAs (M.refused number) = Refused number
-
--- on a sound store, what the plain machine answers and leaves
-pub record PerformsAs (plain : M.After) (m : Memory) (a : Answer) (m′ : Memory) : Type 0 where
-  pub answer : a ≡ answerAs (plain .answer)
-  pub left : model .view m′ ≡ plain .left
-  pub stays : Stays m m′
-
--- a call on a sound store, as the plain machine does it
-abbrev pub Performs : M.Call → Memory → Answer → Memory → Type 0
-Performs c m a m′ = PerformsAs (M.call (model .lent m) (model .view m) c) m a m′
+-- a call's answer as it is noted: the id and whether the budget ran out, or the refusal's number
+abbrev pub notedAs : M.Answer → Noted
+notedAs (M.stored id) = Answered id false
+notedAs (M.simplified id spent steps) = Answered id spent
+notedAs (M.pruned id kept dropped) = Answered id false
+notedAs (M.refused number) = Refused number
 
 -- the id of an operand; one that is no earlier record gets the count
 abbrev pub idOf : List ℕ → ℕ → ℕ → ℕ → ℕ
@@ -52,34 +46,32 @@ idOf ids done count operand = cond (ltb operand done) (getD ids operand 0) count
 abbrev pub idBelow : List ℕ → ℕ → ℕ → ℕ → ℕ
 idBelow ids done count operand = cond (ltb operand done) (cond (ltb (getD ids operand 0) count) (getD ids operand 0) count) count
 
--- what the plain machine is asked for, with these children
-abbrev pub wanted : Request → List ℕ → M.Request
-wanted q children = M.request (q .listed) (node (q .kind) (q .payload) (q .flags) children)
+-- one operand more than a node has children stands for all past it: either way the call is refused with 6
+abbrev pub operandsRead : ℕ
+operandsRead = mostChildren + 1
 
--- a record that builds a node, over operands
-abbrev pub PerformsStore : Request → List ℕ → List ℕ → ℕ → Memory → Answer → Memory → Type 0
-PerformsStore q operands ids done m a m′ =
-    PerformsAs (M.onNodes (model .view m) (M.storeCall (model .lent m) (model .view m .nodes) (wanted q (map (idOf ids done (m .arena .count)) operands)))) m a m′
+abbrev pub readOf : ℕ → ℕ
+readOf operands = cond (leb operands operandsRead) operands operandsRead
 
--- more operands than a node has children are asked for by no constant whose bits are a NaN: a constant's record has no operands
-abbrev pub NumberIfMany : Request → ℕ → Type 0
-NumberIfMany q operands = mostChildren < operands → nanConstant (q .kind) (q .payload) ≡ false
+-- A call that a body asks for, over operands that stand in the sheet, with these ids for record numbers.
+pub record AsksFor (s : List ℕ) (body : Body) (id : ℕ → ℕ) (call : Call) (first operands : ℕ) : Type 0 where
+  pub within : first + operands * 2 ≤ length s
+  pub plain : M.Call
+  pub is : callOf s body ≡ some plain
+  pub same : Store.callOf call (map id (operandsFrom s first operands)) ≡ Sheet.callOn id plain
 
--- what 01, 02 and 04 want
-abbrev pub listedRequest : ℕ → ℕ → Request
-listedRequest kind payload = record { listed = true; kind = kind; payload = payload; flags = 0 }
+abbrev pub RequestsIn : List ℕ → Body → (ℕ → ℕ) → Request → Type 0
+RequestsIn s body id (Asked call first operands) = AsksFor s body id call first operands
+RequestsIn s body id Malformed = callOf s body ≡ none
 
--- what 03 and 05 want
-abbrev pub operatorRequest : ℕ → ℕ → Request
-operatorRequest code flags = record { listed = leb code lastOperator && leb flags bothFlags; kind = addKind + code; payload = 0; flags = flags }
+-- whatever sheet the body is of
+abbrev pub Requests : Body → (ℕ → ℕ) → Request → Type 0
+Requests body id r = (s : List ℕ) → OperandsInSheet (length s) body → RequestsIn s body id r
 
-abbrev pub controlRequest : ℕ → Request
-controlRequest code = record { listed = leb code forLoopControl; kind = controlKind; payload = code; flags = 0 }
-
--- a record's body: its call on ids, or refusal 2
+-- a record's body on a sound store: its call on ids, or refusal 2
 pub record PerformsBody (s : List ℕ) (body : Body) (ids : List ℕ) (done : ℕ) (m : Memory) (a : Answer) (m′ : Memory) : Type 0 where
-  pub whole : (c : M.Call) → callOf s body ≡ some c → Performs (Sheet.callOn (idOf ids done (m .arena .count)) c) m a m′
-  pub malformed : callOf s body ≡ none → (a ≡ Refused badRecord) × (m′ ≡ m)
+  pub whole : (c : M.Call) → callOf s body ≡ some c → Leaves (Sheet.callOn (idOf ids done (m .arena .count)) c) m (Store.answerOf a) m′
+  pub malformed : callOf s body ≡ none → (a ≡ RefusedAnswer badRecord) × (m′ ≡ m)
 
 -- ---- records one after another
 

@@ -1,5 +1,4 @@
 // Sheets (01, "sheets and the listing"): records done in order on one store.
-mod building;
 mod operands;
 mod performing;
 mod running;

@@ -7,15 +7,16 @@ ghost use Rattle.definitions.specs.Limits.{mostRecords};
 ghost use Rattle.definitions.specs.Sheet as Sheet;
 ghost use Rattle.store.specs.Sound.{Sound};
 ghost use Rattle.store.specs.Memory.{memory, model};
-ghost use Rattle.sheet.specs.Running.{NextRecord, RunsRecords, finishedAs};
+ghost use Rattle.store_calls.specs.Calls.{answerOf};
+ghost use Rattle.sheet.specs.Running.{NextRecord, RunsRecords, finishedAs, notedAs};
 use crate::MOST_RECORDS;
 use crate::Ran;
-use crate::performing::Answer;
 use crate::performing::perform;
 use arena::DagArena;
 use definitions::refusals::TOO_MANY_RECORDS;
 use listing_lines::Outcome;
 use records::Cursor;
+use store_calls::Answer;
 
 // How far a sheet is done: the number of records, where the next one starts, the last answer's id and whether its budget ran out,
 // and the counts of the store.
@@ -31,6 +32,29 @@ pub(crate) struct Progress {
 pub(crate) enum Turn {
     More(Progress),
     Refused { number: u64, arena: DagArena },
+}
+
+// What a record's answer is noted as: an id, and whether the budget ran out; or the number of a refusal.
+pub(crate) enum Noted {
+    Answered { id: u64, spent: bool },
+    Refused(u64),
+}
+
+fn note(answer: Answer) -> Noted
+    ensures { λ r. ⌜ r ≡ notedAs (answerOf answer) ⌝ }
+{
+    match answer {
+        Answer::Stored(id) => Noted::Answered { id, spent: false },
+        Answer::Simplified(walked) => Noted::Answered {
+            id: walked.id,
+            spent: walked.spent,
+        },
+        Answer::Pruned(pruned) => Noted::Answered {
+            id: pruned.id,
+            spent: false,
+        },
+        Answer::Refused(number) => Noted::Refused(number),
+    }
 }
 
 // The next record: 3, then 2 and the call's own refusals.
@@ -61,12 +85,13 @@ fn step(
     let performed = perform(sheet, body, ids, done, nodes, slots, arena);
     let after = performed.arena;
     let answer = performed.answer;
-    match answer {
-        Answer::Refused(number) => Turn::Refused {
+    let noted = note(answer);
+    match noted {
+        Noted::Refused(number) => Turn::Refused {
             number,
             arena: after,
         },
-        Answer::Answered { id, spent } => {
+        Noted::Answered { id, spent } => {
             ids[done] = id;
             Turn::More(Progress {
                 done: done + 1,

@@ -1,0 +1,102 @@
+// The answers of a store's calls.
+ghost use mathlib.Core.Path.{_≡_};
+ghost use Rattle.store.specs.Memory as Store;
+ghost use Rattle.walk.specs.Answers as Walk;
+ghost use Rattle.pruner.specs.Answers as Pruner;
+ghost use Rattle.store_calls.specs.Calls.{answerOf};
+use arena::DagArena;
+use store::Built;
+
+// What a walk answers: an id, whether the budget was used up with frames left, and the steps.
+pub struct Walked {
+    pub id: u64,
+    pub spent: bool,
+    pub steps: u64,
+}
+
+// What a prune answers: an id, and the numbers of terms kept and dropped.
+pub struct Pruned {
+    pub id: u64,
+    pub kept: u64,
+    pub dropped: u64,
+}
+
+pub enum Answer {
+    Stored(u64),
+    Simplified(Walked),
+    Pruned(Pruned),
+    // The number of a refusal.
+    Refused(u64),
+}
+
+// An answer, and the store's count and size after it.
+pub struct Performed {
+    pub answer: Answer,
+    pub arena: DagArena,
+}
+
+// The answer of a call that makes a node.
+pub fn of_built(built: Built) -> Performed
+    ensures { λ r. ⌜ (answerOf (r .answer) ≡ Store.answerOf (built .answer)) × (r .arena ≡ built .arena) ⌝ }
+{
+    let answer = built.answer;
+    let arena = built.arena;
+    match answer {
+        store::Answer::Id(id) => Performed {
+            answer: Answer::Stored(id),
+            arena,
+        },
+        store::Answer::Refused(number) => Performed {
+            answer: Answer::Refused(number),
+            arena,
+        },
+    }
+}
+
+// The answer of a walk.
+pub(crate) fn of_walk(outcome: walk::Outcome) -> Performed
+    ensures { λ r. ⌜ (answerOf (r .answer) ≡ Walk.meaning (outcome .answer)) × (r .arena ≡ outcome .arena) ⌝ }
+{
+    let answer = outcome.answer;
+    let arena = outcome.arena;
+    match answer {
+        walk::Answer::Simplified { id, steps } => Performed {
+            answer: Answer::Simplified(Walked {
+                id,
+                spent: false,
+                steps,
+            }),
+            arena,
+        },
+        walk::Answer::Spent { id, steps } => Performed {
+            answer: Answer::Simplified(Walked {
+                id,
+                spent: true,
+                steps,
+            }),
+            arena,
+        },
+        walk::Answer::Refused(number) => Performed {
+            answer: Answer::Refused(number),
+            arena,
+        },
+    }
+}
+
+// The answer of a prune.
+pub(crate) fn of_prune(outcome: pruner::Outcome) -> Performed
+    ensures { λ r. ⌜ (answerOf (r .answer) ≡ Pruner.meaning (outcome .answer)) × (r .arena ≡ outcome .arena) ⌝ }
+{
+    let answer = outcome.answer;
+    let arena = outcome.arena;
+    match answer {
+        pruner::Answer::Pruned { id, kept, dropped } => Performed {
+            answer: Answer::Pruned(Pruned { id, kept, dropped }),
+            arena,
+        },
+        pruner::Answer::Refused(number) => Performed {
+            answer: Answer::Refused(number),
+            arena,
+        },
+    }
+}
