@@ -25,5 +25,5 @@ InWidths (control code operands) = Unit {0}
 
 -- that the memory is sound again and as large, that no node is taken away, and when a refusal changes nothing
 abbrev pub EquationGivesLeaves : Type 0
-EquationGivesLeaves = (c : Store) (m m′ : Memory) (a : M.Answer) → InWidths c → ((d : Dec (model .Sound m)) → left a m′ ≡ leftBy (M.store c) m d)
-    → Dec (model .Sound m) → Leaves (M.store c) m a m′
+EquationGivesLeaves = (c : Store) (m m′ : Memory) (a : M.Answer) → InWidths c
+    → ((d : Dec (model .Sound m)) → left a m′ ≡ leftBy (M.store c) m d) → Dec (model .Sound m) → Leaves (M.store c) m a m′
