@@ -107,7 +107,8 @@ ClausesGiveEquation = (bytes : List ℕ) (count : ℕ) (c : NameCall) (a : NameA
     → CallClauses bytes count c a bytes′ count′ → Called bytes count c a bytes′ count′
 
 abbrev pub NameEquationGivesClauses : Type 0
-NameEquationGivesClauses = (bytes : List ℕ) (count number : ℕ) (r : NameBytes) → NameCalled bytes count number r → NameClauses bytes count number r
+NameEquationGivesClauses = (bytes : List ℕ) (count number : ℕ) (r : NameBytes)
+    → NameCalled bytes count number r → NameClauses bytes count number r
 
 -- one name call on one memory, sound or not, has one answer and leaves one memory
 abbrev pub NamesOneWay : Type 0

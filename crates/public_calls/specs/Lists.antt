@@ -15,6 +15,7 @@ BytesPastStay = (words slots bytes : List ℕ) (cs : List ControllerCall) (r : C
 
 -- two runs of one list in one lent memory leave one memory, every word, slot and byte and the counts
 abbrev pub ListsOneWay : Type 0
-ListsOneWay = (words slots bytes : List ℕ) (cs : List ControllerCall) (r r′ : CallResult) (words′ slots′ bytes′ words″ slots″ bytes″ : List ℕ)
+ListsOneWay = (words slots bytes : List ℕ) (cs : List ControllerCall)
+    (r r′ : CallResult) (words′ slots′ bytes′ words″ slots″ bytes″ : List ℕ)
     → Promised words slots bytes cs r words′ slots′ bytes′ → Promised words slots bytes cs r′ words″ slots″ bytes″
     → after words′ slots′ bytes′ r ≡ after words″ slots″ bytes″ r′

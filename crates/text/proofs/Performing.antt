@@ -1,16 +1,13 @@
 -- One token is one name call, one store call, or a name call and then a store call, on sound lists.
 use Prim.Native.Nat.{ℕ, zero, suc, _-_, _*_, _≤_, _<_}
 use mathlib.Core.Path.{_≡_, refl, sym, ap, _∙_, subst}
-use mathlib.Core.Bool.{Bool, true, false, cond}
-use mathlib.Core.Option.{Option, none, some}
-use mathlib.Core.List.{List, [], _∷_, _++_}
-use lib.ListN.{length, length-append, drop}
-use lib.Dec.{ltb}
+use mathlib.Core.List.{List, [], _∷_}
+use lib.ListN.{length, drop}
 use native.Mathlib.Omega.{arith}
 use Rattle.arena.specs.declared.DagArena.{DagArena}
 use Rattle.definitions.specs.Node.{Node}
 use Rattle.definitions.specs.Names as Registry
-use Rattle.definitions.specs.Names.{internName, nameCall, entryBytes}
+use Rattle.definitions.specs.Names.{internName, entryBytes}
 use Rattle.definitions.specs.Machine as M
 use Rattle.store.specs.declared.Answer.{Answer}
 use Rattle.store.specs.declared.Answer.the-variants.{Id, Refused}
@@ -22,7 +19,7 @@ use Rattle.store.proofs.Viewing.{plain-length}
 use Rattle.builder.specs.Stores.{BuildsSound}
 use Rattle.definitions.specs.Beside.{beside}
 use Rattle.definitions.specs.Limits.{mostNodes}
-use Rattle.definitions.specs.Refusals.{badNameLength, noNamePlace}
+use Rattle.definitions.proofs.NameLists.{names-longer}
 use Rattle.names.specs.Memory.{nameMemory, nameModel}
 use Rattle.names.specs.declared.Answer as Named
 use Rattle.names.specs.declared.Answer.the-variants as named
@@ -85,22 +82,6 @@ makes-store c d h words slots a arena b = record {
 
 -- ---- a name call
 
-more-names : (lent : ℕ) (names : List (List ℕ)) (w : List ℕ) → length names ≤ length (nameCall lent names (internName w) .names)
-unfolding nameCall
-more-names lent names w = go (Registry.lengthAllowed w) (Registry.numberFrom names 0 w)
-  where
-    room : (b : Bool) → length names ≤ length ((cond b (Registry.answers (Registry.numbered (length names)) (names ++ w ∷ [])) (Registry.answers (Registry.refused noNamePlace) names)) .names)
-    room true = let e = length-append names (w ∷ []) in omega arith
-    room false = omega arith
-
-    at : (o : Option ℕ) → length names ≤ length (Registry.internAt lent names w o .names)
-    at (some n) = omega arith
-    at none = room (ltb (length names) (Prim.Native.Nat.min lent Registry.mostNames))
-
-    go : (b : Bool) (o : Option ℕ) → length names ≤ length ((cond b (Registry.internAt lent names w o) (Registry.answers (Registry.refused badNameLength) names)) .names)
-    go true o = at o
-    go false o = omega arith
-
 -- an answer that is no number
 abbrev pub NotNumbered : Named.Answer → Type 0
 NotNumbered (named.Numbered n) = ⊥
@@ -122,7 +103,7 @@ module _ (d : ControllerMemory) (h : BothSound d) (w entries : List ℕ) (count 
     store = stays-refl (d .store) (h .store);
     names = clauses .sound (h .names);
     count =
-        let m = more-names (Names.lentEntries (d .names .bytes)) (Names.namesOf (d .names .bytes) (d .names .count)) w in
+        let m = names-longer (Names.lentEntries (d .names .bytes)) (Names.namesOf (d .names .bytes) (d .names .count)) (internName w) in
         let e = ap (λ (x : List (List ℕ)). length x) (clauses .names (h .names)) in
         let p = names-length (d .names .bytes) (d .names .count) in
         let q = names-length entries count in

@@ -29,8 +29,8 @@ readingLeft answer memory = record { answer = answer; memory = memory }
 abbrev pub readingLeftOf : ControllerMemory → AfterCall → ReadingLeft
 readingLeftOf m x = readingLeft (x .answer) (controllerAfter m (x .left))
 
--- What a reading leaves: 20 and the same memory where a list is not sound, else the plain machine's answer and the memory that its nodes and
--- names give.
+-- What a reading leaves: 20 and the same memory where a list is not sound, else the plain machine's answer and the memory that its nodes
+-- and names give.
 abbrev pub readingLeftBy : (s : List ℕ) (m : ControllerMemory) → Dec (BothSound m) → ReadingLeft
 readingLeftBy s m (yes h) = readingLeftOf m (controllerCall (lentOf m) (controllerOf m) (reading s))
 readingLeftBy s m (no n) = readingLeft (Plain.refused notSound) m
