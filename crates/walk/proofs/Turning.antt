@@ -23,7 +23,7 @@ use Rattle.store.proofs.Viewing.{plain-length}
 use Rattle.store.proofs.Keeping.{kept-refl}
 use Rattle.walk.specs.declared.state.Progress.{Progress}
 use Rattle.walk.specs.declared.state.Status.{Status}
-use Rattle.walk.specs.declared.state.Status.the-variants.{Going, Stopped}
+use Rattle.walk.specs.declared.state.Status.the-variants.{Going}
 use Rattle.rebuild.specs.Memory.{Memory, memory, Sound, nodesOf, lentOf, Keeps}
 use Rattle.patterns.specs.declared.firing.Fired.{Fired}
 use Rattle.rebuild.specs.Rebuild.{Rebuildable, finished, Finishes}

@@ -37,4 +37,16 @@ returns-2 : tie.Need-returns-2
 returns-2 c = let known = c .before in E.settles _ _ (known .before .before .before .args .finished) (known .before .before .before .args .progress) (known .answer2 .given .1) refl
 
 pub settle-spec : {M : Type 1} → statement M
-settle-spec = tie.close (tie.spec enum-known-answer cast-values mul-values element-write-values sub-going add-going going-requires enum-known-answer-2 returns returns-2)
+settle-spec =
+    tie.close
+    (tie.spec
+    enum-known-answer
+    cast-values
+    mul-values
+    element-write-values
+    sub-going
+    add-going
+    going-requires
+    enum-known-answer-2
+    returns
+    returns-2)

@@ -47,7 +47,8 @@ arity-requires : tie.Need-arity-requires
 arity-requires c κs = T.may-read _ _ _ (c .before .before .before .before .before .before .before .before .pre)
 
 descend-requires : tie.Need-descend-requires
-descend-requires c κs = let more = c .before .before .before .before in
+descend-requires c κs =
+    let more = c .before .before .before .before in
     let below = more .before .before .before in
     T.descendable _ _ _ (below .before .before .before .before .before .before .before .pre) (below .if1 .left) _ (more .before .arity .ensures) (more .if2 .taken)
 
@@ -55,7 +56,8 @@ same-length : tie.Need-same-length
 same-length c = search needs
 
 returns-2 : tie.Need-returns-2
-returns-2 c = let more = c .before .before .before .before .before in
+returns-2 c =
+    let more = c .before .before .before .before .before in
     let below = more .before .before .before in
     let s = below .before .before .before .before .before .before .before in
     T.descended _ _ _ (s .pre) (below .if1 .left) _ (more .before .arity .ensures) (modeOf (s .args .mode)) (more .if2 .taken) (s .args .progress) refl _ _ (c .descend .ensures)
@@ -73,13 +75,15 @@ part-finish-end : tie.Need-part-finish-end
 part-finish-end c = let b = T.bounds _ _ _ (c .before .before .before .before .before .before .before .before .before .before .before .before .before .before .pre) in search needs
 
 finish-requires : tie.Need-finish-requires
-finish-requires c κs = let other = c .before .before .before .before .before in
+finish-requires c κs =
+    let other = c .before .before .before .before .before in
     let below = other .before .before .before in
     let s = below .before .before .before .before .before .before .before in
     T.rebuildable _ _ _ (s .pre) (below .if1 .left) _ (other .before .arity .ensures) (other .if2 .left)
 
 settle-requires : tie.Need-settle-requires
-settle-requires c κs = let done = c .before .before .before .before .before in
+settle-requires c κs =
+    let done = c .before .before .before .before .before in
     let other = done .before .before .before .before .before .before in
     let below = other .before .before .before in
     let s = below .before .before .before .before .before .before .before in
@@ -92,11 +96,39 @@ same-length-3 : tie.Need-same-length-3
 same-length-3 c = search needs
 
 returns-3 : tie.Need-returns-3
-returns-3 c = let done = c .before .before .before .before .before .before in
+returns-3 c =
+    let done = c .before .before .before .before .before .before in
     let other = done .before .before .before .before .before .before in
     let below = other .before .before .before in
     let s = below .before .before .before .before .before .before .before in
     T.settled _ _ _ (s .pre) (below .if1 .left) _ (other .before .arity .ensures) (other .if2 .left) (modeOf (s .args .mode)) _ _ _ (done .finish .ensures) (s .args .progress) refl _ _ (c .settle .ensures)
 
 pub turn-spec : {M : Type 1} → statement M
-turn-spec = tie.close (tie.spec sub-top mul-id element-copy-out-id mul-cursor element-copy-out-cursor sub-base cast-values mul-values element-write-values add-going going-requires returns arity-requires descend-requires same-length returns-2 mul-finish sub-finish part-finish-start part-finish-end finish-requires settle-requires same-length-2 same-length-3 returns-3)
+turn-spec =
+    tie.close
+    (tie.spec
+    sub-top
+    mul-id
+    element-copy-out-id
+    mul-cursor
+    element-copy-out-cursor
+    sub-base
+    cast-values
+    mul-values
+    element-write-values
+    add-going
+    going-requires
+    returns
+    arity-requires
+    descend-requires
+    same-length
+    returns-2
+    mul-finish
+    sub-finish
+    part-finish-start
+    part-finish-end
+    finish-requires
+    settle-requires
+    same-length-2
+    same-length-3
+    returns-3)
