@@ -7,7 +7,7 @@ use mathlib.Core.Option.{Option, none, some}
 use mathlib.Core.Logic.{_⊎_}
 use lib.ListN.{length, getD}
 use native.Mathlib.Omega.{arith}
-use borrow.Author.Tests.{eq-eqb, ne-eqb}
+use borrow.Author.Tests.{ne-eqb}
 use Rattle.definitions.specs.Node.{Node, addKind, subKind, mulKind, divKind, powKind, negKind}
 use Rattle.definitions.specs.Intern.{Lent, Built}
 use Rattle.definitions.specs.Walk.{Mode, standard, strict}

@@ -1,11 +1,11 @@
 -- The patterns of a kind over its children, first that fits.
 use Prim.Native.Nat.{ℕ, _≤_, _<_}
-use mathlib.Core.Path.{_≡_, refl, sym, ap, _∙_, subst}
+use mathlib.Core.Path.{_≡_, refl, _∙_, subst}
 use mathlib.Core.Bool.{true, false}
 use mathlib.Core.List.{List, [], _∷_}
 use mathlib.Core.Option.{Option, none, some}
 use mathlib.Core.Logic.{_⊎_, inl, inr}
-use lib.ListN.{length, getD}
+use lib.ListN.{length}
 use lib.Ieee.{Float}
 use native.Mathlib.Omega.{arith}
 use borrow.Author.Tests.{ne-eqb}
@@ -13,8 +13,8 @@ use Rattle.definitions.specs.Node.{Node, at, addKind, subKind, mulKind, divKind
 use Rattle.definitions.specs.Intern.{Lent, Built}
 use Rattle.definitions.specs.Walk.{Mode, standard, strict}
 use Rattle.definitions.specs.Firing.{applyAs}
-use Rattle.definitions.specs.Strict.{strictIdentities, strictApply}
-use Rattle.definitions.specs.Patterns.{orElse, constantValue, addZero, subIdentity, mulIdentity, divIdentity, powIdentity, negDouble, identities, binary64Result, fold, foldBoth, constantFold, mulCoefMerge, addCoefMerge, merges, tryApply}
+use Rattle.definitions.specs.Strict.{strictApply}
+use Rattle.definitions.specs.Patterns.{orElse, constantValue, addZero, subIdentity, mulIdentity, divIdentity, powIdentity, identities, binary64Result, fold, foldBoth, constantFold, mulCoefMerge, addCoefMerge, merges, tryApply}
 use Rattle.store.specs.View.{nodesIn}
 use Rattle.patterns.specs.Deciding.{Decides, plainResult, declines}
 use Rattle.patterns.proofs.StrictLaws.{no-strict-identity}

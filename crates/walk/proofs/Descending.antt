@@ -8,7 +8,7 @@ use lib.Dec.{eqb}
 use native.Mathlib.Omega.{arith}
 use native.Mathlib.Numerals.{add-one}
 use borrow.Author.Tests.{eq-eqb, ne-eqb}
-use Rattle.definitions.specs.Limits.{mostChildren}
+use Rattle.definitions.specs.Limits.{mostChildren, mostNodes}
 use Rattle.definitions.specs.Node.{Node, at}
 use Rattle.definitions.specs.Walk as W
 use Rattle.definitions.specs.Walk.{Mode, standard, strict, heeds, Frame, frame, Turn, go, takenUnwalked}
@@ -68,6 +68,10 @@ module _ (w : List ℕ) (count : ℕ) (k : Stack) (d : Descendable w count k) wh
   module _ (child : ℕ) (e : child ≡ getD (at (nodesIn w count) (topId k) .children) (topCursor k) 0) where
     child-below : child < count
     child-below = omega (arith, e, below, R.child-low w count (topId k) may-read cursor (d .more))
+
+    -- a value holds it
+    pub child-small : child < mostNodes
+    child-small = omega (arith, child-below, may-read .nodes .formed .many)
 
     pub may-read-child : Lookup w count child
     may-read-child = d .lookup child child-below

@@ -1,6 +1,6 @@
 pub mod Stacks
-pub mod Gathering
 pub mod Descending
+pub mod Settling
 pub mod Turning
 pub mod Running
 pub mod Refusing

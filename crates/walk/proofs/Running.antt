@@ -134,12 +134,12 @@ module _ (mode : Mode) (m : Memory) (root limit budget : ℕ) where
     }
 
     -- no turn is left to do
-    pub ends : (budget ≤ steps) ⊎ (k .frames ≡ 0) → (r : Answer) → Ends (k .frames) (getD (k .values) 0 0) root steps r
+    pub ends : (budget ≤ steps) ⊎ (k .frames ≡ 0) → (result : ℕ) → result ≡ getD (k .values) 0 0 → (r : Answer) → Ends (k .frames) result root steps r
         → WalksRoot mode m root limit budget here (record { answer = r; arena = here .arena })
-    ends over r e = by (ℕ-discrete (k .frames) 0)
+    ends over result is r e = by (ℕ-discrete (k .frames) 0)
       where
         by : Dec (k .frames ≡ 0) → WalksRoot mode m root limit budget here (record { answer = r; arena = here .arena })
-        by (yes z) = subst (λ (x : Answer). WalksRoot mode m root limit budget here (record { answer = x; arena = here .arena })) (sym (e .finished z)) (finishes z)
+        by (yes z) = subst (λ (x : Answer). WalksRoot mode m root limit budget here (record { answer = x; arena = here .arena })) (sym (e .finished z ∙ ap (λ (x : ℕ). Simplified x steps) is)) (finishes z)
         by (no n) =
             subst (λ (x : Answer). WalksRoot mode m root limit budget here (record { answer = x; arena = here .arena })) (sym (e .spent n))
             (spends (⊎-elim (λ b. b) (λ z. absurd (n z)) over) n)

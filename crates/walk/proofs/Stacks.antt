@@ -4,14 +4,14 @@ use mathlib.Core.Path.{_≡_, refl, sym, ap, ap₂, _∙_, subst}
 use mathlib.Core.List.{List, [], _∷_, _++_, append-assoc, append-nil}
 use mathlib.Core.Logic.{_⊎_, inl, inr}
 use lib.ListN.{length, getD, take, drop, set, length-drop}
-use lib.Seq.{getD-set-same, getD-set-other, take-suc, getD-drop, getD-take, ext-getD, length-take-le}
+use lib.Seq.{getD-set-same, getD-set-other, take-suc, getD-drop}
 use native.Mathlib.Omega.{arith}
 use native.Mathlib.Nat.{add-suc, eq-or-lt-of-le, le-of-suc-le-suc}
 use native.Mathlib.Numerals.{add-one}
 use Rattle.definitions.specs.Limits.{mostChildren}
 use Rattle.definitions.specs.Node.{Node, at}
 use Rattle.definitions.specs.Walk.{Frame, frame, reverseOnto}
-use Rattle.walk.specs.Stack.{framesOf, valuesOf, ValuesBelow, Waiting, held, Valid, Gathered}
+use Rattle.walk.specs.Stack.{framesOf, valuesOf, ValuesBelow, Waiting, held, Valid}
 
 -- ---- writes above what is read
 
@@ -68,14 +68,8 @@ values-reversed vs from (suc n) acc l =
     ∙ sym (ap (λ (x : List ℕ). x ++ acc) (take-suc (drop from vs) n 0 (rw length-drop (omega arith))) ∙ append-assoc (take n (drop from vs)) (getD (drop from vs) n 0 ∷ []) acc
     ∙ ap (λ (x : ℕ). take n (drop from vs) ++ (x ∷ acc)) (getD-drop from vs n 0))
 
-pub gathered : (vs : List ℕ) (from n : ℕ) (places : List ℕ) → from + n ≤ length vs → n ≤ mostChildren → Gathered vs from n places
-    → take n places ≡ reverseOnto (take n (valuesOf vs (from + n))) []
-gathered vs from n places l few g =
-    let a : length (take n places) ≡ n = length-take-le n places (omega (arith, g .long)) in
-    let b : length (take n (drop from vs)) ≡ n = length-take-le n (drop from vs) (rw length-drop (omega arith)) in
-    ext-getD 0 (take n places) (take n (drop from vs)) (a ∙ sym b)
-    (λ j h. let m : j < n = omega (arith, a) in getD-take n places j 0 m ∙ g .taken j m ∙ sym (getD-take n (drop from vs) j 0 m ∙ getD-drop from vs j 0))
-    ∙ sym (values-reversed vs from n [] l ∙ append-nil (take n (drop from vs)))
+pub lent-values : (vs : List ℕ) (from n : ℕ) → from + n ≤ length vs → take n (drop from vs) ≡ reverseOnto (take n (valuesOf vs (from + n))) []
+lent-values vs from n l = sym (values-reversed vs from n [] l ∙ append-nil (take n (drop from vs)))
 
 -- ---- what holds between turns
 

@@ -3,12 +3,12 @@ use Prim.Native.Nat.{ℕ, suc, _+_, _-_, _*_, _≤_, _<_}
 use mathlib.Core.Path.{_≡_, refl, sym, ap, ap₂, _∙_, subst}
 use mathlib.Core.Bool.{Bool, true, false, cond}
 use mathlib.Core.List.{List, [], _∷_}
-use lib.ListN.{length, getD, take, drop, set, length-set}
+use lib.ListN.{length, getD, take, drop, set, length-set, length-drop}
 use lib.Dec.{leb, ltb}
-use lib.Seq.{getD-take, length-take-le}
+use lib.Seq.{getD-take, getD-drop, length-take-le}
 use native.Mathlib.Omega.{arith}
 use borrow.Author.Tests.{le-leb, lt-leb, lt-ltb, le-ltb}
-use Rattle.definitions.specs.Limits.{mostChildren}
+use Rattle.definitions.specs.Limits.{mostChildren, mostNodes}
 use Rattle.definitions.specs.Node.{Node, at}
 use Rattle.definitions.specs.Intern.{Lent}
 use Rattle.definitions.specs.Walk as W
@@ -23,11 +23,12 @@ use Rattle.store.proofs.Viewing.{plain-length}
 use Rattle.store.proofs.Keeping.{kept-refl}
 use Rattle.walk.specs.declared.state.Progress.{Progress}
 use Rattle.walk.specs.declared.state.Status.{Status}
-use Rattle.walk.specs.declared.state.Status.the-variants.{Going, Stopped}
+use Rattle.walk.specs.declared.state.Status.the-variants.{Going}
 use Rattle.rebuild.specs.Memory.{Memory, memory, Sound, nodesOf, lentOf, Keeps}
+use Rattle.patterns.specs.declared.firing.Fired.{Fired}
 use Rattle.rebuild.specs.Rebuild.{Rebuildable, finished, Finishes}
-use Rattle.walk.specs.Stack.{mostFrames, mostValues, Stack, stack, framesOf, valuesOf, framesIn, valuesIn, topId, topCursor, topFrame, framesUnder, ValuesBelow, held, Valid, Whole, Invariant, Gatherable, Gathered}
-use Rattle.walk.specs.Turns.{Descendable, Descends, Ready, turned, turnOf, Turns}
+use Rattle.walk.specs.Stack.{mostFrames, mostValues, Stack, stack, framesOf, valuesOf, framesIn, valuesIn, topId, topCursor, topFrame, framesUnder, ValuesBelow, held, Valid, Whole, Invariant}
+use Rattle.walk.specs.Turns.{Descendable, Descends, Settleable, settledValues, settledProgress, Settles, Ready, turned, turnOf, Turns}
 use Rattle.walk.proofs.Stacks as S
 use Rattle.walk.proofs.Descending.{frames-are}
 
@@ -95,6 +96,10 @@ module _ (m : Memory) (limit : ℕ) (k : Stack) (r : Ready m limit k) where
 
   pub below : topId k < m .arena .count
   below = omega (arith, valid .0, count-is)
+
+  -- a value holds it
+  pub id-small : topId k < mostNodes
+  id-small = omega (arith, below, r .sound .nodes .formed .many)
 
   lookup : (i : ℕ) → i < m .arena .count → Lookup (m .words) (m .arena .count) i
   lookup = R.lookup-of (m .words) (m .slots) (m .arena) (r .sound)
@@ -232,45 +237,73 @@ module _ (m : Memory) (limit : ℕ) (k : Stack) (r : Ready m limit k) where
       value-low : (j : ℕ) → j < cursor → getD (k .values) (from + j) 0 < m .arena .count
       value-low j i = subst (λ (x : ℕ). getD (k .values) (from + j) 0 < x) count-is (S.below-at (length ns) (k .values) (k .filled) (from + j) (valid .4) (omega (arith, from-on)))
 
-      pub may-gather : Gatherable (k .values) (k .filled - topCursor k) (topCursor k)
-      may-gather = record { few = bounds .small; within = omega (arith, from-on, bounds .room); low = λ j i. omega (arith, value-low j i, r .sound .nodes .formed .many) }
+      -- the values of the frame, which are lent as its node's children
+      abbrev children : List ℕ
+      children = take (k .filled - (k .filled - topCursor k)) (drop (k .filled - topCursor k) (k .values))
 
-      module _ (places : List ℕ) (g : Gathered (k .values) (k .filled - topCursor k) (topCursor k) places) where
-        taken-length : length (take cursor places) ≡ cursor
-        taken-length = length-take-le cursor places (omega (arith, g .long, bounds .small))
+      children-taken : children ≡ take cursor (drop from (k .values))
+      children-taken = ap (λ (n : ℕ). take n (drop from (k .values))) (let e : k .filled - from ≡ cursor = omega (arith, filled-is) in e)
 
-        pub rebuildable : Rebuildable m (topId k) (take (topCursor k) places)
-        rebuildable = record {
-          sound = r .sound;
-          below = below;
-          many = taken-length ∙ sym all-taken;
-          lower = λ j q. let i : j < cursor = omega (arith, taken-length) in subst (λ (x : ℕ). x < m .arena .count) (sym (getD-take cursor places j 0 i ∙ g .taken j i)) (value-low j i);
+      children-length : length children ≡ cursor
+      children-length = ap length children-taken ∙ length-take-le cursor (drop from (k .values)) (let b = bounds in rw length-drop (omega (arith, from-on)))
+
+      pub rebuildable : Rebuildable m (topId k) (take (k .filled - (k .filled - topCursor k)) (drop (k .filled - topCursor k) (k .values)))
+      rebuildable = record {
+        sound = r .sound;
+        below = below;
+        many = children-length ∙ sym all-taken;
+        lower = λ j q. let i : j < cursor = omega (arith, children-length) in
+            subst (λ (x : ℕ). x < m .arena .count)
+            (sym (ap (λ (l : List ℕ). getD l j 0) children-taken ∙ getD-take cursor (drop from (k .values)) j 0 i ∙ getD-drop from (k .values) j 0)) (value-low j i);
+      }
+
+      children-are : children ≡ reverseOnto (take cursor vs) []
+      children-are =
+          children-taken ∙ S.lent-values (k .values) from cursor (let b = bounds in omega (arith, from-on))
+          ∙ ap (λ (x : ℕ). reverseOnto (take cursor (valuesOf (k .values) x)) []) from-on
+
+      module _ (mode : Mode) (m′ : Memory) (answer : Answer) (fired : Fired)
+          (f : Finishes mode m (topId k) (take (k .filled - (k .filled - topCursor k)) (drop (k .filled - topCursor k) (k .values))) answer fired m′) where
+        finishing : turn mode (lentOf m) limit ns (topFrame k) fs vs ≡ finished answer (nodesOf m′) fs (valuesOf (k .values) from)
+        finishing =
+            ascending mode (lentOf m) limit ns (topFrame k) fs vs h all-taken
+            ∙ ap (λ (x : List ℕ). finish mode fs (drop cursor vs) (rebuildAs mode (lentOf m) ns id x)) (sym children-are)
+            ∙ ap (λ (x : List ℕ). finish mode fs x (rebuildAs mode (lentOf m) ns id children)) under
+            ∙ sym (f .plainly fs (valuesOf (k .values) from))
+
+        answered : (x : Answer) → answer ≡ x → turn mode (lentOf m) limit ns (topFrame k) fs vs ≡ finished x (nodesOf m′) fs (valuesOf (k .values) from)
+        answered x e = finishing ∙ ap (λ (y : Answer). finished y (nodesOf m′) fs (valuesOf (k .values) from)) e
+
+        low-up : (x : Answer) → Low x (m′ .arena .count) → Low x mostNodes
+        low-up (Id i) l = omega (arith, f .kept .whole .nodes .formed .many)
+        low-up (Refused number) l = tt
+
+        pub settleable : (p : Progress) → p .frames ≡ k .frames → Settleable (k .values) (k .filled - topCursor k) (record { answer = answer; arena = m′ .arena; fired = fired }) p
+        settleable p e = record {
+          some = omega (arith, r .some, e);
+          whole = I .whole .values;
+          room = omega (arith, bounds .room);
+          low = low-up answer (f .low);
         }
 
-        children-are : take cursor places ≡ reverseOnto (take cursor vs) []
-        children-are =
-            S.gathered (k .values) from cursor places (let b = bounds in omega (arith, from-on)) (bounds .small) g
-            ∙ ap (λ (x : ℕ). reverseOnto (take cursor (valuesOf (k .values) x)) []) from-on
+        -- the frame with its result as a value, or stopped
+        settling : (p : Progress) → p .frames ≡ k .frames → (x : Answer) → answer ≡ x
+            → Turns mode m limit k (memory (m′ .words) (m′ .slots) (settledProgress x from (m′ .arena) p .arena))
+            (stack (k .ids) (k .cursors) (settledValues x (k .values) from) (settledProgress x from (m′ .arena) p .frames) (settledProgress x from (m′ .arena) p .filled))
+            (settledProgress x from (m′ .arena) p .status)
+        settling p ef (Id i) e =
+            subst (λ (n : ℕ). Turns mode m limit k m′ (stack (k .ids) (k .cursors) (set (k .values) from i) (n - 1) (from + 1)) Going) (sym ef)
+            (leaves mode m′ (f .kept) i (subst (λ (x : Answer). Low x (m′ .arena .count)) e (f .low)) (answered _ e) _ refl)
+        settling p ef (Refused number) e = record {
+          plainly = sym (turn-is mode ∙ answered _ e);
+          kept = f .kept;
+          goes = λ z. let zero-one : _≡_ {A = ℕ} 0 1 = cc in absurd (omega arith);
+        }
 
-        module _ (mode : Mode) (m′ : Memory) (answer : Answer) (f : Finishes mode m (topId k) (take (topCursor k) places) answer m′) where
-          finishing : turn mode (lentOf m) limit ns (topFrame k) fs vs ≡ finished answer (nodesOf m′) fs (valuesOf (k .values) from)
-          finishing =
-              ascending mode (lentOf m) limit ns (topFrame k) fs vs h all-taken
-              ∙ ap (λ (x : List ℕ). finish mode fs (drop cursor vs) (rebuildAs mode (lentOf m) ns id x)) (sym children-are)
-              ∙ ap (λ (x : List ℕ). finish mode fs x (rebuildAs mode (lentOf m) ns id (take cursor places))) under
-              ∙ sym (f .plainly fs (valuesOf (k .values) from))
-
-          answered : (x : Answer) → answer ≡ x → turn mode (lentOf m) limit ns (topFrame k) fs vs ≡ finished x (nodesOf m′) fs (valuesOf (k .values) from)
-          answered x e = finishing ∙ ap (λ (y : Answer). finished y (nodesOf m′) fs (valuesOf (k .values) from)) e
-
-          pub stops : (number : ℕ) → answer ≡ Refused number → Turns mode m limit k m′ k (Stopped number)
-          stops number e = record {
-            plainly = sym (turn-is mode ∙ answered _ e);
-            kept = f .kept;
-            goes = λ z. let zero-one : _≡_ {A = ℕ} 0 1 = cc in absurd (omega arith);
-          }
-
-          pub ends : (i : ℕ) → answer ≡ Id i → (q : Progress)
-              → q ≡ record { frames = k .frames - 1; filled = k .filled - topCursor k + 1; arena = m′ .arena; status = Going }
-              → Turns mode m limit k (memory (m′ .words) (m′ .slots) (q .arena)) (stack (k .ids) (k .cursors) (set (k .values) (k .filled - topCursor k) i) (q .frames) (q .filled)) (q .status)
-          ends i e = leaves mode m′ (f .kept) i (subst (λ (x : Answer). Low x (m′ .arena .count)) e (f .low)) (answered _ e)
+        pub settled : (p : Progress) → p .frames ≡ k .frames → (values′ : List ℕ) (q : Progress)
+            → Settles (k .values) (k .filled - topCursor k) (record { answer = answer; arena = m′ .arena; fired = fired }) p values′ q
+            → Turns mode m limit k (memory (m′ .words) (m′ .slots) (q .arena)) (stack (k .ids) (k .cursors) values′ (q .frames) (q .filled)) (q .status)
+        settled p ef values′ q s =
+            subst (λ (v : List ℕ). Turns mode m limit k (memory (m′ .words) (m′ .slots) (q .arena)) (stack (k .ids) (k .cursors) v (q .frames) (q .filled)) (q .status)) (sym (s .values-are))
+            (subst (λ (x : Progress). Turns mode m limit k (memory (m′ .words) (m′ .slots) (x .arena)) (stack (k .ids) (k .cursors) (settledValues answer (k .values) from) (x .frames) (x .filled)) (x .status))
+            (sym (s .progress-is)) (settling p ef answer refl))

@@ -3,7 +3,7 @@ use Prim.Native.Nat.{ℕ, zero, suc, _+_, _-_, _*_, _≤_, _<_}
 use mathlib.Core.Path.{_≡_}
 use mathlib.Core.List.{List, [], _∷_}
 use lib.ListN.{length, getD}
-use Rattle.definitions.specs.Limits.{mostDepth, mostChildren, mostNodes}
+use Rattle.definitions.specs.Limits.{mostDepth, mostChildren}
 use Rattle.definitions.specs.Node.{Node, at}
 use Rattle.definitions.specs.Walk.{Frame, frame}
 
@@ -90,15 +90,3 @@ pub record Invariant (ns : List Node) (limit : ℕ) (k : Stack) : Type 0 where
   pub deep : k .frames ≤ limit + 1
   pub whole : Whole k
   pub valid : Valid ns (framesIn k) (valuesIn k)
-
--- n values from a place on, to be the places of so many children
-pub record Gatherable (values : List ℕ) (from n : ℕ) : Type 0 where
-  pub few : n ≤ mostChildren
-  pub within : from + n ≤ mostValues
-  pub low : (place : ℕ) → place < n → getD values (from + place) 0 < mostNodes
-
--- the child places that hold them
-pub record Gathered (values : List ℕ) (from n : ℕ) (places : List ℕ) : Type 0 where
-  pub long : length places ≡ mostChildren
-  pub taken : (place : ℕ) → place < n → getD places place 0 ≡ getD values (from + place) 0
-  pub unused : (place : ℕ) → n ≤ place → getD places place 0 ≡ 0

@@ -2,8 +2,8 @@
 use Prim.Native.Nat.{ℕ, _+_, _-_, _≤_, _<_}
 use mathlib.Core.Path.{_≡_}
 use mathlib.Core.List.{List, [], _∷_}
-use lib.ListN.{length}
-use Rattle.definitions.specs.Limits.{mostDepth}
+use lib.ListN.{length, set}
+use Rattle.definitions.specs.Limits.{mostDepth, mostNodes}
 use Rattle.definitions.specs.Node.{Node, at}
 use Rattle.definitions.specs.Intern.{Lent}
 use Rattle.definitions.specs.Walk as W
@@ -12,13 +12,16 @@ use Rattle.definitions.specs.Modes.{modeOf}
 use Rattle.definitions.specs.declared.mode.Mode as Modes
 use Rattle.definitions.specs.Machine as M
 use Rattle.arena.specs.declared.DagArena.{DagArena}
-use Rattle.store.specs.View.{nodesIn}
+use Rattle.store.specs.View.{nodesIn, Low}
 use Rattle.store.specs.Lookup.{Lookup}
+use Rattle.store.specs.declared.Answer.{Answer}
+use Rattle.store.specs.declared.Answer.the-variants as A
+use Rattle.rebuild.specs.declared.Finished.{Finished}
 use Rattle.walk.specs.declared.state.Progress.{Progress}
 use Rattle.walk.specs.declared.state.Walk.{Walk}
 use Rattle.walk.specs.declared.state.Status.{Status}
 use Rattle.walk.specs.declared.state.Status.the-variants.{Going, Stopped}
-use Rattle.walk.specs.declared.Answer.{Answer}
+use Rattle.walk.specs.declared.Answer as Walks
 use Rattle.walk.specs.declared.Answer.the-variants.{Simplified, Spent}
 use Rattle.walk.specs.declared.Outcome.{Outcome}
 use Rattle.rebuild.specs.Memory.{Memory, memory, Sound, nodesOf, lentOf, Keeps}
@@ -45,6 +48,29 @@ pub record Descends (mode : Mode) (ns : List Node) (k : Stack) (progress : Progr
   pub valid : Valid ns (framesIn k′) (valuesIn k′)
   pub arena : r .arena ≡ progress .arena
   pub status : r .status ≡ Going
+
+-- ---- a finished frame
+
+-- a frame is left, its result is an id, and there is a place for it
+pub record Settleable (values : List ℕ) (base : ℕ) (finished : Finished) (progress : Progress) : Type 0 where
+  pub some : 1 ≤ progress .frames
+  pub whole : length values ≡ mostValues
+  pub room : base < mostValues
+  pub low : Low (finished .answer) mostNodes
+
+abbrev pub settledValues : Answer → List ℕ → ℕ → List ℕ
+settledValues (A.Id result) values base = set values base result
+settledValues (A.Refused number) values base = values
+
+abbrev pub settledProgress : Answer → ℕ → DagArena → Progress → Progress
+settledProgress (A.Id result) base arena progress = record { frames = progress .frames - 1; filled = base + 1; arena = arena; status = Going }
+settledProgress (A.Refused number) base arena progress =
+    record { frames = progress .frames; filled = progress .filled; arena = arena; status = Stopped number }
+
+-- the result as a value in the frame's place, or the refusal
+pub record Settles (values : List ℕ) (base : ℕ) (finished : Finished) (progress : Progress) (values′ : List ℕ) (r : Progress) : Type 0 where
+  pub values-are : values′ ≡ settledValues (finished .answer) values base
+  pub progress-is : r ≡ settledProgress (finished .answer) base (finished .arena) progress
 
 -- ---- a turn
 
@@ -106,7 +132,7 @@ pub record Startable (m : Memory) (root : ℕ) (walk : Walk) : Type 0 where
   pub starts : Starts (walk .mode) root (walk .limit) (m .arena) walk
 
 -- "Exactly if the budget is used up with frames left, the answer is the root, 'spent'"
-pub record Ends (frames result root steps : ℕ) (r : Answer) : Type 0 where
+pub record Ends (frames result root steps : ℕ) (r : Walks.Answer) : Type 0 where
   pub finished : frames ≡ 0 → r ≡ Simplified result steps
   pub spent : (frames ≡ 0 → ⊥) → r ≡ Spent root steps
 

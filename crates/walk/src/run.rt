@@ -1,4 +1,5 @@
 // The walk with its budget.
+ghost use mathlib.Core.Path.{_≡_};
 ghost use Rattle.definitions.specs.Modes.{modeOf};
 ghost use Rattle.rebuild.specs.Memory.{memory};
 ghost use Rattle.walk.specs.Turns.{Startable, Ends, WalksRoot, memoryOf};
@@ -17,6 +18,12 @@ fn ending(frames: usize, result: u64, root: u64, steps: u64) -> Answer
         return Answer::Simplified { id: result, steps };
     }
     Answer::Spent { id: root, steps }
+}
+
+fn wide(value: u32) -> u64
+    ensures { λ r. ⌜ r ≡ value ⌝ }
+{
+    value as u64
 }
 
 // Turns until no frame is left, a budget of them at most.
@@ -63,6 +70,6 @@ pub(crate) fn run(
         steps += 1;
     }
     let arena = progress.arena;
-    let answer = ending(progress.frames, values[0], root, steps);
+    let answer = ending(progress.frames, wide(values[0]), root, steps);
     Outcome { answer, arena }
 }

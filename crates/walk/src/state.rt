@@ -33,7 +33,7 @@ pub struct Progress {
 pub struct Walk {
     pub ids: [u64; MOST_FRAMES],
     pub cursors: [usize; MOST_FRAMES],
-    pub values: [u64; MOST_VALUES],
+    pub values: [u32; MOST_VALUES],
     pub mode: Mode,
     pub limit: usize,
     pub progress: Progress,
@@ -49,7 +49,7 @@ impl Walk {
         Walk {
             ids,
             cursors: [0usize; MOST_FRAMES],
-            values: [0u64; MOST_VALUES],
+            values: [0u32; MOST_VALUES],
             mode,
             limit,
             progress: Progress {

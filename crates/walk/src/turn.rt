@@ -6,15 +6,15 @@ ghost use Rattle.definitions.specs.Walk.{takenUnwalked};
 ghost use Rattle.store.specs.View.{nodesIn};
 ghost use Rattle.store.specs.Lookup.{Lookup};
 ghost use Rattle.rebuild.specs.Memory.{memory};
-ghost use Rattle.walk.specs.Stack.{stack, Gatherable, Gathered};
-ghost use Rattle.walk.specs.Turns.{Descendable, Descends, Ready, Turns};
+ghost use Rattle.walk.specs.Stack.{stack};
+ghost use Rattle.walk.specs.Turns.{Descendable, Descends, Settleable, Settles, Ready, Turns};
 use crate::state::MOST_FRAMES;
 use crate::state::MOST_VALUES;
 use crate::state::Progress;
 use crate::state::Status;
 use arena::DagArena;
-use arena::MOST_CHILDREN;
 use definitions::mode::Mode;
+use rebuild::Finished;
 use store::Answer;
 
 // 01: "A child that is a leaf or marked is taken unwalked"; a leaf has no children, and a strict walk heeds no marks (02 i).
@@ -29,20 +29,6 @@ fn is_taken_unwalked(nodes: &[u64], count: u64, mode: Mode, id: u64) -> bool
         Mode::Standard => store::is_canonical(nodes, count, id),
         Mode::Strict => false,
     }
-}
-
-// The values from a place on, as the places of so many children.
-fn gather(values: &[u64; MOST_VALUES], from: usize, arity: usize) -> [u32; MOST_CHILDREN]
-    requires { ⌜ Gatherable (now values) from arity ⌝ }
-    ensures { λ r. ⌜ Gathered (now (values .entry)) from arity r ⌝ }
-{
-    let mut children = [0u32; MOST_CHILDREN];
-    let mut place: usize = 0;
-    while place < arity {
-        children[place] = values[from + place] as u32;
-        place += 1;
-    }
-    children
 }
 
 // A walk that goes on with so many frames and values.
@@ -62,7 +48,7 @@ fn descend(
     nodes: &[u64],
     ids: &mut [u64; MOST_FRAMES],
     cursors: &mut [usize; MOST_FRAMES],
-    values: &mut [u64; MOST_VALUES],
+    values: &mut [u32; MOST_VALUES],
     mode: Mode,
     progress: Progress,
 ) -> Progress
@@ -81,12 +67,38 @@ fn descend(
     let child = store::child(nodes, count, ids[top], cursor);
     cursors[top] = cursor + 1;
     if is_taken_unwalked(nodes, count, mode, child) {
-        values[filled] = child;
+        values[filled] = child as u32;
         return going(frames, filled + 1, arena);
     }
     ids[frames] = child;
     cursors[frames] = 0;
     going(frames + 1, filled, arena)
+}
+
+// What a finished frame leaves in a walk: its result as a value from a place on, or the refusal that stopped it.
+fn settle(
+    values: &mut [u32; MOST_VALUES],
+    base: usize,
+    finished: Finished,
+    progress: Progress,
+) -> Progress
+    requires { ⌜ Settleable (now values) base finished progress ⌝ }
+    ensures { λ r. ⌜ Settles (now (values .entry)) base finished progress (now (values .exit)) r ⌝ }
+{
+    let arena = finished.arena;
+    let answer = finished.answer;
+    match answer {
+        Answer::Id(result) => {
+            values[base] = result as u32;
+            going(progress.frames - 1, base + 1, arena)
+        }
+        Answer::Refused(number) => Progress {
+            frames: progress.frames,
+            filled: progress.filled,
+            arena,
+            status: Status::Stopped(number),
+        },
+    }
 }
 
 // A turn at the top frame.
@@ -95,7 +107,7 @@ pub(crate) fn turn(
     slots: &mut [u32],
     ids: &mut [u64; MOST_FRAMES],
     cursors: &mut [usize; MOST_FRAMES],
-    values: &mut [u64; MOST_VALUES],
+    values: &mut [u32; MOST_VALUES],
     mode: Mode,
     limit: usize,
     progress: Progress,
@@ -115,26 +127,13 @@ pub(crate) fn turn(
     let base = filled - cursor;
     // 01: "A frame at the limit is its own value, unmarked."
     if limit <= top {
-        values[base] = id;
+        values[base] = id as u32;
         return going(top, base + 1, arena);
     }
     if cursor < store::arity(nodes, arena.count, id) as usize {
         return descend(nodes, ids, cursors, values, mode, progress);
     }
-    let children = gather(values, base, cursor);
-    let built = rebuild::finish(nodes, slots, arena, mode, id, &children[..cursor]);
-    let after = built.arena;
-    let answer = built.answer;
-    match answer {
-        Answer::Id(result) => {
-            values[base] = result;
-            going(top, base + 1, after)
-        }
-        Answer::Refused(number) => Progress {
-            frames: progress.frames,
-            filled,
-            arena: after,
-            status: Status::Stopped(number),
-        },
-    }
+    let all = &values[..];
+    let finished = rebuild::finish(nodes, slots, arena, mode, id, &all[base..filled]);
+    settle(values, base, finished, progress)
 }

@@ -24,4 +24,12 @@ returns-2 : tie.Need-returns-2
 returns-2 c = Firing.in-mode _ _ _ _ (ap modeOf (c .before .enum-told2 .given .1)) (c .strict-pattern .ensures)
 
 pub operator-pattern-spec : {M : Type 1} → statement M
-operator-pattern-spec = tie.close (tie.spec enum-told binary-pattern-requires enum-told-2 strict-pattern-requires returns returns-2)
+operator-pattern-spec =
+    tie.close
+    (tie.spec
+    enum-told
+    binary-pattern-requires
+    enum-told-2
+    strict-pattern-requires
+    returns
+    returns-2)

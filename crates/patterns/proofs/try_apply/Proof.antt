@@ -1,4 +1,3 @@
-use Rattle.definitions.specs.Modes.{modeOf}
 use Rattle.store.proofs.Reading as S
 use Rattle.patterns.proofs.CarryLaws as Carries
 use borrow.Author.Needs.{needs}
@@ -12,7 +11,8 @@ enum-known-result : tie.Need-enum-known-result
 enum-known-result c = search needs
 
 carry-out-requires : tie.Need-carry-out-requires
-carry-out-requires c κs = let decided = c .before .before .before .before .before in
+carry-out-requires c κs =
+    let decided = c .before .before .before .before .before in
     let s = decided .before .before .before .before .before in
     (Carries.known-result-low _ (c .before .before .before .result .given .1) (decided .pattern .ensures .decides .low), s .pre .1)
 
@@ -29,7 +29,8 @@ same-length-2 : tie.Need-same-length-2
 same-length-2 c = search needs
 
 returns : tie.Need-returns
-returns c = let built = c .before .before .before .before .before in
+returns c =
+    let built = c .before .before .before .before .before in
     let known = built .before .before .before .before in
     Carries.applies-built (known .before .before .pattern .ensures) (known .result .given .1) (built .carry-out .ensures) (c .answered .ensures)
 
@@ -37,8 +38,21 @@ same-length-3 : tie.Need-same-length-3
 same-length-3 c = search needs
 
 returns-2 : tie.Need-returns-2
-returns-2 c = let decided = c .before .before in
+returns-2 c =
+    let decided = c .before .before in
     Carries.applies-none (decided .pattern .ensures) (c .enum-told .given .1) (decided .before .before .before .before .before .pre .1)
 
 pub try-apply-spec : {M : Type 1} → statement M
-try-apply-spec = tie.close (tie.spec pattern-requires enum-known-result carry-out-requires answered-requires enum-told same-length same-length-2 returns same-length-3 returns-2)
+try-apply-spec =
+    tie.close
+    (tie.spec
+    pattern-requires
+    enum-known-result
+    carry-out-requires
+    answered-requires
+    enum-told
+    same-length
+    same-length-2
+    returns
+    same-length-3
+    returns-2)

@@ -21,4 +21,11 @@ returns-2 : tie.Need-returns-2
 returns-2 c = search needs
 
 pub named-spec : {M : Type 1} → statement M
-named-spec = tie.close (tie.spec enum-known-result enum-told nothing-fits-requires returns returns-2)
+named-spec =
+    tie.close
+    (tie.spec
+    enum-known-result
+    enum-told
+    nothing-fits-requires
+    returns
+    returns-2)

@@ -22,7 +22,8 @@ named-requires c κs = search needs
 
 returns : tie.Need-returns
 unfolding applyAs S.strictApply firing binaryFiring
-returns c = let choice = c .before .before in
+returns c =
+    let choice = c .before .before in
     Firing.first (c .before .first-function .result) (c .before .first-function .ensures) (c .named .ensures) (choice .before .before .strict-identity .ensures) _ _
     (sym (choice .before .declined .ensures) ∙ not-true _ (choice .if1 .taken))
 
@@ -34,9 +35,20 @@ named-requires-2 c κs = search needs
 
 returns-2 : tie.Need-returns-2
 unfolding applyAs S.strictApply firing binaryFiring
-returns-2 c = let choice = c .before .before in
+returns-2 c =
+    let choice = c .before .before in
     Firing.second _ (sym (choice .before .declined .ensures) ∙ not-false _ (choice .if1 .left)) (choice .before .before .strict-identity .ensures)
     (Firing.last ConstantFold refl (c .named2 .ensures) (c .before .constant-fold .ensures))
 
 pub strict-pattern-spec : {M : Type 1} → statement M
-strict-pattern-spec = tie.close (tie.spec strict-identity-requires declined-requires first-function-requires named-requires returns constant-fold-requires named-requires-2 returns-2)
+strict-pattern-spec =
+    tie.close
+    (tie.spec
+    strict-identity-requires
+    declined-requires
+    first-function-requires
+    named-requires
+    returns
+    constant-fold-requires
+    named-requires-2
+    returns-2)

@@ -50,8 +50,11 @@ loop-less c = omega arith
 loop-again : tie.Need-loop-again Inv-loop μ-loop
 loop-again c = Q.goes-on _ _ _ _ _ _ _ _ _ (c .before .before .before .before .before .before .before .before .before .before .before .before .before .before .before .loop .inv) (c .before .before .before .before .before .before .before .before .before .before .before .before .if1 .left) (c .before .before .before .before .before .before .before .before .before .before .before .before .before .before .loop-test .taken) _ _ _ (c .before .before .before .before .before .before .turn .ensures) (c .enum-told .given .1)
 
-array-read-ending : tie.Need-array-read-ending Inv-loop μ-loop
-array-read-ending c = search needs
+array-read-wide : tie.Need-array-read-wide Inv-loop μ-loop
+array-read-wide c = search needs
+
+wide-requires : tie.Need-wide-requires Inv-loop μ-loop
+wide-requires c κs = search needs
 
 ending-requires : tie.Need-ending-requires Inv-loop μ-loop
 ending-requires c κs = search needs
@@ -63,7 +66,7 @@ same-length-4 : tie.Need-same-length-4 Inv-loop μ-loop
 same-length-4 c = search needs
 
 returns-2 : tie.Need-returns-2 Inv-loop μ-loop
-returns-2 c = Q.ends _ _ _ _ _ _ _ _ _ (c .before .before .before .loop .inv) (⊎-elim (λ x. inl (x .left)) (λ x. inr (x .2 .taken)) (c .before .before .loop-test .came)) _ (c .ending .ensures)
+returns-2 c = Q.ends _ _ _ _ _ _ _ _ _ (c .before .before .before .before .loop .inv) (⊎-elim (λ x. inl (x .left)) (λ x. inr (x .2 .taken)) (c .before .before .before .loop-test .came)) _ (c .before .wide .ensures) _ (c .ending .ensures)
 
 pub run-spec : {M : Type 1} → statement M
 run-spec =
@@ -81,7 +84,8 @@ run-spec =
     add-steps
     loop-less
     loop-again
-    array-read-ending
+    array-read-wide
+    wide-requires
     ending-requires
     same-length-3
     same-length-4

@@ -37,6 +37,9 @@ element-write-cursors c = search needs
 is-taken-unwalked-requires : tie.Need-is-taken-unwalked-requires
 is-taken-unwalked-requires c κs = D.may-read-child _ _ _ (c .before .before .before .before .before .pre) _ (c .child .ensures)
 
+cast-values : tie.Need-cast-values
+cast-values c = let small = D.child-small _ _ _ (c .before .before .before .before .before .before .before .pre) _ (c .before .before .child .ensures) in omega arith
+
 mul-values : tie.Need-mul-values
 mul-values c = search needs
 
@@ -87,6 +90,7 @@ descend-spec =
     mul-cursors
     element-write-cursors
     is-taken-unwalked-requires
+    cast-values
     mul-values
     element-write-values
     add-going

@@ -1,10 +1,9 @@
 -- The bounds come from the walk's invariant; each way out cites its case of Turning.
-use mathlib.Core.Path.{refl, sym}
-use lib.Seq.{length-take-le}
+use mathlib.Core.Path.{refl}
 use native.Mathlib.Omega.{arith}
-use borrow.Author.Needs.{needs}
 use Rattle.definitions.specs.Modes.{modeOf}
 use Rattle.walk.proofs.Turning as T
+use borrow.Author.Needs.{needs}
 use Rattle.walk.proofs.turn.turn.Statement.{statement}
 use Rattle.walk.proofs.turn.turn.Tie as tie
 
@@ -26,6 +25,9 @@ element-copy-out-cursor c = search needs
 sub-base : tie.Need-sub-base
 sub-base c = let b = T.bounds _ _ _ (c .before .before .before .before .before .before .pre) in omega arith
 
+cast-values : tie.Need-cast-values
+cast-values c = let small = T.id-small _ _ _ (c .before .before .before .before .before .before .before .pre) in omega arith
+
 mul-values : tie.Need-mul-values
 mul-values c = let b = T.bounds _ _ _ (c .before .before .before .before .before .before .before .pre) in search needs
 
@@ -39,49 +41,53 @@ going-requires : tie.Need-going-requires
 going-requires c κs = search needs
 
 returns : tie.Need-returns
-returns c = T.at-limit _ _ _ (c .before .before .before .before .before .before .before .before .pre) (modeOf (c .before .before .before .before .before .before .before .before .args .mode)) (c .before .if1 .taken) _ (c .going .ensures)
+returns c = let s = c .before .before .before .before .before .before .before .before in T.at-limit _ _ _ (s .pre) (modeOf (s .args .mode)) (c .before .if1 .taken) _ (c .going .ensures)
 
 arity-requires : tie.Need-arity-requires
 arity-requires c κs = T.may-read _ _ _ (c .before .before .before .before .before .before .before .before .pre)
 
 descend-requires : tie.Need-descend-requires
-descend-requires c κs = T.descendable _ _ _ (c .before .before .before .before .before .before .before .before .before .before .before .before .before .before .pre) (c .before .before .before .before .before .before .before .if1 .left) _ (c .before .before .before .before .before .arity .ensures) (c .before .before .before .before .if2 .taken)
+descend-requires c κs =
+    let more = c .before .before .before .before in
+    let below = more .before .before .before in
+    T.descendable _ _ _ (below .before .before .before .before .before .before .before .pre) (below .if1 .left) _ (more .before .arity .ensures) (more .if2 .taken)
 
 same-length : tie.Need-same-length
 same-length c = search needs
 
 returns-2 : tie.Need-returns-2
-returns-2 c = T.descended _ _ _ (c .before .before .before .before .before .before .before .before .before .before .before .before .before .before .before .pre) (c .before .before .before .before .before .before .before .before .if1 .left) _ (c .before .before .before .before .before .before .arity .ensures) (modeOf (c .before .before .before .before .before .before .before .before .before .before .before .before .before .before .before .args .mode)) (c .before .before .before .before .before .if2 .taken) (c .before .before .before .before .before .before .before .before .before .before .before .before .before .before .before .args .progress) refl _ _ (c .descend .ensures)
+returns-2 c =
+    let more = c .before .before .before .before .before in
+    let below = more .before .before .before in
+    let s = below .before .before .before .before .before .before .before in
+    T.descended _ _ _ (s .pre) (below .if1 .left) _ (more .before .arity .ensures) (modeOf (s .args .mode)) (more .if2 .taken) (s .args .progress) refl _ _ (c .descend .ensures)
 
-gather-requires : tie.Need-gather-requires
-gather-requires c κs = T.may-gather _ _ _ (c .before .before .before .before .before .before .before .before .before .before .before .pre) (c .before .before .before .before .if1 .left) _ (c .before .before .arity .ensures) (c .before .if2 .left)
+mul-finish : tie.Need-mul-finish
+mul-finish c = let b = T.bounds _ _ _ (c .before .before .before .before .before .before .before .before .before .before .before .before .before .before .pre) in search needs
 
-array-share-prefix-children : tie.Need-array-share-prefix-children
-array-share-prefix-children c = let b = T.bounds _ _ _ (c .before .before .before .before .before .before .before .before .before .before .before .before .before .before .pre) in let small = b .small in search needs
+sub-finish : tie.Need-sub-finish
+sub-finish c = let b = T.bounds _ _ _ (c .before .before .before .before .before .before .before .before .before .before .before .before .before .before .pre) in search needs
 
-slice-aggregate-finish : tie.Need-slice-aggregate-finish
-slice-aggregate-finish c = sym (length-take-le _ _ (let long = c .before .before .before .gather .ensures .long in let small = T.bounds _ _ _ (c .before .before .before .before .before .before .before .before .before .before .before .before .before .before .before .pre) .small in omega arith))
+part-finish-start : tie.Need-part-finish-start
+part-finish-start c = search needs
+
+part-finish-end : tie.Need-part-finish-end
+part-finish-end c = let b = T.bounds _ _ _ (c .before .before .before .before .before .before .before .before .before .before .before .before .before .before .pre) in search needs
 
 finish-requires : tie.Need-finish-requires
-finish-requires c κs = T.rebuildable _ _ _ (c .before .before .before .before .before .before .before .before .before .before .before .before .before .before .before .pre) (c .before .before .before .before .before .before .before .before .if1 .left) _ (c .before .before .before .before .before .before .arity .ensures) (c .before .before .before .before .before .if2 .left) _ (c .before .before .before .gather .ensures)
+finish-requires c κs =
+    let other = c .before .before .before .before .before in
+    let below = other .before .before .before in
+    let s = below .before .before .before .before .before .before .before in
+    T.rebuildable _ _ _ (s .pre) (below .if1 .left) _ (other .before .arity .ensures) (other .if2 .left)
 
-enum-known-answer : tie.Need-enum-known-answer
-enum-known-answer c = search needs
-
-mul-values-2 : tie.Need-mul-values-2
-mul-values-2 c = let b = T.bounds _ _ _ (c .before .before .before .before .before .before .before .before .before .before .before .before .before .before .before .before .before .before .before .before .before .before .before .before .pre) in search needs
-
-element-write-values-2 : tie.Need-element-write-values-2
-element-write-values-2 c = let b = T.bounds _ _ _ (c .before .before .before .before .before .before .before .before .before .before .before .before .before .before .before .before .before .before .before .before .before .before .before .before .pre) in search needs
-
-add-going-2 : tie.Need-add-going-2
-add-going-2 c = let b = T.bounds _ _ _ (c .before .before .before .before .before .before .before .before .before .before .before .before .before .before .before .before .before .before .before .before .before .before .before .before .pre) in omega arith
-
-going-requires-2 : tie.Need-going-requires-2
-going-requires-2 c κs = search needs
-
-enum-known-answer-2 : tie.Need-enum-known-answer-2
-enum-known-answer-2 c = search needs
+settle-requires : tie.Need-settle-requires
+settle-requires c κs =
+    let done = c .before .before .before .before .before in
+    let other = done .before .before .before .before .before .before in
+    let below = other .before .before .before in
+    let s = below .before .before .before .before .before .before .before in
+    T.settleable _ _ _ (s .pre) (below .if1 .left) _ (other .before .arity .ensures) (other .if2 .left) (modeOf (s .args .mode)) _ _ _ (done .finish .ensures) (s .args .progress) refl
 
 same-length-2 : tie.Need-same-length-2
 same-length-2 c = search needs
@@ -90,16 +96,12 @@ same-length-3 : tie.Need-same-length-3
 same-length-3 c = search needs
 
 returns-3 : tie.Need-returns-3
-returns-3 c = T.ends _ _ _ (c .before .before .before .before .before .before .before .before .before .before .before .before .before .before .before .before .before .before .before .before .before .before .before .before .before .pre) (c .before .before .before .before .before .before .before .before .before .before .before .before .before .before .before .before .before .before .if1 .left) _ (c .before .before .before .before .before .before .before .before .before .before .before .before .before .before .before .before .arity .ensures) (c .before .before .before .before .before .before .before .before .before .before .before .before .before .before .before .if2 .left) _ (c .before .before .before .before .before .before .before .before .before .before .before .before .before .gather .ensures) (modeOf (c .before .before .before .before .before .before .before .before .before .before .before .before .before .before .before .before .before .before .before .before .before .before .before .before .before .args .mode)) _ _ (c .before .before .before .before .before .before .before .before .before .finish .ensures) _ (c .before .before .answer .given .1) _ (c .going2 .ensures)
-
-same-length-4 : tie.Need-same-length-4
-same-length-4 c = search needs
-
-same-length-5 : tie.Need-same-length-5
-same-length-5 c = search needs
-
-returns-4 : tie.Need-returns-4
-returns-4 c = T.stops _ _ _ (c .before .before .before .before .before .before .before .before .before .before .before .before .before .before .before .before .before .before .before .before .before .before .before .before .pre) (c .before .before .before .before .before .before .before .before .before .before .before .before .before .before .before .before .before .if1 .left) _ (c .before .before .before .before .before .before .before .before .before .before .before .before .before .before .before .arity .ensures) (c .before .before .before .before .before .before .before .before .before .before .before .before .before .before .if2 .left) _ (c .before .before .before .before .before .before .before .before .before .before .before .before .gather .ensures) (modeOf (c .before .before .before .before .before .before .before .before .before .before .before .before .before .before .before .before .before .before .before .before .before .before .before .before .args .mode)) _ _ (c .before .before .before .before .before .before .before .before .finish .ensures) _ (c .before .answer2 .given .1)
+returns-3 c =
+    let done = c .before .before .before .before .before .before in
+    let other = done .before .before .before .before .before .before in
+    let below = other .before .before .before in
+    let s = below .before .before .before .before .before .before .before in
+    T.settled _ _ _ (s .pre) (below .if1 .left) _ (other .before .arity .ensures) (other .if2 .left) (modeOf (s .args .mode)) _ _ _ (done .finish .ensures) (s .args .progress) refl _ _ (c .settle .ensures)
 
 pub turn-spec : {M : Type 1} → statement M
 turn-spec =
@@ -111,6 +113,7 @@ turn-spec =
     mul-cursor
     element-copy-out-cursor
     sub-base
+    cast-values
     mul-values
     element-write-values
     add-going
@@ -120,19 +123,12 @@ turn-spec =
     descend-requires
     same-length
     returns-2
-    gather-requires
-    array-share-prefix-children
-    slice-aggregate-finish
+    mul-finish
+    sub-finish
+    part-finish-start
+    part-finish-end
     finish-requires
-    enum-known-answer
-    mul-values-2
-    element-write-values-2
-    add-going-2
-    going-requires-2
-    enum-known-answer-2
+    settle-requires
     same-length-2
     same-length-3
-    returns-3
-    same-length-4
-    same-length-5
-    returns-4)
+    returns-3)
