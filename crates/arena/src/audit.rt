@@ -1,55 +1,108 @@
 // The audit of nodes, for refusal 20.
+ghost use mathlib.Core.Path.{_≡_};
+ghost use Prim.Native.Nat.{_+_, _*_, _≤_};
+ghost use lib.ListN.{length, drop};
 ghost use Rattle.definitions.specs.Says.{Says};
-ghost use Rattle.arena.specs.Nodes.{LowerChildren, WellFormed, AllWellFormed};
-use crate::DagNode;
+ghost use Rattle.arena.specs.Layout.{nodeWords, mostChildren};
+ghost use Rattle.arena.specs.Node.{nodeAt};
+ghost use Rattle.arena.specs.Nodes.{AllBelow, AllZero, LowerChildren, WellFormed, AllWellFormed};
+use crate::ARITY;
+use crate::CHILDREN;
+use crate::COEFFICIENT;
+use crate::FLAGS;
 use crate::FLAGS_END;
+use crate::HASH;
+use crate::KIND;
 use crate::MOST_CHILDREN;
 use crate::MOST_NODES;
 use crate::NODE_WORDS;
+use crate::PAYLOAD;
 use crate::kind::is_listed;
-use crate::load;
 use crate::node::coefficient_of;
 
-// Whether the children are lower than the id and the unused places 0.
-pub fn lower_children(children: [u64; MOST_CHILDREN], arity: u64, id: u64) -> bool
-    ensures { λ r. ⌜ Says r (LowerChildren id arity children) ⌝ }
+// Whether all of these ids are below an id.
+fn all_below(children: &[u64], id: u64) -> bool
+    ensures { λ r. ⌜ Says r (AllBelow id (now (children .entry))) ⌝ }
 {
     let mut j: usize = 0;
-    while j < MOST_CHILDREN {
-        let child = children[j];
-        if (j as u64) < arity {
-            if id <= child {
-                return false;
-            }
-        } else {
-            if child != 0 {
-                return false;
-            }
+    while j < children.len() {
+        if id <= children[j] {
+            return false;
         }
         j += 1;
     }
     true
 }
 
-// Whether a node is as listed. The children are tested before they are cut to 4 bytes for the hash.
-fn well_formed(id: u64, node: DagNode) -> bool
-    ensures { λ r. ⌜ Says r (WellFormed id node) ⌝ }
+// Whether all of these words are 0, without a branch for each.
+fn all_zero(words: &[u64]) -> bool
+    ensures { λ r. ⌜ Says r (AllZero (now (words .entry))) ⌝ }
 {
-    if !is_listed(node.kind, node.payload, node.arity) {
+    let mut any: u64 = 0;
+    let mut j: usize = 0;
+    while j < words.len() {
+        any = any | words[j];
+        j += 1;
+    }
+    any == 0
+}
+
+// Most nodes have at most so many children.
+const FEW_CHILDREN: usize = 2;
+
+// Whether the unused child places are 0. Those past the first few are looked at by themselves if so few are used: they are
+// a fixed number.
+fn unused_zero(places: &[u64], used: usize) -> bool
+    requires { ⌜ (length (now places) ≡ mostChildren) × (used ≤ mostChildren) ⌝ }
+    ensures { λ r. ⌜ Says r (AllZero (drop used (now (places .entry)))) ⌝ }
+{
+    if used <= FEW_CHILDREN {
+        if !all_zero(&places[FEW_CHILDREN..]) {
+            return false;
+        }
+        return all_zero(&places[used..FEW_CHILDREN]);
+    }
+    all_zero(&places[used..])
+}
+
+// Whether the children are lower than the id and the unused places 0.
+pub fn lower_children(places: &[u64], arity: u64, id: u64) -> bool
+    requires { ⌜ (length (now places) ≡ mostChildren) × (arity ≤ mostChildren) ⌝ }
+    ensures { λ r. ⌜ Says r (LowerChildren id arity (now (places .entry))) ⌝ }
+{
+    let used = arity as usize;
+    if !unused_zero(places, used) {
         return false;
     }
-    if FLAGS_END <= node.flags {
+    all_below(&places[..used], id)
+}
+
+// Whether the node of an id is as listed. Its words are read where they stand. The children are tested before they are cut to
+// 4 bytes for the hash.
+fn well_formed(nodes: &[u64], id: u64) -> bool
+    requires { ⌜ id * nodeWords + nodeWords ≤ length (now nodes) ⌝ }
+    ensures { λ r. ⌜ Says r (WellFormed id (nodeAt (now (nodes .entry)) id)) ⌝ }
+{
+    let at = id as usize * NODE_WORDS;
+    let kind = nodes[at + KIND];
+    let payload = nodes[at + PAYLOAD];
+    let arity = nodes[at + ARITY];
+    if !is_listed(kind, payload, arity) {
         return false;
     }
-    let children = node.children;
-    if !lower_children(children, node.arity, id) {
+    if FLAGS_END <= nodes[at + FLAGS] {
         return false;
     }
-    let used = node.arity as usize;
-    if node.hash != hash::node_hash(node.kind, node.payload, &children[..used]) {
+    let from = at + CHILDREN;
+    let end = from + MOST_CHILDREN;
+    if !lower_children(&nodes[from..end], arity, id) {
         return false;
     }
-    node.coefficient == coefficient_of(node.kind, node.payload)
+    let to = from + arity as usize;
+    if nodes[at + HASH] != hash::node_hash(kind, payload, &nodes[from..to]) {
+        return false;
+    }
+    nodes[at + COEFFICIENT] == coefficient_of(kind, payload)
 }
 
 // Whether all nodes are as listed, and no more than there is place for.
@@ -64,7 +117,7 @@ pub fn audit_nodes(nodes: &[u64], count: u64) -> bool
     }
     let mut i: u64 = 0;
     while i < count {
-        if !well_formed(i, load(nodes, i)) {
+        if !well_formed(nodes, i) {
             return false;
         }
         i += 1;

@@ -2,6 +2,7 @@ pub mod Below
 pub mod Chains
 pub mod Weights
 pub mod Reading
+pub mod Stepping
 pub mod Pushing
 pub mod Filtering
 pub mod Closing

@@ -43,6 +43,9 @@ module _ (words : List ℕ) (count : ℕ) (r : Readable words count) where
   pub few-children : (i : ℕ) → i < count → length (childrenIn words count i) ≤ mostChildren
   few-children i h = R.few words count i (r .lookup i h)
 
+  pub child-lower : (i place child : ℕ) → i < count → child ≡ getD (childrenIn words count i) place 0 → place < length (childrenIn words count i) → child < i
+  child-lower i place child h e l = omega (arith, R.child-low words count i (r .lookup i h) place l)
+
   pub child-below : (i place child : ℕ) → i < count → child ≡ getD (childrenIn words count i) place 0 → place < length (childrenIn words count i) → child < count
   child-below i place child h e l = omega (arith, R.child-low words count i (r .lookup i h) place l)
 

@@ -158,6 +158,10 @@ pub fn flatten(
     let mut back: usize = 0;
     let mut top: usize = 0;
     let mut id = root;
+    // A chain's nodes mostly stand equally far apart. An id that is got by subtraction waits for no word of the node above: where
+    // a child is as far below as the last one was, it is; else the distance is noted, and the turn is done again.
+    let mut left_step: u64 = 0;
+    let mut right_step: u64 = 0;
     loop {
         if store::kind(nodes, count, id) != ADD {
             if put_term(nodes, count, threshold, terms, MOST_TERMS - 1 - back, id) {
@@ -173,15 +177,25 @@ pub fn flatten(
             if MOST_TERMS - 1 - found + front <= top {
                 return Flattened::TooMany;
             }
+            let below = id - store::child(nodes, count, id, 0);
+            if below != left_step {
+                left_step = below;
+                continue;
+            }
             let last = store::child(nodes, count, id, 1);
             if put_term(nodes, count, threshold, terms, MOST_TERMS - 1 - back, last) {
                 back += 1;
             }
             found += 1;
-            id = store::child(nodes, count, id, 0);
+            id = id - left_step;
         } else if top == front && has_term(nodes, count, id, 0) {
             if MOST_TERMS <= found + 1 {
                 return Flattened::TooMany;
+            }
+            let below = id - store::child(nodes, count, id, 1);
+            if below != right_step {
+                right_step = below;
+                continue;
             }
             let first = store::child(nodes, count, id, 0);
             if put_term(nodes, count, threshold, terms, front, first) {
@@ -189,7 +203,7 @@ pub fn flatten(
             }
             found += 1;
             top = front;
-            id = store::child(nodes, count, id, 1);
+            id = id - right_step;
         } else {
             match push_siblings(nodes, count, id, terms, top, MOST_TERMS - 1 - found + front) {
                 Waiting::Nowhere => return Flattened::TooMany,

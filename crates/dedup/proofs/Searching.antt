@@ -34,8 +34,11 @@ module _ (w : List ℕ) (known : ℕ) (key : DagNode) where
   holds-known slot id l e m = rw e (sym (holds-is slot l ∙ (rw (lt-ltb (slot - 1) known (omega arith)) refl)))
 
   -- another hash is another node
+  pub other-hash : (id : ℕ) → id < known → AllWellFormed w known → key .hash ≡ nodeHash key → (nodeAt w id .hash ≡ key .hash → ⊥) → false ≡ one (nodeAt w id) key
+  other-hash id m f h n = not-one (nodeAt w id) key (λ o. n (f .each id m .hashed ∙ one-hash (nodeAt w id) key (one-is (nodeAt w id) key o) ∙ sym h))
+
   pub holds-hash : (slot id : ℕ) → 0 < slot → id ≡ slot - 1 → id < known → AllWellFormed w known → key .hash ≡ nodeHash key → (nodeAt w id .hash ≡ key .hash → ⊥) → false ≡ holds w known key slot
-  holds-hash slot id l e m f h n = not-one (nodeAt w id) key (λ o. n (f .each id m .hashed ∙ one-hash (nodeAt w id) key (one-is (nodeAt w id) key o) ∙ sym h)) ∙ holds-known slot id l e m
+  holds-hash slot id l e m f h n = other-hash id m f h n ∙ holds-known slot id l e m
 
   -- a slot that holds the key is in use, by a known id
   pub held : (slot : ℕ) → holds w known key slot ≡ true → (0 < slot) × (slot - 1 < known) × (one (nodeAt w (slot - 1)) key ≡ true)

@@ -1,7 +1,7 @@
 -- What a search round the table finds.
 use Prim.Native.Nat.{ℕ, zero, suc, _+_, _%_, _≤_, _<_, max}
 use mathlib.Core.Path.{_≡_}
-use mathlib.Core.Bool.{Bool, true, false, _&&_}
+use mathlib.Core.Bool.{Bool, true, false, cond, _&&_}
 use mathlib.Core.List.{List, [], _∷_}
 use lib.ListN.{length, getD}
 use lib.Dec.{ltb}
@@ -21,6 +21,10 @@ holds words known key (suc id) = ltb id known && one (nodeAt words id) key
 unfoldable pub greatestChild : List ℕ → ℕ
 greatestChild [] = 0
 greatestChild (child ∷ children) = max child (greatestChild children)
+
+-- an id if it is above a key's greatest child, else 0
+unfoldable pub comparedId : ℕ → ℕ → ℕ
+comparedId id greatest = cond (ltb greatest id) id 0
 
 -- the newest of so many nodes is a child of a key with these children
 pub record OverNewest (count : ℕ) (children : List ℕ) : Type 0 where

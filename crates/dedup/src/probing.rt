@@ -5,7 +5,7 @@ ghost use Rattle.definitions.specs.Says.{Says};
 ghost use Rattle.arena.specs.Node.{nodeOf, Key};
 ghost use Rattle.arena.specs.Nodes.{AllWellFormed};
 ghost use Rattle.dedup.specs.Insert.{Room};
-ghost use Rattle.dedup.specs.Probe.{greatestChild, holds, Ready, Probed, OverNewest};
+ghost use Rattle.dedup.specs.Probe.{greatestChild, comparedId, holds, Ready, Probed, OverNewest};
 use crate::filling::free_place;
 use crate::sizes::modulo_size;
 use arena::HASH;
@@ -44,13 +44,22 @@ fn greatest_child(children: &[u32]) -> u64
 }
 
 // Whether the newest node is a child of the key. Children are lower than their node, so that then no node is the key.
-fn is_over_newest(children: &[u32], count: u64) -> bool
+fn is_over_newest(children: &[u32], greatest: u64, count: u64) -> bool
+    requires { ⌜ (greatest ≡ greatestChild (now children)) × (greatest < 2 ^ 32) ⌝ }
     ensures { λ r. ⌜ Says r (OverNewest count (now (children .entry))) ⌝ }
 {
     if children.len() == 0 {
         return false;
     }
-    greatest_child(children) + 1 == count
+    greatest + 1 == count
+}
+
+// The id whose node is compared with the key for an id. The node of an id that is not above the key's greatest child is
+// another: node 0 is looked at in its place, whose words are near. That is no branch, since none could be foreseen.
+fn compared_id(id: u64, greatest: u64) -> u64
+    ensures { λ r. ⌜ r ≡ comparedId id greatest ⌝ }
+{
+    if greatest < id { id } else { 0 }
 }
 
 // Whether a slot in use holds an id below `known` whose node is one with the key. The hash is compared first.
@@ -62,19 +71,22 @@ fn slot_holds(
     flags: u64,
     hash: u64,
     children: &[u32],
+    greatest: u64,
     known: u64,
 ) -> bool
-    requires { ⌜ (0 < slot) × AllWellFormed (now nodes) known × Key kind payload hash (now children) ⌝ }
+    requires { ⌜ (0 < slot) × AllWellFormed (now nodes) known × Key kind payload hash (now children) ×
+        (greatest ≡ greatestChild (now children)) ⌝ }
     ensures { λ r. ⌜ r ≡ holds (now (nodes .entry)) known (nodeOf kind payload flags (now (children .entry))) slot ⌝ }
 {
     let id = slot_id(slot);
     if known <= id {
         return false;
     }
-    if nodes[id as usize * NODE_WORDS + HASH] != hash {
+    let compared = compared_id(id, greatest);
+    if nodes[compared as usize * NODE_WORDS + HASH] != hash {
         return false;
     }
-    has_parts(nodes, id, kind, payload, flags, children)
+    has_parts(nodes, compared, kind, payload, flags, children)
 }
 
 // The first slot from the key's hash onward, round the end, that is empty or holds a node that is one with the
@@ -88,9 +100,11 @@ fn probe(
     flags: u64,
     hash: u64,
     children: &[u32],
+    greatest: u64,
     known: u64,
 ) -> Place
-    requires { ⌜ Ready (now nodes) known (now slots) size × Key kind payload hash (now children) ⌝ }
+    requires { ⌜ Ready (now nodes) known (now slots) size × Key kind payload hash (now children) ×
+        (greatest ≡ greatestChild (now children)) ⌝ }
     ensures { λ r. ⌜ Probed (now (nodes .entry)) known (now (slots .entry)) size (nodeOf kind payload flags (now (children .entry))) r ⌝ }
 {
     let mut at = modulo_size(hash as usize, size);
@@ -100,7 +114,17 @@ fn probe(
         if slot == 0 {
             return Place::Free(at);
         }
-        if slot_holds(nodes, slot, kind, payload, flags, hash, children, known) {
+        if slot_holds(
+            nodes,
+            slot,
+            kind,
+            payload,
+            flags,
+            hash,
+            children,
+            greatest,
+            known,
+        ) {
             return Place::Here(at);
         }
         at = modulo_size(at + 1, size);
@@ -124,7 +148,8 @@ pub(crate) fn search(
     requires { ⌜ Ready (now nodes) count (now slots) size × Room (now slots) size × Key kind payload hash (now children) ⌝ }
     ensures { λ r. ⌜ Probed (now (nodes .entry)) count (now (slots .entry)) size (nodeOf kind payload flags (now (children .entry))) r ⌝ }
 {
-    if is_over_newest(children, count) {
+    let greatest = greatest_child(children);
+    if is_over_newest(children, greatest, count) {
         return Place::Free(free_place(slots, size, hash));
     }
     probe(
@@ -136,6 +161,7 @@ pub(crate) fn search(
         flags,
         hash,
         children,
+        greatest,
         count,
     )
 }

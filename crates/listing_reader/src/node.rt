@@ -162,7 +162,7 @@ pub(crate) fn node_line(bytes: &[u8], at: usize, wanted: u64) -> ListedNode
     if !is_listed(kind, payload, arity) {
         return no_line(at);
     }
-    if !lower_children(places, arity, id) {
+    if !lower_children(&places[..], arity, id) {
         return no_line(at);
     }
     ListedNode {

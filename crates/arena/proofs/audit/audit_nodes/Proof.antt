@@ -29,14 +29,11 @@ returns-2 c = says-no (λ f. let m = f .fits in omega arith)
 loop-holds : tie.Need-loop-holds Inv-loop μ-loop
 loop-holds c = (search needs, λ k l. absurd (omega arith))
 
-load-requires : tie.Need-load-requires Inv-loop μ-loop
-load-requires c κs = search needs
-
 well-formed-requires : tie.Need-well-formed-requires Inv-loop μ-loop
 well-formed-requires c κs = search needs
 
 returns-3 : tie.Need-returns-3 Inv-loop μ-loop
-returns-3 c = says-no (λ f. c .before .well-formed .ensures .no (not-true _ (c .if3 .taken)) (rw (c .before .before .load .ensures) (f .each _ (c .before .before .before .loop-test .taken))))
+returns-3 c = says-no (λ f. c .before .well-formed .ensures .no (not-true _ (c .if3 .taken)) (f .each _ (c .before .before .loop-test .taken)))
 
 add-i : tie.Need-add-i Inv-loop μ-loop
 add-i c = search needs
@@ -45,7 +42,7 @@ loop-less : tie.Need-loop-less Inv-loop μ-loop
 loop-less c = search needs
 
 loop-again : tie.Need-loop-again Inv-loop μ-loop
-loop-again c = (search needs, below-more _ _ (c .before .before .before .before .loop .inv .1) (rw (← c .before .before .load .ensures) (c .before .well-formed .ensures .yes (not-false _ (c .if3 .left)))))
+loop-again c = (search needs, below-more _ _ (c .before .before .before .loop .inv .1) (c .before .well-formed .ensures .yes (not-false _ (c .if3 .left))))
 
 returns-4 : tie.Need-returns-4 Inv-loop μ-loop
 returns-4 c = says-yes (record { many = c .before .before .before .if1 .left; fits = omega arith; each = λ k l. c .before .loop .inv .1 k (omega arith) })
@@ -60,7 +57,6 @@ audit-nodes-spec =
     mul-if2
     returns-2
     loop-holds
-    load-requires
     well-formed-requires
     returns-3
     add-i

@@ -1,61 +1,40 @@
--- `arena::audit::lower_children` meets its contract. The invariant: the places passed are as they should be.
-use Prim.Native.Nat.{ℕ, _-_, _≤_, _<_}
-use mathlib.Core.Logic.{_⊎_, ⊎-elim}
+-- `arena::audit::lower_children` meets its contract: the places in use and the unused ones.
+use Prim.Native.Nat.{_≤_}
+use mathlib.Core.Path.{sym}
+use lib.ListN.{length}
+use lib.Seq.{length-take-le}
 use native.Mathlib.Omega.{arith}
+use borrow.Author.Tests.{not-true, not-false}
+use Rattle.definitions.proofs.Deciding.{says-no, says-map}
+use Rattle.arena.proofs.Forming.{places-lower, lower-unused, lower-used}
 use borrow.Author.Needs.{needs}
-use borrow.Author.Count.{below-more}
-use Rattle.arena.specs.Layout.{mostChildren}
-use Rattle.definitions.proofs.Deciding.{says-yes, says-no}
-use Rattle.arena.proofs.Forming.{Place, places-passed}
-use Rattle.arena.proofs.Listing as L
 use Rattle.arena.proofs.audit.lower_children.Statement.{statement}
 use Rattle.arena.proofs.audit.lower_children.Tie as tie
 
-abbrev Inv-loop : tie.InvT-loop
-Inv-loop arity id children j₀ j = (j ≤ mostChildren) × ((k : ℕ) → k < j → Place id arity children k)
+used-few : (s : tie.Start) → s .args .arity ≤ length (s .args .places .now)
+used-few s = omega (arith, s .pre .0, s .pre .1)
 
-abbrev μ-loop : tie.MeasureT-loop
-μ-loop arity id children j₀ j = mostChildren - j
+unused-zero-requires : tie.Need-unused-zero-requires
+unused-zero-requires c κs = search needs
 
-loop-holds : tie.Need-loop-holds Inv-loop μ-loop
-loop-holds c = (search needs, λ k l. absurd (omega arith))
+returns : tie.Need-returns
+returns c =
+    let s = c .before .before .before in
+    says-no (λ f. c .before .unused-zero .ensures .no (not-true _ (c .if1 .taken)) (lower-unused (s .args .id) (s .args .arity) (s .args .places .now) (used-few s) f))
 
-mul-child : tie.Need-mul-child Inv-loop μ-loop
-mul-child c = search needs
+slice-aggregate-all-below : tie.Need-slice-aggregate-all-below
+slice-aggregate-all-below c = let s = c .before .before .before .before in sym (length-take-le (s .args .arity) (s .args .places .now) (used-few s))
 
-array-read-child : tie.Need-array-read-child Inv-loop μ-loop
-array-read-child c = search needs
+all-below-requires : tie.Need-all-below-requires
+all-below-requires c κs = search needs
 
-returns : tie.Need-returns Inv-loop μ-loop
-returns c = says-no (λ g. let x = g .lower _ (c .before .if1 .taken) in omega arith)
-
-returns-2 : tie.Need-returns-2 Inv-loop μ-loop
-returns-2 c = says-no (λ g. c .if3 .taken (g .unused _ (c .before .if1 .left)))
-
-add-j : tie.Need-add-j Inv-loop μ-loop
-add-j c = search needs
-
-loop-less : tie.Need-loop-less Inv-loop μ-loop
-loop-less c = search needs
-
-loop-again : tie.Need-loop-again Inv-loop μ-loop
-loop-again c = (search needs, below-more _ _ (c .before .before .loop .inv .1) (⊎-elim (λ w. (λ l. omega (arith, w .1 .left), λ l. absurd (omega (arith, w .0 .taken)))) (λ w. (λ l. absurd (omega (arith, w .0 .left)), λ l. w .1 .left)) (c .if1 .came)))
-
-returns-3 : tie.Need-returns-3 Inv-loop μ-loop
-returns-3 c = says-yes (places-passed _ _ _ (search needs) (λ j l. c .before .loop .inv .1 j (omega arith)))
+returns-2 : tie.Need-returns-2
+returns-2 c =
+    let s = c .before .before .before .before .before in
+    let unused = c .before .before .before .unused-zero .ensures .yes (not-false _ (c .before .before .if1 .left)) in
+    says-map _ (places-lower (s .args .id) (s .args .arity) (s .args .places .now) (used-few s) unused) (lower-used (s .args .id) (s .args .arity) (s .args .places .now) (used-few s)) (c .all-below .ensures)
 
 pub lower-children-spec : {M : Type 1} → statement M
 lower-children-spec =
     tie.close
-    (tie.spec
-    Inv-loop
-    μ-loop
-    loop-holds
-    mul-child
-    array-read-child
-    returns
-    returns-2
-    add-j
-    loop-less
-    loop-again
-    returns-3)
+    (tie.spec unused-zero-requires returns slice-aggregate-all-below all-below-requires returns-2)

@@ -1,4 +1,6 @@
--- `pruner::chain::flatten` meets its contract. The measure is the weight of the ids that wait and of the id at hand. Assumes nothing.
+-- `pruner::chain::flatten` meets its contract. The measure is the weight of the ids that wait and of the id at hand,
+-- and whether a distance is still to be noted. Assumes nothing.
+use Prim.Native.Nat.{_+_, _*_}
 use mathlib.Core.Path.{sym, _∙_}
 use mathlib.Core.Logic.{inl, inr, ⊎-elim}
 use lib.Ieee.{binary64, ofBits}
@@ -6,17 +8,20 @@ use native.Mathlib.Omega.{arith}
 use borrow.Author.Needs.{needs}
 use Rattle.definitions.specs.Prune.{keeps}
 use Rattle.store.specs.View.{nodesIn}
-use Rattle.chains.proofs.Reading.{child-below}
+use Rattle.chains.proofs.Reading.{child-below, child-lower}
+use Rattle.chains.proofs.Stepping.{late, late-few, less-work, less-late-left, less-late-right, noted, stepped}
 use Rattle.chains.proofs.Flattening as Q
 use Rattle.chains.proofs.Flattening.{Flattening, work}
 use Rattle.chains.proofs.chain.flatten.Statement.{statement}
 use Rattle.chains.proofs.chain.flatten.Tie as tie
 
 abbrev Inv-loop : tie.InvT-loop
-Inv-loop nodes count root threshold terms₀ found₀ front₀ back₀ top₀ id₀ terms found front back top id = Flattening nodes count root (keeps (nodesIn nodes count) (ofBits binary64 threshold)) terms found front back top id
+Inv-loop nodes count root threshold terms₀ found₀ front₀ back₀ top₀ id₀ left-step₀ right-step₀ terms found front back top id left-step right-step =
+    Flattening nodes count root (keeps (nodesIn nodes count) (ofBits binary64 threshold)) terms found front back top id
 
 abbrev μ-loop : tie.MeasureT-loop
-μ-loop nodes count root threshold terms₀ found₀ front₀ back₀ top₀ id₀ terms found front back top id = work terms front top id
+μ-loop nodes count root threshold terms₀ found₀ front₀ back₀ top₀ id₀ left-step₀ right-step₀ terms found front back top id left-step right-step =
+    work terms front top id * 3 + late nodes count id 0 left-step + late nodes count id 1 right-step
 
 loop-holds : tie.Need-loop-holds Inv-loop μ-loop
 loop-holds c = let p = c .before .pre in Q.begins _ _ _ _ (p .0) _ (p .2)
@@ -80,7 +85,7 @@ loop-less c =
     let put = c .before .before .before in
     let loop = put .before .before .before .before in
     let readable = loop .before .before .pre .1 in
-    Q.finds-less _ _ _ _ readable _ _ _ _ _ _ (loop .loop .inv) _ _ (put .put-term .ensures) (c .before .if3 .left)
+    less-work _ _ _ _ _ _ (late-few _ _ _ _ _) (late-few _ _ _ _ _) (Q.finds-less _ _ _ _ readable _ _ _ _ _ _ (loop .loop .inv) _ _ (put .put-term .ensures) (c .before .if3 .left))
 
 loop-again : tie.Need-loop-again Inv-loop μ-loop
 loop-again c =
@@ -121,52 +126,78 @@ child-requires c κs =
     let readable = loop .before .before .pre .1 in
     (omega (arith, (ends .has-term .ensures (c .before .if4 .taken)) .two), readable .lookup _ (Q.id-below _ _ _ _ readable _ _ _ _ _ _ (loop .loop .inv)))
 
-sub-put-term-3 : tie.Need-sub-put-term-3 Inv-loop μ-loop
-sub-put-term-3 c = omega arith
+sub-below : tie.Need-sub-below Inv-loop μ-loop
+sub-below c =
+    let room = c .before in
+    let ends = room .before .before in
+    let loop = ends .before .before .before in
+    let readable = loop .before .before .pre .1 in
+    omega (arith, child-lower _ _ readable _ _ _ (Q.id-below _ _ _ _ readable _ _ _ _ _ _ (loop .loop .inv)) (c .child .ensures) (omega (arith, (ends .has-term .ensures (room .before .if4 .taken)) .two)))
 
-sub-put-term-4 : tie.Need-sub-put-term-4 Inv-loop μ-loop
-sub-put-term-4 c = let inv = c .before .before .before .before .before .before .before .loop .inv in omega (arith, inv .few, inv .room, inv .ordered)
+loop-less-2 : tie.Need-loop-less-2 Inv-loop μ-loop
+loop-less-2 c = less-late-left _ _ _ _ (noted _ _ _ 0 _ (c .before .child .ensures) _ (c .if6 .taken))
 
-put-term-requires-2 : tie.Need-put-term-requires-2 Inv-loop μ-loop
-put-term-requires-2 c κs =
+loop-again-2 : tie.Need-loop-again-2 Inv-loop μ-loop
+loop-again-2 c = c .before .before .before .before .before .before .before .loop .inv
+
+child-requires-2 : tie.Need-child-requires-2 Inv-loop μ-loop
+child-requires-2 c κs =
     let room = c .before .before in
     let ends = room .before .before in
     let loop = ends .before .before .before in
     let readable = loop .before .before .pre .1 in
-    (readable .lookup _ (child-below _ _ readable _ _ _ (Q.id-below _ _ _ _ readable _ _ _ _ _ _ (loop .loop .inv)) (c .before .child .ensures) (omega (arith, (ends .has-term .ensures (room .before .if4 .taken)) .two))), omega arith, loop .loop .inv .long)
+    (omega (arith, (ends .has-term .ensures (room .before .if4 .taken)) .two), readable .lookup _ (Q.id-below _ _ _ _ readable _ _ _ _ _ _ (loop .loop .inv)))
+
+sub-put-term-3 : tie.Need-sub-put-term-3 Inv-loop μ-loop
+sub-put-term-3 c = omega arith
+
+sub-put-term-4 : tie.Need-sub-put-term-4 Inv-loop μ-loop
+sub-put-term-4 c = let inv = c .before .before .before .before .before .before .before .before .before .loop .inv in omega (arith, inv .few, inv .room, inv .ordered)
+
+put-term-requires-2 : tie.Need-put-term-requires-2 Inv-loop μ-loop
+put-term-requires-2 c κs =
+    let room = c .before .before .before .before in
+    let ends = room .before .before in
+    let loop = ends .before .before .before in
+    let readable = loop .before .before .pre .1 in
+    (readable .lookup _ (child-below _ _ readable _ _ _ (Q.id-below _ _ _ _ readable _ _ _ _ _ _ (loop .loop .inv)) (c .before .child2 .ensures) (omega (arith, (ends .has-term .ensures (room .before .if4 .taken)) .two))), omega arith, loop .loop .inv .long)
 
 add-back-2 : tie.Need-add-back-2 Inv-loop μ-loop
-add-back-2 c = let inv = c .before .before .before .before .before .before .before .before .before .loop .inv in omega (arith, inv .few, inv .room, inv .ordered)
+add-back-2 c = let inv = c .before .before .before .before .before .before .before .before .before .before .before .loop .inv in omega (arith, inv .few, inv .room, inv .ordered)
 
 add-found-2 : tie.Need-add-found-2 Inv-loop μ-loop
-add-found-2 c = let inv = c .before .before .before .before .before .before .before .before .before .loop .inv in omega (arith, inv .room, inv .ordered)
+add-found-2 c = let inv = c .before .before .before .before .before .before .before .before .before .before .before .loop .inv in omega (arith, inv .room, inv .ordered)
 
-child-requires-2 : tie.Need-child-requires-2 Inv-loop μ-loop
-child-requires-2 c κs =
-    let add = c .before .before .before .before .before .before .before in
-    let loop = add .before .before in
-    let readable = loop .before .before .pre .1 in
-    (Q.has-child _ _ _ _ readable _ _ _ _ _ _ (loop .loop .inv) (sym (add .before .kind .ensures) ∙ add .if1 .left), readable .lookup _ (Q.id-below _ _ _ _ readable _ _ _ _ _ _ (loop .loop .inv)))
+sub-id : tie.Need-sub-id Inv-loop μ-loop
+sub-id c = omega (arith, c .before .before .before .before .if6 .left)
 
-loop-less-2 : tie.Need-loop-less-2 Inv-loop μ-loop
-loop-less-2 c =
-    let put = c .before .before in
-    let room = put .before .before .before in
+loop-less-3 : tie.Need-loop-less-3 Inv-loop μ-loop
+loop-less-3 c =
+    let put = c .before in
+    let second = put .before .before in
+    let equal = second .before in
+    let room = equal .before .before in
     let ends = room .before .before in
     let add = ends .before in
     let loop = add .before .before in
     let readable = loop .before .before .pre .1 in
-    Q.takes-last-less _ _ _ _ readable _ _ _ _ _ _ (loop .loop .inv) (sym (add .before .kind .ensures) ∙ add .if1 .left) (ends .has-term .ensures (room .before .if4 .taken)) (room .if5 .left) _ (put .before .before .child .ensures) _ (c .child2 .ensures) _ _ (put .put-term2 .ensures)
+    let has = ends .has-term .ensures (room .before .if4 .taken) in
+    let first = stepped _ _ _ 0 _ (equal .before .child .ensures) readable (Q.id-below _ _ _ _ readable _ _ _ _ _ _ (loop .loop .inv)) (omega (arith, has .two)) _ (equal .if6 .left) in
+    less-work _ _ _ _ _ _ (late-few _ _ _ _ _) (late-few _ _ _ _ _) (Q.takes-last-less _ _ _ _ readable _ _ _ _ _ _ (loop .loop .inv) (sym (add .before .kind .ensures) ∙ add .if1 .left) has (room .if5 .left) _ (second .child2 .ensures) _ first _ _ (put .put-term2 .ensures))
 
-loop-again-2 : tie.Need-loop-again-2 Inv-loop μ-loop
-loop-again-2 c =
-    let put = c .before .before in
-    let room = put .before .before .before in
+loop-again-3 : tie.Need-loop-again-3 Inv-loop μ-loop
+loop-again-3 c =
+    let put = c .before in
+    let second = put .before .before in
+    let equal = second .before in
+    let room = equal .before .before in
     let ends = room .before .before in
     let add = ends .before in
     let loop = add .before .before in
     let readable = loop .before .before .pre .1 in
-    Q.takes-last _ _ _ _ readable _ _ _ _ _ _ (loop .loop .inv) (sym (add .before .kind .ensures) ∙ add .if1 .left) (ends .has-term .ensures (room .before .if4 .taken)) (room .if5 .left) _ (put .before .before .child .ensures) _ (c .child2 .ensures) _ _ (put .put-term2 .ensures) _ (⊎-elim (λ w. inl (w .0 .taken, w .1)) (λ w. inr (w .0 .left, w .1)) (c .before .if6 .came))
+    let has = ends .has-term .ensures (room .before .if4 .taken) in
+    let first = stepped _ _ _ 0 _ (equal .before .child .ensures) readable (Q.id-below _ _ _ _ readable _ _ _ _ _ _ (loop .loop .inv)) (omega (arith, has .two)) _ (equal .if6 .left) in
+    Q.takes-last _ _ _ _ readable _ _ _ _ _ _ (loop .loop .inv) (sym (add .before .kind .ensures) ∙ add .if1 .left) has (room .if5 .left) _ (second .child2 .ensures) _ first _ _ (put .put-term2 .ensures) _ (⊎-elim (λ w. inl (w .0 .taken, w .1)) (λ w. inr (w .0 .left, w .1)) (c .if7 .came))
 
 has-term-requires-2 : tie.Need-has-term-requires-2 Inv-loop μ-loop
 has-term-requires-2 c κs =
@@ -174,8 +205,8 @@ has-term-requires-2 c κs =
     let readable = loop .before .before .pre .1 in
     (Q.id-below _ _ _ _ readable _ _ _ _ _ _ (loop .loop .inv), omega arith, readable)
 
-add-if9 : tie.Need-add-if9 Inv-loop μ-loop
-add-if9 c = let inv = c .before .before .before .before .before .before .before .loop .inv in omega (arith, inv .room, inv .ordered)
+add-if10 : tie.Need-add-if10 Inv-loop μ-loop
+add-if10 c = let inv = c .before .before .before .before .before .before .before .loop .inv in omega (arith, inv .room, inv .ordered)
 
 returns-3 : tie.Need-returns-3 Inv-loop μ-loop
 returns-3 c =
@@ -183,59 +214,83 @@ returns-3 c =
     let add = begins .before .before .before .before in
     let loop = add .before .before in
     let readable = loop .before .before .pre .1 in
-    Q.exceeds-two _ _ _ _ readable _ _ _ _ _ _ (loop .loop .inv) (sym (add .before .kind .ensures) ∙ add .if1 .left) ((begins .has-term2 .ensures (c .before .if8 .taken)) .two) (omega (arith, begins .before .if7 .taken, c .if9 .taken))
+    Q.exceeds-two _ _ _ _ readable _ _ _ _ _ _ (loop .loop .inv) (sym (add .before .kind .ensures) ∙ add .if1 .left) ((begins .has-term2 .ensures (c .before .if9 .taken)) .two) (omega (arith, begins .before .if8 .taken, c .if10 .taken))
 
 child-requires-3 : tie.Need-child-requires-3 Inv-loop μ-loop
 child-requires-3 c κs =
-    let add = c .before .before .before .before .before .before in
+    let begins = c .before .before in
+    let loop = begins .before .before .before .before .before .before in
+    let readable = loop .before .before .pre .1 in
+    (omega (arith, (begins .has-term2 .ensures (c .before .if9 .taken)) .two), readable .lookup _ (Q.id-below _ _ _ _ readable _ _ _ _ _ _ (loop .loop .inv)))
+
+sub-below-2 : tie.Need-sub-below-2 Inv-loop μ-loop
+sub-below-2 c =
+    let room = c .before in
+    let begins = room .before .before in
+    let loop = begins .before .before .before .before .before .before in
+    let readable = loop .before .before .pre .1 in
+    omega (arith, child-lower _ _ readable _ _ _ (Q.id-below _ _ _ _ readable _ _ _ _ _ _ (loop .loop .inv)) (c .child3 .ensures) (omega (arith, (begins .has-term2 .ensures (room .before .if9 .taken)) .two)))
+
+loop-less-4 : tie.Need-loop-less-4 Inv-loop μ-loop
+loop-less-4 c = less-late-right _ _ _ _ (noted _ _ _ 1 _ (c .before .child3 .ensures) _ (c .if11 .taken))
+
+loop-again-4 : tie.Need-loop-again-4 Inv-loop μ-loop
+loop-again-4 c = c .before .before .before .before .before .before .before .before .before .before .loop .inv
+
+child-requires-4 : tie.Need-child-requires-4 Inv-loop μ-loop
+child-requires-4 c κs =
+    let add = c .before .before .before .before .before .before .before .before in
     let loop = add .before .before in
     let readable = loop .before .before .pre .1 in
     (Q.has-child _ _ _ _ readable _ _ _ _ _ _ (loop .loop .inv) (sym (add .before .kind .ensures) ∙ add .if1 .left), readable .lookup _ (Q.id-below _ _ _ _ readable _ _ _ _ _ _ (loop .loop .inv)))
 
 put-term-requires-3 : tie.Need-put-term-requires-3 Inv-loop μ-loop
 put-term-requires-3 c κs =
-    let room = c .before .before in
+    let room = c .before .before .before .before in
     let add = room .before .before .before .before .before .before in
     let loop = add .before .before in
     let readable = loop .before .before .pre .1 in
-    (readable .lookup _ (child-below _ _ readable _ _ _ (Q.id-below _ _ _ _ readable _ _ _ _ _ _ (loop .loop .inv)) (c .before .child3 .ensures) (Q.has-child _ _ _ _ readable _ _ _ _ _ _ (loop .loop .inv) (sym (add .before .kind .ensures) ∙ add .if1 .left))), omega (arith, loop .loop .inv .few, room .if9 .left), loop .loop .inv .long)
+    (readable .lookup _ (child-below _ _ readable _ _ _ (Q.id-below _ _ _ _ readable _ _ _ _ _ _ (loop .loop .inv)) (c .before .child4 .ensures) (Q.has-child _ _ _ _ readable _ _ _ _ _ _ (loop .loop .inv) (sym (add .before .kind .ensures) ∙ add .if1 .left))), omega (arith, loop .loop .inv .few, room .if10 .left), loop .loop .inv .long)
 
 add-front : tie.Need-add-front Inv-loop μ-loop
 add-front c =
-    let room = c .before .before .before .before in
+    let room = c .before .before .before .before .before .before in
     let loop = room .before .before .before .before .before .before .before .before in
-    omega (arith, loop .loop .inv .few, room .if9 .left)
+    omega (arith, loop .loop .inv .few, room .if10 .left)
 
 add-found-3 : tie.Need-add-found-3 Inv-loop μ-loop
-add-found-3 c = omega (arith, c .before .before .before .before .if9 .left)
+add-found-3 c = omega (arith, c .before .before .before .before .before .before .if10 .left)
 
-child-requires-4 : tie.Need-child-requires-4 Inv-loop μ-loop
-child-requires-4 c κs =
-    let room = c .before .before .before .before in
-    let begins = room .before .before in
-    let loop = begins .before .before .before .before .before .before in
-    let readable = loop .before .before .pre .1 in
-    (omega (arith, (begins .has-term2 .ensures (room .before .if8 .taken)) .two), readable .lookup _ (Q.id-below _ _ _ _ readable _ _ _ _ _ _ (loop .loop .inv)))
+sub-id-2 : tie.Need-sub-id-2 Inv-loop μ-loop
+sub-id-2 c = omega (arith, c .before .before .before .before .if11 .left)
 
-loop-less-3 : tie.Need-loop-less-3 Inv-loop μ-loop
-loop-less-3 c =
-    let put = c .before .before in
-    let room = put .before .before .before in
+loop-less-5 : tie.Need-loop-less-5 Inv-loop μ-loop
+loop-less-5 c =
+    let put = c .before in
+    let other = put .before .before in
+    let equal = other .before in
+    let room = equal .before .before in
     let begins = room .before .before in
     let add = begins .before .before .before .before in
     let loop = add .before .before in
     let readable = loop .before .before .pre .1 in
-    Q.takes-first-less _ _ _ _ readable _ _ _ _ _ _ (loop .loop .inv) (sym (add .before .kind .ensures) ∙ add .if1 .left) (begins .before .if7 .taken) (begins .has-term2 .ensures (room .before .if8 .taken)) (room .if9 .left) _ (put .before .before .child3 .ensures) _ (c .child4 .ensures) _ _ (put .put-term3 .ensures) _ (⊎-elim (λ w. inl (w .0 .taken, w .1)) (λ w. inr (w .0 .left, w .1)) (c .before .if10 .came))
+    let has = begins .has-term2 .ensures (room .before .if9 .taken) in
+    let last = stepped _ _ _ 1 _ (equal .before .child3 .ensures) readable (Q.id-below _ _ _ _ readable _ _ _ _ _ _ (loop .loop .inv)) (omega (arith, has .two)) _ (equal .if11 .left) in
+    less-work _ _ _ _ _ _ (late-few _ _ _ _ _) (late-few _ _ _ _ _) (Q.takes-first-less _ _ _ _ readable _ _ _ _ _ _ (loop .loop .inv) (sym (add .before .kind .ensures) ∙ add .if1 .left) (begins .before .if8 .taken) has (room .if10 .left) _ (other .child4 .ensures) _ last _ _ (put .put-term3 .ensures) _ (⊎-elim (λ w. inl (w .0 .taken, w .1)) (λ w. inr (w .0 .left, w .1)) (c .if12 .came)))
 
-loop-again-3 : tie.Need-loop-again-3 Inv-loop μ-loop
-loop-again-3 c =
-    let put = c .before .before in
-    let room = put .before .before .before in
+loop-again-5 : tie.Need-loop-again-5 Inv-loop μ-loop
+loop-again-5 c =
+    let put = c .before in
+    let other = put .before .before in
+    let equal = other .before in
+    let room = equal .before .before in
     let begins = room .before .before in
     let add = begins .before .before .before .before in
     let loop = add .before .before in
     let readable = loop .before .before .pre .1 in
-    Q.takes-first _ _ _ _ readable _ _ _ _ _ _ (loop .loop .inv) (sym (add .before .kind .ensures) ∙ add .if1 .left) (begins .before .if7 .taken) (begins .has-term2 .ensures (room .before .if8 .taken)) (room .if9 .left) _ (put .before .before .child3 .ensures) _ (c .child4 .ensures) _ _ (put .put-term3 .ensures) _ (⊎-elim (λ w. inl (w .0 .taken, w .1)) (λ w. inr (w .0 .left, w .1)) (c .before .if10 .came))
+    let has = begins .has-term2 .ensures (room .before .if9 .taken) in
+    let last = stepped _ _ _ 1 _ (equal .before .child3 .ensures) readable (Q.id-below _ _ _ _ readable _ _ _ _ _ _ (loop .loop .inv)) (omega (arith, has .two)) _ (equal .if11 .left) in
+    Q.takes-first _ _ _ _ readable _ _ _ _ _ _ (loop .loop .inv) (sym (add .before .kind .ensures) ∙ add .if1 .left) (begins .before .if8 .taken) has (room .if10 .left) _ (other .child4 .ensures) _ last _ _ (put .put-term3 .ensures) _ (⊎-elim (λ w. inl (w .0 .taken, w .1)) (λ w. inr (w .0 .left, w .1)) (c .if12 .came))
 
 sub-push-siblings : tie.Need-sub-push-siblings Inv-loop μ-loop
 sub-push-siblings c = omega arith
@@ -287,16 +342,16 @@ child-requires-5 c κs =
     let readable = loop .before .before .pre .1 in
     (omega (arith, c .arity .ensures, Q.has-child _ _ _ _ readable _ _ _ _ _ _ (loop .loop .inv) (sym (add .before .kind .ensures) ∙ add .if1 .left)), readable .lookup _ (Q.id-below _ _ _ _ readable _ _ _ _ _ _ (loop .loop .inv)))
 
-loop-less-4 : tie.Need-loop-less-4 Inv-loop μ-loop
-loop-less-4 c =
+loop-less-6 : tie.Need-loop-less-6 Inv-loop μ-loop
+loop-less-6 c =
     let pushed = c .before .before .before .before .before in
     let add = pushed .before .before .before .before .before in
     let loop = add .before .before in
     let readable = loop .before .before .pre .1 in
-    Q.opens-less _ _ _ _ readable _ _ _ _ _ _ (loop .loop .inv) (sym (add .before .kind .ensures) ∙ add .if1 .left) _ _ (pushed .push-siblings .ensures) _ (c .before .before .before .to .given .1) _ (c .before .arity .ensures) _ (c .child5 .ensures)
+    less-work _ _ _ _ _ _ (late-few _ _ _ _ _) (late-few _ _ _ _ _) (Q.opens-less _ _ _ _ readable _ _ _ _ _ _ (loop .loop .inv) (sym (add .before .kind .ensures) ∙ add .if1 .left) _ _ (pushed .push-siblings .ensures) _ (c .before .before .before .to .given .1) _ (c .before .arity .ensures) _ (c .child5 .ensures))
 
-loop-again-4 : tie.Need-loop-again-4 Inv-loop μ-loop
-loop-again-4 c =
+loop-again-6 : tie.Need-loop-again-6 Inv-loop μ-loop
+loop-again-6 c =
     let pushed = c .before .before .before .before .before in
     let add = pushed .before .before .before .before .before in
     let loop = add .before .before in
@@ -330,24 +385,32 @@ flatten-spec =
     add-if5
     returns-2
     child-requires
+    sub-below
+    loop-less-2
+    loop-again-2
+    child-requires-2
     sub-put-term-3
     sub-put-term-4
     put-term-requires-2
     add-back-2
     add-found-2
-    child-requires-2
-    loop-less-2
-    loop-again-2
+    sub-id
+    loop-less-3
+    loop-again-3
     has-term-requires-2
-    add-if9
+    add-if10
     returns-3
     child-requires-3
+    sub-below-2
+    loop-less-4
+    loop-again-4
+    child-requires-4
     put-term-requires-3
     add-front
     add-found-3
-    child-requires-4
-    loop-less-3
-    loop-again-3
+    sub-id-2
+    loop-less-5
+    loop-again-5
     sub-push-siblings
     sub-push-siblings-2
     add-push-siblings
@@ -358,5 +421,5 @@ flatten-spec =
     arity-requires
     sub-last
     child-requires-5
-    loop-less-4
-    loop-again-4)
+    loop-less-6
+    loop-again-6)

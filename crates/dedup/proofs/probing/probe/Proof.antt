@@ -14,10 +14,10 @@ use Rattle.dedup.proofs.probing.probe.Statement.{statement}
 use Rattle.dedup.proofs.probing.probe.Tie as tie
 
 abbrev Inv-loop : tie.InvT-loop
-Inv-loop nodes slots size kind payload flags hash children known at₀ passed₀ at passed = (passed ≤ size) × (at ≡ (nodeOf kind payload flags children .hash + passed) % size) × (at < size) × Passed nodes known slots size (nodeOf kind payload flags children) passed
+Inv-loop nodes slots size kind payload flags hash children greatest known at₀ passed₀ at passed = (passed ≤ size) × (at ≡ (nodeOf kind payload flags children .hash + passed) % size) × (at < size) × Passed nodes known slots size (nodeOf kind payload flags children) passed
 
 abbrev μ-loop : tie.MeasureT-loop
-μ-loop nodes slots size kind payload flags hash children known at₀ passed₀ at passed = size - passed
+μ-loop nodes slots size kind payload flags hash children greatest known at₀ passed₀ at passed = size - passed
 
 modulo-size-requires : tie.Need-modulo-size-requires Inv-loop μ-loop
 modulo-size-requires c κs = c .before .before .before .pre .0 .doubled
@@ -43,7 +43,7 @@ returns : tie.Need-returns Inv-loop μ-loop
 returns c = let a = c .before .before .before in ends-free _ _ _ _ _ _ (a .loop .inv .3) _ (a .loop .inv .1) (c .before .before .loop-test .taken) (c .if1 .taken)
 
 slot-holds-requires : tie.Need-slot-holds-requires Inv-loop μ-loop
-slot-holds-requires c κs = let n = c .if1 .left in let s = c .before .before .before .before .before .before .before .before in (omega arith, s .pre .0 .formed, s .pre .1)
+slot-holds-requires c κs = let n = c .if1 .left in let s = c .before .before .before .before .before .before .before .before in (omega arith, s .pre .0 .formed, s .pre .1, s .pre .2)
 
 returns-2 : tie.Need-returns-2 Inv-loop μ-loop
 returns-2 c = let a = c .before .before .before .before .before in ends-here _ _ _ _ _ _ (a .loop .inv .3) _ (a .loop .inv .1) (c .before .before .before .before .loop-test .taken) (sym (c .before .slot-holds .ensures) ∙ c .if2 .taken)
