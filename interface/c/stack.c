@@ -116,19 +116,29 @@ static void naming(void) {
     must(curvalique_store_name(&store, number, &known, &length, name));
 }
 
-/* A long sum in 64 brackets, none of which a text of it goes without. */
-static size_t long_text(void) {
-    static const char OPENING[] = "x-(";
-    const size_t opened = sizeof OPENING - 1, most = TEXT_BYTES - (opened + 1) * NESTED;
+/* What a text nests by: how it begins, how deep that nests, and how it ends. */
+static const struct nest {
+    const char *opening;
+    int deep;
+    const char *closing;
+} NESTS[] = {
+    {"(", 1, ")"}, {"-", 1, ""}, {"x^", 1, ""}, {"x-(", 1, ")"}, {"x*(", 1, ")"}, {"x/-(", 2, ")"}, {"x-x*x^(", 2, ")"},
+};
+
+/* A text that nests as deep as one may, with a long sum, or a name where no sum can stand, inside. */
+static size_t long_text(const struct nest *nest) {
+    const size_t opening = strlen(nest->opening), closing = strlen(nest->closing);
+    const int levels = NESTED / nest->deep;
+    const size_t most = TEXT_BYTES - (size_t)levels * (opening + closing), inside = closing == 0 ? 1 : most - 1 + most % 2;
     size_t length = 0;
-    for (int level = 0; level < NESTED; level++, length += opened) {
-        memcpy(text + length, OPENING, opened);
+    for (int level = 0; level < levels; level++, length += opening) {
+        memcpy(text + length, nest->opening, opening);
     }
-    for (size_t place = 0; place + 1 < most; place++) {
+    for (size_t place = 0; place < inside; place++) {
         text[length++] = place % 2 == 0 ? 'x' : '+';
     }
-    memset(text + length, ')', NESTED);
-    return length + NESTED;
+    memset(text + length, ')', (size_t)levels * closing);
+    return length + (size_t)levels * closing;
 }
 
 static size_t text_length;
@@ -200,9 +210,23 @@ static size_t used(uint8_t *stack, struct trial trial) {
     return STACK_BYTES - place;
 }
 
+static size_t measured(uint8_t *stack, void (*call)(void)) {
+    return used(stack, (struct trial){call}) - used(stack, (struct trial){nothing});
+}
+
 static void measure(uint8_t *stack, const char *group, void (*call)(void)) {
-    size_t without = used(stack, (struct trial){nothing}), with = used(stack, (struct trial){call});
-    printf("%8zu %s\n", with - without, group);
+    printf("%8zu %s\n", measured(stack, call), group);
+}
+
+static void measure_texts(uint8_t *stack) {
+    size_t most_read = 0, most_written = 0;
+    for (size_t place = 0; place < sizeof NESTS / sizeof *NESTS; place++) {
+        text_length = long_text(&NESTS[place]);
+        size_t read = measured(stack, reading_text), written = measured(stack, writing_text);
+        most_read = read > most_read ? read : most_read;
+        most_written = written > most_written ? written : most_written;
+    }
+    printf("%8zu a text that is read\n%8zu a text that is written\n", most_read, most_written);
 }
 
 int main(void) {
@@ -220,9 +244,7 @@ int main(void) {
     root = doubled();
     measure(stack, "a prune", pruning);
     measure(stack, "name calls", naming);
-    text_length = long_text();
-    measure(stack, "a text that is read", reading_text);
-    measure(stack, "a text that is written", writing_text);
+    measure_texts(stack);
     measure(stack, "a sheet", running_sheet);
     measure(stack, "the listing of a sheet", listing_sheet);
     measure(stack, "a listing read back", reading_listing);
