@@ -1,6 +1,6 @@
 -- The promise at a list of calls on lent memory: flow + (flow + 0.0625), whose walk is cut short by its budget, with a refused call in between,
 -- pruned by a setting with a threshold and by one without.
-use Prim.Native.Nat.{ℕ, _/_, _≤_, _<_}
+use Prim.Native.Nat.{ℕ, _/_, _≤_, _<_, _*_}
 use mathlib.Core.Path.{_≡_, refl, ap, ap₂, subst}
 use mathlib.Core.Bool.{Bool, true, false, _&&_, _||_}
 use mathlib.Core.Option.{some}
