@@ -4,7 +4,7 @@ import re
 from dataclasses import dataclass, field
 
 FIRST_LINE = re.compile(r"(ok|spent) (0|[1-9][0-9]*)|ok (-)|refused ([0-9]+) at ([0-9]+)|outside .+")
-NODE_LINE = re.compile(r"([0-9]+) ([0-9]+) ([0-9A-F]{16}) ([0-7])((?: [0-9]+){0,4})")
+NODE_LINE = re.compile(r"([0-9]+) ([0-9]+) ([0-9A-F]{16}) ([0-7])((?: [0-9]+){0,16})")
 # What `--details` of the checker and the driver adds.
 PRUNE_LINE = re.compile(r"record ([0-9]+) answer ([0-9]+) kept ([0-9]+) dropped ([0-9]+)")
 DETAIL_LINE = re.compile(r"record [0-9]+ answer [0-9]+(?: steps [0-9]+)?|coefficient [0-9]+ [0-9A-F]{16}")

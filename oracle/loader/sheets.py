@@ -11,6 +11,8 @@ ADD, SUB, MUL, MOD, NEG = 0, 1, 2, 5, 6
 CHILD_COUNTS = {ADD: (1, 2, 2, 2, 3, 4), SUB: (2,), MUL: (1, 2, 2, 2, 3), MOD: (2,), NEG: (1,)}
 CONTROL_CHILDREN = (3, 3, 4)
 STEPS = 1024
+# The most arguments of a function (02 g).
+ARGUMENTS_MAXIMUM = 16
 AMPLE_BUDGET = 20_000
 DEPTH_MAXIMUM = 255
 
@@ -64,7 +66,8 @@ def node(random, palette, count):
         return leaf(random, palette)
     if choice < 0.22:
         number = random.randint(0, 2).to_bytes(4, "big")
-        return Record(b"\x04" + number + operands(random, count, random.randint(0, 4)))
+        arguments = random.randint(0, random.choice([4, ARGUMENTS_MAXIMUM]))
+        return Record(b"\x04" + number + operands(random, count, arguments))
     if choice < 0.26:
         control = random.randint(0, 2)
         return Record(bytes([5, control]) + operands(random, count, CONTROL_CHILDREN[control]))

@@ -46,6 +46,7 @@ int main(int argc, char **argv) {
     try_null_lists();
     try_stores_without_nodes();
     try_lengths();
+    try_operand_counts();
     try_long_chains();
     try_stores(rounds, sheet, length);
     try_names(rounds / NAME_SHARE);

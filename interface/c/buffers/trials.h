@@ -20,6 +20,9 @@ void try_null_lists(void);
 /* Lengths that are no multiple of a node's words. */
 void try_lengths(void);
 
+/* Functions and sums of every number of operands. */
+void try_operand_counts(void);
+
 /* Sums of 4,096 terms, and of more. */
 void try_long_chains(void);
 

@@ -10,6 +10,7 @@ mod lengths;
 mod listing_calls;
 mod name_calls;
 mod null_lists;
+mod operand_counts;
 mod sheet_calls;
 mod store_calls;
 mod text_calls;
@@ -35,6 +36,7 @@ fn try_all(rounds: u64, sheet: &[u8]) {
     null_lists::try_null_lists();
     try_stores_without_nodes(&mut trial);
     lengths::try_lengths();
+    operand_counts::try_operand_counts();
     chains::try_long_chains();
     for (nodes, slots, calls) in STORES {
         let store = grown_store(&mut trial, nodes * NODE_WORDS, slots, calls);

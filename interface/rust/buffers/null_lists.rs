@@ -88,7 +88,20 @@ fn try_null_texts() {
         [
             curvalique_read_text(null(), 0, list, words, table, lent, counted, sized, null_mut(), 0, known, answer),
             curvalique_read_text(from, length, list, words, table, lent, counted, sized, null_mut(), 0, known, answer),
-            curvalique_read_text(from, length, null_mut(), 0, null_mut(), 0, counted, sized, null_mut(), 0, known, answer),
+            curvalique_read_text(
+                from,
+                length,
+                null_mut(),
+                0,
+                null_mut(),
+                0,
+                counted,
+                sized,
+                null_mut(),
+                0,
+                known,
+                answer,
+            ),
         ]
     };
     let expected = [Refusal::BAD_TEXT, Refusal::NO_NAME_PLACE, Refusal::NOT_SOUND];

@@ -24,13 +24,8 @@ const TEXTS: [&[u8]; 4] = [
 ];
 
 /// Refused before anything is made.
-const REFUSED_FIRST: [Refusal; 5] = [
-    Refusal::NOT_SOUND,
-    Refusal::BAD_TEXT,
-    Refusal::OUTSIDE_LANGUAGE,
-    Refusal::NESTED_TOO_DEEP,
-    Refusal::NOT_A_NUMBER,
-];
+const REFUSED_FIRST: [Refusal; 5] =
+    [Refusal::NOT_SOUND, Refusal::BAD_TEXT, Refusal::OUTSIDE_LANGUAGE, Refusal::NESTED_TOO_DEEP, Refusal::NOT_A_NUMBER];
 
 /// A node's text, in a block of any length, and read back.
 fn write_text(trial: &mut Trial, blocks: &mut Blocks, names: &mut Names) {
