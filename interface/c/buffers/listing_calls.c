@@ -8,7 +8,7 @@
 #include <stdlib.h>
 
 /* For some listings of the sample sheet enough, for others not. */
-#define MOST_WORDS 200
+#define MOST_WORDS (20 * CURVALIQUE_NODE_WORDS)
 #define LINE_FEED 0x0A
 /* The lines of a listing are counted from 1; that of node 0 is the second. */
 #define FIRST_NODE_LINE 2

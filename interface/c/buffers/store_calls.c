@@ -10,7 +10,10 @@
 /* Calls 0 to 14 are store calls, 15 to 17 rewrite. */
 #define FIRST_REWRITING 15
 #define CALLS 18
-#define MOST_OPERANDS 6
+/* Operand lists go to one operand more than a function takes; their ids past the first few repeat these, so that many
+ * of the long lists are answered. */
+#define MOST_OPERANDS 18
+#define DRAWN_IDS 6
 #define MOST_ID_DRAWN 70000
 #define EMPTY_SIZE 64
 #define EMPTY_CALLS 100
@@ -29,9 +32,9 @@ static uint32_t any_id(const struct store *store) {
 static struct arguments any_arguments(const struct store *store) {
     struct arguments drawn;
     for (int place = 0; place < MOST_OPERANDS; place++) {
-        drawn.ids[place] = any_id(store);
+        drawn.ids[place] = place < DRAWN_IDS ? any_id(store) : drawn.ids[place - DRAWN_IDS];
     }
-    drawn.operand_count = below(MOST_OPERANDS);
+    drawn.operand_count = below(below(2) == 0 ? DRAWN_IDS : MOST_OPERANDS);
     drawn.code = (uint32_t)below(8);
     drawn.flags = (uint32_t)below(5);
     drawn.depth = (uint32_t)below(258);

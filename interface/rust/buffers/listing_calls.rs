@@ -5,7 +5,7 @@ use curvalique::{NODE_WORDS, Outcome, TOO_FEW_WORDS, Unread, WRONG_LINE, read_li
 use crate::trial::{Group, Trial, UNTOUCHED, check, filled_block};
 
 /// For some listings of the sample sheet enough, for others not.
-const MOST_WORDS: usize = 200;
+const MOST_WORDS: usize = 20 * NODE_WORDS;
 const LINE_FEED: u8 = 0x0A;
 /// The lines of a listing are counted from 1; that of node 0 is the second.
 const FIRST_NODE_LINE: u64 = 2;

@@ -1,5 +1,7 @@
 //! Store calls, simplify and prune, and reading of nodes, with any arguments on any store.
 
+use std::array::from_fn;
+
 use curvalique::{Refusal, Store};
 
 use crate::blocks::Blocks;
@@ -8,7 +10,10 @@ use crate::trial::{Group, Trial, block, check};
 /// Calls 0 to 14 are store calls, 15 to 17 rewrite.
 const FIRST_REWRITING: u64 = 15;
 const CALLS: u64 = 18;
-const MOST_OPERANDS: usize = 6;
+/// Operand lists go to one operand more than a function takes; their ids past the first few repeat these, so that many
+/// of the long lists are answered.
+const MOST_OPERANDS: usize = 18;
+const DRAWN_IDS: usize = 6;
 const MOST_ID_DRAWN: u64 = 70_000;
 const EMPTY_SIZE: usize = 64;
 const EMPTY_CALLS: u64 = 100;
@@ -30,10 +35,12 @@ fn any_id(trial: &mut Trial, count: u64) -> u32 {
 }
 
 fn any_arguments(trial: &mut Trial, count: u64) -> Arguments {
-    let ids = [(); MOST_OPERANDS].map(|()| any_id(trial, count));
+    let few = [(); DRAWN_IDS].map(|()| any_id(trial, count));
+    let ids = from_fn(|place| few[place % DRAWN_IDS]);
+    let many = if trial.below(2) == 0 { DRAWN_IDS } else { MOST_OPERANDS };
     Arguments {
         ids,
-        operands: block(&ids[..trial.place(MOST_OPERANDS)]),
+        operands: block(&ids[..trial.place(many)]),
         code: trial.below(8) as u32,
         flags: trial.below(5) as u32,
         depth: trial.below(258) as u32,
