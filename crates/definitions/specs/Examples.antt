@@ -175,6 +175,14 @@ pub examples-hold : map (λ (e : Example). answers (e .given) empty (e .calls)) 
 unfolding answers
 examples-hold = refl
 
+-- a shared term counts each time it is met: x + x keeps two terms, and of 0.01 + 0.01 two are dropped
+pub shared-terms :
+    map (λ (cs : List Call). answers lent empty cs)
+    ((x ∷ plus 0 0 ∷ prune 1 tenth ∷ []) ∷ (number hundredth ∷ plus 0 0 ∷ prune 1 tenth ∷ number plusZero ∷ []) ∷ [])
+    ≡ (stored 0 ∷ stored 1 ∷ pruned 1 2 0 ∷ []) ∷ (stored 0 ∷ stored 1 ∷ pruned 2 0 2 ∷ stored 2 ∷ []) ∷ []
+unfolding answers
+shared-terms = refl
+
 -- the nodes of the listing
 pub listing-nodes : run lent empty (x ∷ number plusZero ∷ plus 0 1 ∷ simplify 2 255 100 ∷ []) .nodes
     ≡ marked standard (node variableKind 7 0 []) ∷ node constantKind plusZero 0 [] ∷ node addKind 0 3 (0 ∷ 1 ∷ []) ∷ []

@@ -4,7 +4,7 @@ use mathlib.Core.Path.{_≡_, refl}
 use mathlib.Core.Bool.{Bool, true, false}
 use mathlib.Core.List.{List, [], _∷_}
 use lib.ListN.{length}
-use Rattle.text_language.specs.Grammar.{sums, products, Expr, constant, variable, negated, linked, raised, chain}
+use Rattle.text_language.specs.Grammar.{sums, products, Expr, constant, variable, linked, raised, chain}
 use Rattle.text_language.specs.Reader.{Got, got, bad, after, level, read}
 use Rattle.text_language.specs.Scan.{scan, isText, whole, onto, pop, operand}
 use Rattle.text_language.specs.Program.{Token, number, name, negate, join, plus, minus, times, raise, postfix, tall}
@@ -39,18 +39,10 @@ dose-program : postfix dose ≡ number two ∷ name flow ∷ number three ∷ jo
 unfolding postfix
 dose-program = refl
 
--- -x^x is (-x)^x; x-x-x groups left, x^x^x right
-minus-power : reading (45 ∷ 120 ∷ 94 ∷ 120 ∷ []) ≡ got (raised (negated x) x) 1 []
-unfolding read after
-minus-power = refl
-
+-- x-x-x groups left
 left-group : reading (120 ∷ 45 ∷ 120 ∷ 45 ∷ 120 ∷ []) ≡ got (linked sums true (linked sums true x x) x) 0 []
 unfolding read after
 left-group = refl
-
-right-group : reading (120 ∷ 94 ∷ 120 ∷ 94 ∷ 120 ∷ []) ≡ got (raised x (raised x x)) 2 []
-unfolding read after
-right-group = refl
 
 -- 2x, 1234567890 and an empty text are none; ( x ) is one
 no-sign : isText (50 ∷ 120 ∷ []) ≡ false

@@ -1,6 +1,6 @@
 -- A reader of the language, as a function: greedy, with fuel.
 use Prim.Native.Nat.{ℕ, zero, suc, _+_, _-_, _*_, _≤_, max}
-use mathlib.Core.Path.{_≡_}
+use mathlib.Core.Path.{_≡_, refl}
 use mathlib.Core.Bool.{Bool, true, false, _&&_, _||_, cond}
 use mathlib.Core.Option.{Option, none, some}
 use mathlib.Core.List.{List, [], _∷_}
@@ -90,6 +90,15 @@ read (suc n) (level factor) s =
         | false ↦ atomOf (skip s)
       ]
     ]
+
+-- -x^x is (-x)^x, and x^x^x groups right
+pub minus-power : let x : Expr = variable (120 ∷ []) in read 20 (level (chain sums)) (45 ∷ 120 ∷ 94 ∷ 120 ∷ []) ≡ got (raised (negated x) x) 1 []
+unfolding read after
+minus-power = refl
+
+pub right-group : let x : Expr = variable (120 ∷ []) in read 24 (level (chain sums)) (120 ∷ 94 ∷ 120 ∷ 94 ∷ 120 ∷ []) ≡ got (raised x (raised x x)) 2 []
+unfolding read after
+right-group = refl
 
 -- the readers' order where none has moved on
 abbrev pub rank : Level → ℕ
