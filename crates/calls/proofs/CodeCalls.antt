@@ -1,70 +1,85 @@
--- What the function of a call leaves is what its code says.
-use Prim.Native.Nat.{ℕ, suc, _≤_, _<_}
+-- What an encoded call leaves is what its header says.
+use Prim.Native.Nat.{ℕ, _≤_, _<_}
 use mathlib.Core.Path.{_≡_, refl, sym, ap, _∙_, subst}
-use mathlib.Core.Option.{Option, none, some}
+use mathlib.Core.Option.{Option, some}
 use mathlib.Core.List.{List}
 use lib.ListN.{replicate}
 use native.Mathlib.Omega.{arith}
 use Rattle.arena.specs.declared.DagArena.{DagArena}
-use Rattle.definitions.specs.Machine.{Call, Answer}
 use Rattle.definitions.specs.Names.{NameCall, longestName}
 use Rattle.definitions.specs.Controller.{ControllerCall, naming, reading, fromStore, fromNames, asked}
 use Rattle.store.specs.Memory.{Memory, memory, model, Leaves}
+use Rattle.store_calls.specs.declared.Call.{Call}
+use Rattle.store_calls.specs.declared.answers.Answer.{Answer}
+use Rattle.store_calls.specs.declared.answers.Performed.{Performed}
+use Rattle.store_calls.specs.Calls as Calls
+use Rattle.store_calls.specs.Calls.{callOf}
+use Rattle.store_calls.proofs.Same.{leaves-as}
 use Rattle.names.specs.Calls.{answerOf, Called}
 use Rattle.names.specs.Memory.{nameMemory, nameModel}
 use Rattle.text.specs.declared.making.ReadOutcome.{ReadOutcome}
 use Rattle.text.specs.Reading.{Reads}
 use Rattle.text.specs.Calling as Text
-use Rattle.calls.specs.declared.reply.Answered.{Answered}
 use Rattle.calls.specs.declared.handing.CallResult.{CallResult}
-use Rattle.calls.specs.declared.reply.Reply.{Reply}
 use Rattle.calls.specs.declared.handing.LastReply.{LastReply}
 use Rattle.calls.specs.declared.handing.LastReply.the-variants as Last
 use Rattle.calls.specs.declared.naming.Named.{Named}
 use Rattle.text.specs.Memory.{ControllerMemory, controllerMemory}
 use Rattle.definitions.specs.Beside.{beside}
 use Rattle.calls.specs.Memory.{CallLeaves, by-store, by-names, by-text}
-use Rattle.calls.specs.Calling.{replyOf, maybeFromStore, lastReplyOf, NameBeside, RunsStoreCall, RunsNameCall, RunsCall}
-use Rattle.encoding.specs.Encoding.{firstWithOperands, firstRewriting, firstNaming, firstReading, lastCode, bytesOf, callOfCode}
+use Rattle.calls.specs.Calling.{lastReplyOf, NameBeside, RunsStoreCall, RunsNameCall, RunsCall}
+use Rattle.encoding.specs.declared.headers.Header.{Header}
+use Rattle.encoding.specs.declared.headers.Operands.{Operands}
+use Rattle.encoding.specs.declared.headers.Operands.the-variants.{InHeader}
+use Rattle.encoding.specs.declared.headers.StoreCall.{StoreCall}
+use Rattle.encoding.specs.Encoding.{firstNaming, firstReading, lastCode, bytesOf, callOfCode}
+use Rattle.encoding.specs.Headers.{headerCall, operandsOf, InNumbers, DecodesTo, DecodesHeader}
 
--- a function's answer and counts, handed on as the reply of its code
-pub runs : (code k a b high low : ℕ) (operands : List ℕ) (x : Call) (m : Memory) (words slots : List ℕ) (answer : Answer) (r : Answered) (arena : DagArena)
-    → code ≡ k → Leaves x m answer (memory words slots arena) → (replyOf (r .reply) ≡ some answer) × (r .arena ≡ arena) → callOfCode k a b high low operands ≡ some (asked x)
-    → RunsStoreCall (callOfCode code a b high low operands) m r (memory words slots (r .arena))
-runs code k a b high low operands x m words slots answer r arena e h (same, kept) table = record {
-  ran = x;
-  is = ap (λ n. callOfCode n a b high low operands) e ∙ table;
-  answer = answer;
-  reply = same;
-  leaves = subst (λ y. Leaves x m answer (memory words slots y)) (sym kept) h;
+-- the code's call performed, over the operands that it has
+pub runs : (call : Option ControllerCall) (c : Call) (operands : List ℕ) (m m′ : Memory) (r : Performed) → DecodesTo call c operands → Leaves (callOf c operands) m (Calls.answerOf (r .answer)) m′
+    → RunsStoreCall call m r m′
+runs call c operands m m′ r d h = record {
+  ran = d .plain;
+  is = d .is;
+  leaves = leaves-as m (callOf c operands) (d .plain) (d .same m) (Calls.answerOf (r .answer)) m′ h;
 }
 
-pub runs-names : (code k a : ℕ) (operands : List ℕ) (x : NameCall) (bytes bytes′ : List ℕ) (count : ℕ) (r : Named)
-    → code ≡ k → Called bytes count x (answerOf (r .answer) (r .bytes)) bytes′ (r .count) → NameBeside (Last.Names (r .answer)) (r .bytes) → ((b high low : ℕ) → callOfCode k a b high low operands ≡ some (naming x))
-    → (b high low : ℕ) → RunsNameCall (callOfCode code a b high low operands) bytes count r bytes′
-runs-names code k a operands x bytes bytes′ count r e h name table b high low = record {
+-- where they stand
+pub placed : (h : Header) (r : StoreCall) (place : Operands) (operands : List ℕ) → DecodesHeader h r → r .operands ≡ place → DecodesTo (headerCall h operands) (r .call) (operandsOf h place operands)
+placed h r place operands d e = subst (λ (x : Operands). DecodesTo (headerCall h operands) (r .call) (operandsOf h x operands)) e (d .decodes operands)
+
+pub few-numbers : (h : Header) (r : StoreCall) (n : ℕ) → DecodesHeader h r → r .operands ≡ InHeader n → n ≤ 4
+few-numbers h r n d e = subst InNumbers e (d .few)
+
+pub runs-names : (header : Header) (k : ℕ) (operands : List ℕ) (x : NameCall) (bytes bytes′ : List ℕ) (count : ℕ) (r : Named)
+    → header .code ≡ k → Called bytes count x (answerOf (r .answer) (r .bytes)) bytes′ (r .count) → NameBeside (Last.Names (r .answer)) (r .bytes)
+    → callOfCode k (header .a) (header .b) (header .high) (header .low) operands ≡ some (naming x) → RunsNameCall (headerCall header operands) bytes count r bytes′
+runs-names header k operands x bytes bytes′ count r e h name table = record {
   ran = x;
-  is = ap (λ n. callOfCode n a b high low operands) e ∙ table b high low;
+  is = ap (λ n. callOfCode n (header .a) (header .b) (header .high) (header .low) operands) e ∙ table;
   called = h;
   name = name;
 }
 
 -- beside the reply of a store call stand 0s
-pub store-beside : (reply : LastReply) (r : Reply) (name : List ℕ) → reply ≡ Last.Store r → name ≡ replicate longestName 0 → NameBeside reply name
+pub store-beside : (reply : LastReply) (r : Answer) (name : List ℕ) → reply ≡ Last.Store r → name ≡ replicate longestName 0 → NameBeside reply name
 store-beside reply r name e h = subst (λ x. NameBeside x name) (sym e) h
 
+pub nothing-beside : (reply : LastReply) (name : List ℕ) → reply ≡ Last.Nothing → name ≡ replicate longestName 0 → NameBeside reply name
+nothing-beside reply name e h = subst (λ x. NameBeside x name) (sym e) h
+
 -- the same of the whole memory: what is not lent to a call stays
-pub runs-store : (call : Option ControllerCall) (m : Memory) (words slots bytes : List ℕ) (count : ℕ) (r : Answered) (h : CallResult)
-    → RunsStoreCall call m r (memory words slots (r .arena)) → (h .reply ≡ Last.Store (r .reply)) × (h .name ≡ replicate longestName 0) × (h .arena ≡ r .arena) × (h .names ≡ count)
+pub runs-store : (call : Option ControllerCall) (m : Memory) (words slots bytes : List ℕ) (count : ℕ) (r : Performed) (h : CallResult)
+    → RunsStoreCall call m r (memory words slots (r .arena)) → (h .reply ≡ Last.Store (r .answer)) × (h .name ≡ replicate longestName 0) × (h .arena ≡ r .arena) × (h .names ≡ count)
     → RunsCall call (beside model nameModel m (nameMemory bytes count)) h (controllerMemory words slots (h .arena) bytes (h .names))
 runs-store call m words slots bytes count r h f (same, zeros, kept, many) = record {
   ran = asked (f .ran);
   is = f .is;
-  answer = fromStore (f .answer);
-  reply = ap (λ x. lastReplyOf x (h .name)) same ∙ ap maybeFromStore (f .reply);
-  name = store-beside (h .reply) (r .reply) (h .name) same zeros;
-  left = subst (λ (n : ℕ). CallLeaves (asked (f .ran)) (beside model nameModel m (nameMemory bytes count)) (fromStore (f .answer)) (controllerMemory words slots (h .arena) bytes n)) (sym many)
-      (by-store (subst (λ y. Leaves (f .ran) m (f .answer) (memory words slots y)) (sym kept) (f .leaves)));
+  answer = fromStore (Calls.answerOf (r .answer));
+  reply = ap (λ x. lastReplyOf x (h .name)) same;
+  name = store-beside (h .reply) (r .answer) (h .name) same zeros;
+  left = subst (λ (n : ℕ). CallLeaves (asked (f .ran)) (beside model nameModel m (nameMemory bytes count)) (fromStore (Calls.answerOf (r .answer))) (controllerMemory words slots (h .arena) bytes n)) (sym many)
+      (by-store (subst (λ y. Leaves (f .ran) m (Calls.answerOf (r .answer)) (memory words slots y)) (sym kept) (f .leaves)));
 }
 
 pub runs-naming : (call : Option ControllerCall) (m : Memory) (words slots bytes bytes′ : List ℕ) (arena : DagArena) (count : ℕ) (r : Named) (h : CallResult)
@@ -83,14 +98,14 @@ runs-naming call m words slots bytes bytes′ arena count r h at f (same, named,
 }
 
 -- a reading, by what it was lent
-pub runs-reading : (code a b high low : ℕ) (operands : List ℕ) (d : ControllerMemory) (words slots bytes : List ℕ) (r : ReadOutcome) (h : CallResult)
-    → code ≡ firstReading → Reads (bytesOf operands) d (r .answer) (controllerMemory words slots (r .arena) bytes (r .names))
+pub runs-reading : (header : Header) (operands : List ℕ) (d : ControllerMemory) (words slots bytes : List ℕ) (r : ReadOutcome) (h : CallResult)
+    → header .code ≡ firstReading → Reads (bytesOf operands) d (r .answer) (controllerMemory words slots (r .arena) bytes (r .names))
     → (lastReplyOf (h .reply) (h .name) ≡ some (Text.answered (r .answer))) × NameBeside (h .reply) (h .name) × (h .arena ≡ r .arena) × (h .names ≡ r .names)
-    → RunsCall (callOfCode code a b high low operands) d h (controllerMemory words slots (h .arena) bytes (h .names))
+    → RunsCall (headerCall header operands) d h (controllerMemory words slots (h .arena) bytes (h .names))
 unfolding callOfCode
-runs-reading code a b high low operands d words slots bytes r h e t (same, name, kept, many) = record {
+runs-reading header operands d words slots bytes r h e t (same, name, kept, many) = record {
   ran = reading (bytesOf operands);
-  is = ap (λ (n : ℕ). callOfCode n a b high low operands) e;
+  is = ap (λ (n : ℕ). callOfCode n (header .a) (header .b) (header .high) (header .low) operands) e;
   answer = Text.answered (r .answer);
   reply = same;
   name = name;
@@ -100,26 +115,6 @@ runs-reading code a b high low operands d words slots bytes r h e t (same, name,
 
 pub last-reading : (code : ℕ) → firstReading ≤ code → code ≤ lastCode → code ≡ firstReading
 last-reading code h l = omega arith
-
--- ---- the last code of those below a bound
-
-above : (code k : ℕ) → k ≤ code → (code ≡ k → ⊥) → k < code
-above code k h n = omega arith
-
-zero-least : (n : ℕ) → 0 ≤ n
-zero-least n = omega arith
-
-exactly : (code k : ℕ) → k ≤ code → code < suc k → code ≡ k
-exactly code k h l = omega arith
-
-pub last-small : (code : ℕ) → code < firstWithOperands → (code ≡ 0 → ⊥) → (code ≡ 1 → ⊥) → (code ≡ 2 → ⊥) → (code ≡ 3 → ⊥) → (code ≡ 4 → ⊥) → (code ≡ 5 → ⊥) → (code ≡ 6 → ⊥) → (code ≡ 7 → ⊥) → code ≡ 8
-last-small code l n0 n1 n2 n3 n4 n5 n6 n7 =
-    exactly code 8
-    (above code 7 (above code 6 (above code 5 (above code 4 (above code 3 (above code 2 (above code 1 (above code 0 (zero-least code) n0) n1) n2) n3) n4) n5) n6) n7)
-    l
-
-pub last-rewriting : (code : ℕ) → firstRewriting ≤ code → code < firstNaming → (code ≡ 15 → ⊥) → (code ≡ 16 → ⊥) → (code ≡ 18 → ⊥) → code ≡ 17
-last-rewriting code h l n15 n16 n18 = let x = above code 16 (above code 15 h n15) n16 in omega arith
 
 pub last-naming : (code : ℕ) → firstNaming ≤ code → code < firstReading → (code ≡ 21 → ⊥) → (code ≡ 19 → ⊥) → code ≡ 20
 last-naming code h l n21 n19 = omega arith

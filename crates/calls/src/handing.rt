@@ -6,20 +6,20 @@ ghost use Rattle.definitions.specs.Names.{longestName};
 ghost use Rattle.text.specs.Calling as Text;
 ghost use Rattle.calls.specs.Calling.{lastReplyOf, NameBeside};
 ghost use Rattle.calls.specs.declared.handing.LastReply.the-variants as Last;
-ghost use Rattle.calls.specs.declared.reply.Reply.the-variants.{Nothing};
 use crate::naming::Named;
-use crate::reply::Answered;
-use crate::reply::Reply;
-use crate::reply::stored;
 use arena::DagArena;
 use encoding::spelling::LONGEST_NAME;
 use store::Built;
+use store_calls::Answer;
+use store_calls::Performed;
+use store_calls::of_built;
 use text::ReadOutcome;
 
 // The last call's reply.
 pub enum LastReply {
-    // No call, or one of the store.
-    Store(Reply),
+    // No call was run.
+    Nothing,
+    Store(Answer),
     Names(names::Answer),
 }
 
@@ -33,10 +33,10 @@ pub struct CallResult {
 
 // What the first call gets: no reply, and no names.
 pub fn at_first(arena: DagArena) -> CallResult
-    ensures { λ r. ⌜ (r .reply ≡ Last.Store Nothing) × (r .name ≡ replicate longestName 0) × (r .arena ≡ arena) × (r .names ≡ 0) ⌝ }
+    ensures { λ r. ⌜ (r .reply ≡ Last.Nothing) × (r .name ≡ replicate longestName 0) × (r .arena ≡ arena) × (r .names ≡ 0) ⌝ }
 {
     CallResult {
-        reply: LastReply::Store(Reply::Nothing),
+        reply: LastReply::Nothing,
         name: [0u8; LONGEST_NAME],
         arena,
         names: 0,
@@ -44,14 +44,14 @@ pub fn at_first(arena: DagArena) -> CallResult
 }
 
 // What a call of the store hands on.
-pub(crate) fn of_store(answered: Answered, names: usize) -> CallResult
-    ensures { λ r. ⌜ (r .reply ≡ Last.Store (answered .reply)) × (r .name ≡ replicate longestName 0)
-        × (r .arena ≡ answered .arena) × (r .names ≡ names) ⌝ }
+pub(crate) fn of_store(performed: Performed, names: usize) -> CallResult
+    ensures { λ r. ⌜ (r .reply ≡ Last.Store (performed .answer)) × (r .name ≡ replicate longestName 0)
+        × (r .arena ≡ performed .arena) × (r .names ≡ names) ⌝ }
 {
-    let reply = answered.reply;
-    let arena = answered.arena;
+    let answer = performed.answer;
+    let arena = performed.arena;
     CallResult {
-        reply: LastReply::Store(reply),
+        reply: LastReply::Store(answer),
         name: [0u8; LONGEST_NAME],
         arena,
         names,
@@ -82,6 +82,6 @@ pub(crate) fn of_reading(made: ReadOutcome) -> CallResult
     let answer = made.answer;
     let arena = made.arena;
     let names = made.names;
-    let answered = stored(Built { answer, arena });
-    of_store(answered, names)
+    let performed = of_built(Built { answer, arena });
+    of_store(performed, names)
 }

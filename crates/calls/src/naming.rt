@@ -1,8 +1,10 @@
-// One name call, by its code.
+// One name call, by its header.
 ghost use Prim.Native.Nat.{_≤_, _<_};
 ghost use Rattle.encoding.specs.Encoding.{firstNaming, firstReading};
-ghost use Rattle.calls.specs.Calling.{RunsNameCode};
+ghost use Rattle.encoding.specs.Headers.{headerCall};
+ghost use Rattle.calls.specs.Calling.{RunsNameCall};
 use encoding::codes;
+use encoding::headers::Header;
 use encoding::spelling::LONGEST_NAME;
 use encoding::spelling::spell_name;
 
@@ -16,15 +18,15 @@ pub(crate) struct Named {
 pub(crate) fn call_names(
     entries: &mut [u8],
     count: usize,
-    code: u32,
-    a: u32,
+    header: Header,
     operands: &[u32],
 ) -> Named
-    requires { ⌜ (firstNaming ≤ code) × (code < firstReading) ⌝ }
-    ensures { λ r. ⌜ RunsNameCode code a (now (operands .entry)) (now (entries .entry)) count r (now (entries .exit)) ⌝ }
+    requires { ⌜ (firstNaming ≤ header .code) × (header .code < firstReading) ⌝ }
+    ensures { λ r. ⌜ RunsNameCall (headerCall header (now (operands .entry))) (now (entries .entry)) count r (now (entries .exit)) ⌝ }
 {
+    let code = header.code;
     if code == codes::NAME_OF {
-        let told = names::name(entries, count, a);
+        let told = names::name(entries, count, header.a);
         let answer = told.answer;
         let bytes = told.bytes;
         return Named {

@@ -28,7 +28,6 @@ use Rattle.names.specs.Memory.{nameMemory, nameModel}
 use Rattle.names.proofs.Modelled.{no-names}
 use Rattle.calls.specs.declared.handing.CallResult.{CallResult}
 use Rattle.calls.specs.declared.handing.LastReply.the-variants as Last
-use Rattle.calls.specs.declared.reply.Reply.the-variants.{Nothing}
 use Rattle.text.specs.Memory.{ControllerMemory, controllerMemory, lentController, controllerAfter, BothSound, Extends}
 use Rattle.text.proofs.Determined.{extends-is}
 use Rattle.definitions.specs.Beside.{beside}
@@ -40,7 +39,7 @@ use Rattle.calls.specs.Calling.{lastReplyOf}
 use Rattle.encoding.specs.Finding.{WholeCall}
 use Rattle.history.specs.Replaying.{RunsCallAt, after, Continues, RunsAll, lentIn, Promised, NothingRun, Replays}
 use Rattle.history.proofs.Keeping.{history-of}
-use Rattle.calls.proofs.CodeCalls.{store-beside}
+use Rattle.calls.proofs.CodeCalls.{nothing-beside}
 use Rattle.history.proofs.Turns.{turns-more, extends-in-turn, last-is}
 use Rattle.encoding.proofs.Decoding.{decode-none, decode-some, unread-none, unread-some, none-in-nothing}
 
@@ -54,7 +53,7 @@ pub record RunTo (m : ControllerMemory) (calls : List ℕ) (at : ℕ) (r : CallR
   pub few : many ≤ at
 
 module _ (m : ControllerMemory) (calls : List ℕ) where
-  pub none-run : (r : CallResult) → r .reply ≡ Last.Store Nothing → r .name ≡ replicate longestName 0 → RunTo m calls 0 r 0 m
+  pub none-run : (r : CallResult) → r .reply ≡ Last.Nothing → r .name ≡ replicate longestName 0 → RunTo m calls 0 r 0 m
   none-run r e zeros = record {
     before = [];
     split = refl;
@@ -65,7 +64,7 @@ module _ (m : ControllerMemory) (calls : List ℕ) where
       left = done;
       last-memory = refl;
       last-answer = sym (ap (λ x. lastReplyOf x (r .name)) e);
-      last-name = store-beside (r .reply) Nothing (r .name) e zeros;
+      last-name = nothing-beside (r .reply) (r .name) e zeros;
     };
     counted = refl;
     few = omega arith;
@@ -116,7 +115,7 @@ module _ (m : ControllerMemory) (calls : List ℕ) where
   all-run-at-end r m′ k l h = all-run r m′ k (ap firstCall (drop-of-length-le calls l) ∙ none-in-nothing) h
 
 -- what the first call gets is the lent memory without names
-pub from-first : (words slots bytes calls : List ℕ) (h : CallResult) (arena : DagArena) (r : Run) (m′ : ControllerMemory) → (h .reply ≡ Last.Store Nothing) × (h .name ≡ replicate longestName 0) × (h .arena ≡ arena) × (h .names ≡ 0)
+pub from-first : (words slots bytes calls : List ℕ) (h : CallResult) (arena : DagArena) (r : Run) (m′ : ControllerMemory) → (h .reply ≡ Last.Nothing) × (h .name ≡ replicate longestName 0) × (h .arena ≡ arena) × (h .names ≡ 0)
     → RunsAll (after words slots bytes h) calls r m′ → RunsAll (controllerMemory words slots arena bytes 0) calls r m′
 from-first words slots bytes calls h arena r m′ (e, z, f, g) k = subst (λ m. RunsAll m calls r m′) (λ i. controllerMemory words slots (f i) bytes (g i)) k
 
@@ -155,7 +154,7 @@ fresh-clash : (A : Type 0) (arena : DagArena) (number : ℕ) → F.Store arena �
 fresh-clash A arena number e = let z : _≡_ {A = ℕ} 0 1 = cc in absurd (omega arith)
 
 pub replays-refused : (words slots bytes calls slots′ : List ℕ) (f : FreshStore) (number : ℕ) (h : CallResult) → Opens words slots f slots′ → f ≡ F.Refused number
-    → (h .reply ≡ Last.Store Nothing) × (h .name ≡ replicate longestName 0) × (h .arena ≡ record { count = 0; size = 0 }) × (h .names ≡ 0)
+    → (h .reply ≡ Last.Nothing) × (h .name ≡ replicate longestName 0) × (h .arena ≡ record { count = 0; size = 0 }) × (h .names ≡ 0)
     → Replays words slots bytes calls (record { opening = Refused number; run = record { last = h; calls = 0; words = 0 } }) words slots′ bytes
 replays-refused words slots bytes calls slots′ f number h o e (reply, zeros, none-stored, none-named) =
     go (M.freshRefused (lent words slots)) refl (o .answer) (o .slots-after)

@@ -15,7 +15,6 @@ use Rattle.store.specs.View.{lent}
 use Rattle.names.specs.Sound.{lentEntries}
 use Rattle.calls.specs.declared.handing.CallResult.{CallResult}
 use Rattle.calls.specs.declared.handing.LastReply.the-variants as Last
-use Rattle.calls.specs.declared.reply.Reply.the-variants.{Nothing}
 use Rattle.history.specs.declared.Run.{Run}
 use Rattle.history.specs.declared.Replayed.{Replayed}
 use Rattle.history.specs.declared.Opening.the-variants.{Opened, Refused}
@@ -76,7 +75,7 @@ pub record Promised (words slots bytes : List ℕ) (cs : List ControllerCall) (r
 
 -- no call was run: there is no reply, no store and no name
 pub record NothingRun (r : Run) : Type 0 where
-  pub reply : r .last .reply ≡ Last.Store Nothing
+  pub reply : r .last .reply ≡ Last.Nothing
   pub name : r .last .name ≡ replicate longestName 0
   pub arena : r .last .arena ≡ record { count = 0; size = 0 }
   pub names : r .last .names ≡ 0

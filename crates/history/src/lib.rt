@@ -14,6 +14,7 @@ use calls::call;
 use encoding::finding::HEADER_WORDS;
 use encoding::finding::Next;
 use encoding::finding::next_call;
+use encoding::headers::Header;
 
 pub struct Run {
     // The reply of the last call, and the store's count and size and the number of names after it.
@@ -55,19 +56,14 @@ fn call_at(
 {
     let start = at + HEADER_WORDS;
     let operands = &calls[start..end];
-    call(
-        nodes,
-        slots,
-        entries,
-        arena,
-        names,
-        calls[at],
-        calls[at + 1],
-        calls[at + 2],
-        calls[at + 3],
-        calls[at + 4],
-        operands,
-    )
+    let header = Header {
+        code: calls[at],
+        a: calls[at + 1],
+        b: calls[at + 2],
+        high: calls[at + 3],
+        low: calls[at + 4],
+    };
+    call(nodes, slots, entries, arena, names, header, operands)
 }
 
 // Every call of the list, each on the store and the names as the call before left them. No name is known at first.

@@ -1,14 +1,19 @@
 -- What equal answers leave.
 use Prim.Native.Nat.{ℕ}
-use mathlib.Core.Path.{_≡_, refl, sym, ap, _∙_}
-use mathlib.Core.Bool.{true, false, false≢true}
+use mathlib.Core.Path.{_≡_, refl, sym, ap, _∙_, subst}
+use mathlib.Core.Bool.{Bool, true, false, false≢true}
 use mathlib.Core.List.{List, [], _∷_, _++_}
 use Rattle.definitions.specs.Machine as M
 use Rattle.listing_lines.specs.declared.Outcome.{Outcome}
 use Rattle.listing_reader.specs.declared.Answer.{Answer}
 use Rattle.listing_reader.specs.declared.Answer.the-variants.{Read}
 use Rattle.names.specs.declared.Answer as Name
-use Rattle.outputs.specs.Calls.{numberOf, isRefused, Left}
+use Rattle.store.specs.declared.Answer as Built
+use Rattle.store.specs.declared.Answer.the-variants as B
+use Rattle.store.specs.Memory as Store
+use Rattle.store_calls.specs.declared.answers.Performed.{Performed}
+use Rattle.store_calls.specs.Calls.{answerOf}
+use Rattle.outputs.specs.Calls.{isSpent, AnswersNode, numberOf, isRefused, Left}
 use Rattle.outputs.specs.SheetCalls.{sheetOutputs}
 use Rattle.outputs.specs.ListingCalls.{firstLineOutputs, readOutputs}
 use Rattle.outputs.specs.NameCalls.{nameOutputs}
@@ -28,6 +33,22 @@ left-refused answer left number out e = record {
   answered = λ t. absurd (false≢true (sym t ∙ ap isRefused e));
   refused = λ _. refl;
 }
+
+-- a walk, by the number that says whether it was spent
+pub left-walked : (answer : M.Answer) (id steps n : ℕ) (spent : Bool) (before after : List ℕ) → answer ≡ M.simplified id spent steps → isSpent n ≡ spent → Left answer 0 (M.simplified id (isSpent n) steps) before after
+left-walked answer id steps n spent before after e f =
+    left-answered answer (M.simplified id (isSpent n) steps) before after (e ∙ ap (λ (b : Bool). M.simplified id b steps) (sym f)) refl refl
+
+pub left-same : (a a′ : M.Answer) (r : ℕ) (left : M.Answer) (before after : List ℕ) → a ≡ a′ → Left a r left before after → Left a′ r left before after
+left-same a a′ r left before after e l = subst (λ (x : M.Answer). Left x r left before after) e l
+
+-- a node made without a call answers as a call that makes one
+pub built-answers : (x : Performed) (a : Built.Answer) → answerOf (x .answer) ≡ Store.answerOf a → AnswersNode (answerOf (x .answer))
+built-answers x a e = subst AnswersNode (sym e) (by a)
+  where
+    by : (b : Built.Answer) → AnswersNode (Store.answerOf b)
+    by (B.Id id) = tt
+    by (B.Refused number) = tt
 
 -- ---- a sheet, a listing read back, a name
 

@@ -42,6 +42,25 @@ isRefused (M.simplified id spent steps) = false
 isRefused (M.pruned id kept dropped) = false
 isRefused (M.refused number) = true
 
+-- the answers of a call that makes a node, of a walk and of a prune
+abbrev pub AnswersNode : M.Answer → Type 0
+AnswersNode (M.stored id) = Unit {0}
+AnswersNode (M.simplified id spent steps) = ⊥
+AnswersNode (M.pruned id kept dropped) = ⊥
+AnswersNode (M.refused number) = Unit {0}
+
+abbrev pub AnswersWalk : M.Answer → Type 0
+AnswersWalk (M.stored id) = ⊥
+AnswersWalk (M.simplified id spent steps) = Unit {0}
+AnswersWalk (M.pruned id kept dropped) = ⊥
+AnswersWalk (M.refused number) = Unit {0}
+
+abbrev pub AnswersPrune : M.Answer → Type 0
+AnswersPrune (M.stored id) = ⊥
+AnswersPrune (M.simplified id spent steps) = ⊥
+AnswersPrune (M.pruned id kept dropped) = Unit {0}
+AnswersPrune (M.refused number) = Unit {0}
+
 pub record Left (answer : M.Answer) (r : ℕ) (left : M.Answer) (before after : List ℕ) : Type 0 where
   pub number : r ≡ numberOf answer
   pub answered : isRefused answer ≡ false → left ≡ answer

@@ -1,5 +1,7 @@
+-- imports
 use mathlib.Core.Path.{refl}
 use Rattle.calls.proofs.CodeCalls.{runs-store, runs-naming, runs-reading, last-reading}
+-- end imports
 use borrow.Author.Needs.{needs}
 use Rattle.calls.proofs.calling.call.Statement.{statement}
 use Rattle.calls.proofs.calling.call.Tie as tie
@@ -29,7 +31,7 @@ same-length-3 : tie.Need-same-length-3
 same-length-3 c = search needs
 
 returns-2 : tie.Need-returns-2
-returns-2 c = runs-naming _ _ _ _ _ _ _ _ _ _ refl (c .before .before .before .call-names .ensures _ _ _) (c .of-names .ensures)
+returns-2 c = runs-naming _ _ _ _ _ _ _ _ _ _ refl (c .before .before .before .call-names .ensures) (c .of-names .ensures)
 
 call-reading-requires : tie.Need-call-reading-requires
 call-reading-requires c κs = search needs
@@ -47,24 +49,9 @@ same-length-6 : tie.Need-same-length-6
 same-length-6 c = search needs
 
 returns-3 : tie.Need-returns-3
-returns-3 c = runs-reading _ _ _ _ _ _ _ _ _ _ _ _ (last-reading _ (c .before .before .before .before .before .before .before .before .before .before .before .if2 .left) (c .before .before .before .before .before .before .before .before .before .before .before .before .before .before .before .before .before .pre)) (c .before .before .before .before .before .before .before .call-reading .ensures) (c .of-reading .ensures)
+returns-3 c = runs-reading (c .before .before .before .before .before .before .before .before .before .before .before .before .before .before .before .before .before .args .header) _ _ _ _ _ _ _ (last-reading _ (c .before .before .before .before .before .before .before .before .before .before .before .if2 .left) (c .before .before .before .before .before .before .before .before .before .before .before .before .before .before .before .before .before .pre)) (c .before .before .before .before .before .before .before .call-reading .ensures) (c .of-reading .ensures)
 
 pub call-spec : {M : Type 1} → statement M
 call-spec =
     tie.close
-    (tie.spec
-    call-store-requires
-    of-store-requires
-    same-length
-    same-length-2
-    returns
-    call-names-requires
-    of-names-requires
-    same-length-3
-    returns-2
-    call-reading-requires
-    of-reading-requires
-    same-length-4
-    same-length-5
-    same-length-6
-    returns-3)
+    (tie.spec call-store-requires of-store-requires same-length same-length-2 returns call-names-requires of-names-requires same-length-3 returns-2 call-reading-requires of-reading-requires same-length-4 same-length-5 same-length-6 returns-3)

@@ -1,26 +1,21 @@
-use mathlib.Core.Path.{refl, ap}
-use Rattle.outputs.proofs.Equal.{left-answered, left-refused}
-use Rattle.store.specs.Memory.{answerOf}
+-- imports
+use mathlib.Core.Path.{_∙_}
+use Rattle.outputs.proofs.Equal.{left-same, built-answers}
+-- end imports
 use borrow.Author.Needs.{needs}
 use Rattle.outputs.proofs.leaving.leave_built.Statement.{statement}
 use Rattle.outputs.proofs.leaving.leave_built.Tie as tie
 
-leave-arena-requires : tie.Need-leave-arena-requires
-leave-arena-requires c κs = search needs
+of-built-requires : tie.Need-of-built-requires
+of-built-requires c κs = search needs
 
-enum-known-answer : tie.Need-enum-known-answer
-enum-known-answer c = search needs
-
-enum-known-answer-2 : tie.Need-enum-known-answer-2
-enum-known-answer-2 c = search needs
+leave-stored-requires : tie.Need-leave-stored-requires
+leave-stored-requires c κs = built-answers (c .before .before .before .of-built .result) (c .before .before .before .before .args .built .answer) (c .before .before .before .of-built .ensures .0)
 
 returns : tie.Need-returns
-returns c = (c .before .before .before .leave-arena .ensures, left-answered _ _ _ _ (ap answerOf (c .before .answer .given .1)) refl refl)
-
-returns-2 : tie.Need-returns-2
-returns-2 c = (c .before .before .before .leave-arena .ensures, left-refused _ _ _ _ (ap answerOf (c .before .answer2 .given .1)))
+returns c = (c .leave-stored .ensures .0 ∙ c .before .before .before .before .of-built .ensures .1, left-same _ _ _ _ _ _ (c .before .before .before .before .of-built .ensures .0) (c .leave-stored .ensures .1))
 
 pub leave-built-spec : {M : Type 1} → statement M
 leave-built-spec =
     tie.close
-    (tie.spec leave-arena-requires enum-known-answer enum-known-answer-2 returns returns-2)
+    (tie.spec of-built-requires leave-stored-requires returns)
