@@ -1,7 +1,6 @@
 -- imports
 use borrow.Author.Tests.{not-true, not-false}
 use Rattle.store.proofs.Leaving.{leaves-unsound}
--- end imports
 use borrow.Author.Needs.{needs}
 use Rattle.store_calls.proofs.perform.Statement.{statement}
 use Rattle.store_calls.proofs.perform.Tie as tie

@@ -4,7 +4,6 @@ use Rattle.definitions.specs.Machine as M
 use Rattle.builder.proofs.Codes.{asked-variable, asked-constant, asked-operator-code, asked-function, asked-control-code, operator-request}
 use Rattle.builder.proofs.Requesting.{stores-sound}
 use Rattle.store_calls.proofs.Handing.{performed}
--- end imports
 use borrow.Author.Needs.{needs}
 use Rattle.store_calls.proofs.perform_sound.Statement.{statement}
 use Rattle.store_calls.proofs.perform_sound.Tie as tie

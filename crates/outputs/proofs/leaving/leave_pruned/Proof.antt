@@ -4,7 +4,6 @@ use Rattle.store_calls.specs.declared.answers.Answer.{Answer}
 use Rattle.store_calls.specs.Calls.{answerOf}
 use Rattle.outputs.specs.Calls.{AnswersPrune}
 use Rattle.outputs.proofs.Equal.{left-answered, left-refused}
--- end imports
 use borrow.Author.Needs.{needs}
 use Rattle.outputs.proofs.leaving.leave_pruned.Statement.{statement}
 use Rattle.outputs.proofs.leaving.leave_pruned.Tie as tie

@@ -2,7 +2,6 @@
 use mathlib.Core.Path.{sym}
 use native.Mathlib.Omega.{arith}
 use Rattle.sheet.proofs.Calls.{read-few, read-many}
--- end imports
 use Rattle.sheet.proofs.operands.read_of.Statement.{statement}
 use Rattle.sheet.proofs.operands.read_of.Tie as tie
 use Rattle.sheet.proofs.operands.read_of.Reads as reads

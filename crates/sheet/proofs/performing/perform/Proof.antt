@@ -7,7 +7,6 @@ use denote.Ref.{now}
 use Rattle.store.specs.Memory.{memory}
 use Rattle.sheet.specs.Running.{idBelow, operandsRead}
 use Rattle.sheet.proofs.Calls.{read-fits, asked-call, asked-nothing, body-whole, body-malformed}
--- end imports
 use borrow.Author.Needs.{needs}
 use Rattle.sheet.proofs.performing.perform.Statement.{statement}
 use Rattle.sheet.proofs.performing.perform.Tie as tie

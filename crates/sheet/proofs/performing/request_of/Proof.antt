@@ -4,7 +4,6 @@ use denote.Ref.{now}
 use Rattle.records.specs.Reading.{callOf}
 use Rattle.sheet.specs.Running.{idBelow}
 use Rattle.sheet.proofs.Calls.{asks-alone, asks-over, asks-simplify, asks-prune}
--- end imports
 use borrow.Author.Needs.{needs}
 use Rattle.sheet.proofs.performing.request_of.Statement.{statement}
 use Rattle.sheet.proofs.performing.request_of.Tie as tie

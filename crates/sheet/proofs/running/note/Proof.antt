@@ -3,7 +3,6 @@ use mathlib.Core.Path.{sym, ap}
 use Rattle.store_calls.specs.declared.answers.Answer.{Answer}
 use Rattle.store_calls.specs.Calls.{answerOf}
 use Rattle.sheet.specs.Running.{notedAs}
--- end imports
 use borrow.Author.Needs.{needs}
 use Rattle.sheet.proofs.running.note.Statement.{statement}
 use Rattle.sheet.proofs.running.note.Tie as tie

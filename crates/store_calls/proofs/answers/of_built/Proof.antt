@@ -1,7 +1,6 @@
 -- imports
 use mathlib.Core.Path.{refl, sym, ap}
 use Rattle.store.specs.Memory as Store
--- end imports
 use borrow.Author.Needs.{needs}
 use Rattle.store_calls.proofs.answers.of_built.Statement.{statement}
 use Rattle.store_calls.proofs.answers.of_built.Tie as tie

@@ -1,7 +1,6 @@
 -- imports
 use mathlib.Core.Path.{refl, sym, ap}
 use Rattle.pruner.specs.Answers.{meaning}
--- end imports
 use borrow.Author.Needs.{needs}
 use Rattle.store_calls.proofs.answers.of_prune.Statement.{statement}
 use Rattle.store_calls.proofs.answers.of_prune.Tie as tie

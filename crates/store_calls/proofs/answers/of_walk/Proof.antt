@@ -1,7 +1,6 @@
 -- imports
 use mathlib.Core.Path.{refl, sym, ap}
 use Rattle.walk.specs.Answers.{meaning}
--- end imports
 use borrow.Author.Needs.{needs}
 use Rattle.store_calls.proofs.answers.of_walk.Statement.{statement}
 use Rattle.store_calls.proofs.answers.of_walk.Tie as tie
