@@ -2,8 +2,8 @@
 use Prim.Native.Nat.{ℕ, _+_, _*_, _-_, _≤_, _<_}
 use mathlib.Core.Path.{_≡_}
 use mathlib.Core.Bool.{Bool, false, cond}
-use mathlib.Core.Option.{Option, none, some}
-use mathlib.Core.List.{List, [], map}
+use mathlib.Core.Option.{none, some}
+use mathlib.Core.List.{List, map}
 use lib.ListN.{length, getD, drop}
 use lib.Dec.{leb, ltb, eqb}
 use Rattle.arena.specs.declared.DagArena.{DagArena}
@@ -14,7 +14,6 @@ use Rattle.definitions.specs.Sheet as Sheet
 use Rattle.store.specs.Memory.{Memory, memory, model, Leaves, Stays}
 use Rattle.store_calls.specs.declared.Call.{Call}
 use Rattle.store_calls.specs.declared.answers.Answer.{Answer}
-use Rattle.store_calls.specs.declared.answers.Answer.the-variants.{Refused as RefusedAnswer}
 use Rattle.store_calls.specs.Calls as Store
 use Rattle.records.specs.declared.Body.{Body}
 use Rattle.records.specs.Reading.{callOf, operandsFrom, OperandsInSheet}

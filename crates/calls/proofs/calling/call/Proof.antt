@@ -1,7 +1,5 @@
--- imports
 use mathlib.Core.Path.{refl}
 use Rattle.calls.proofs.CodeCalls.{runs-store, runs-naming, runs-reading, last-reading}
--- end imports
 use borrow.Author.Needs.{needs}
 use Rattle.calls.proofs.calling.call.Statement.{statement}
 use Rattle.calls.proofs.calling.call.Tie as tie

@@ -1,10 +1,7 @@
--- imports
-use mathlib.Core.Path.{_≡_, sym}
-use lib.ListN.{length}
+use mathlib.Core.Path.{sym}
 use lib.Seq.{length-take-le}
 use native.Mathlib.Omega.{arith}
 use Rattle.calls.proofs.CodeCalls.{runs, placed, few-numbers}
--- end imports
 use borrow.Author.Needs.{needs}
 use Rattle.calls.proofs.calling.call_store.Statement.{statement}
 use Rattle.calls.proofs.calling.call_store.Tie as tie

@@ -1,4 +1,3 @@
--- imports
 use mathlib.Core.Path.{refl}
 use lib.ListN.{length-take, replicate}
 use native.Mathlib.Omega.{arith}
@@ -6,7 +5,6 @@ use Rattle.definitions.specs.Names.{longestName}
 use Rattle.encoding.specs.Encoding.{callOfCode}
 use Rattle.calls.proofs.CodeCalls.{runs-names, last-naming}
 use Rattle.calls.proofs.SpelledNames.{interns-spelled, looks-up-spelled, interned-beside, looked-up-beside}
--- end imports
 use borrow.Author.Needs.{needs}
 use Rattle.calls.proofs.naming.call_names.Statement.{statement}
 use Rattle.calls.proofs.naming.call_names.Tie as tie

@@ -1,7 +1,5 @@
--- imports
 use mathlib.Core.Path.{_∙_}
 use Rattle.outputs.proofs.Equal.{left-same, built-answers}
--- end imports
 use borrow.Author.Needs.{needs}
 use Rattle.outputs.proofs.leaving.leave_built.Statement.{statement}
 use Rattle.outputs.proofs.leaving.leave_built.Tie as tie

@@ -1,11 +1,9 @@
--- imports
 use mathlib.Core.Path.{ap, sym, _∙_, subst}
 use mathlib.Core.Bool.{false≢true}
 use Rattle.store_calls.specs.declared.answers.Answer.{Answer}
 use Rattle.store_calls.specs.Calls.{answerOf}
 use Rattle.outputs.specs.Calls.{isRefused, AnswersWalk}
 use Rattle.outputs.proofs.Equal.{left-walked, left-refused}
--- end imports
 use borrow.Author.Needs.{needs}
 use Rattle.outputs.proofs.leaving.leave_simplified.Statement.{statement}
 use Rattle.outputs.proofs.leaving.leave_simplified.Tie as tie

@@ -1,10 +1,8 @@
--- imports
 use mathlib.Core.Path.{refl, ap, subst}
 use Rattle.store_calls.specs.declared.answers.Answer.{Answer}
 use Rattle.store_calls.specs.Calls.{answerOf}
 use Rattle.outputs.specs.Calls.{AnswersNode}
 use Rattle.outputs.proofs.Equal.{left-answered, left-refused}
--- end imports
 use borrow.Author.Needs.{needs}
 use Rattle.outputs.proofs.leaving.leave_stored.Statement.{statement}
 use Rattle.outputs.proofs.leaving.leave_stored.Tie as tie

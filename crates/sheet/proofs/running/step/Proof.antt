@@ -1,8 +1,6 @@
--- imports
 use mathlib.Core.Path.{refl}
 use native.Mathlib.Omega.{arith}
 use Rattle.sheet.proofs.Onward.{doing-full, doing-refused, doing-more, turned-more, turned-refused}
--- end imports
 use borrow.Author.Needs.{needs}
 use Rattle.sheet.proofs.running.step.Statement.{statement}
 use Rattle.sheet.proofs.running.step.Tie as tie
