@@ -14,6 +14,7 @@ use Rattle.definitions.specs.Sheet as Sheet
 use Rattle.store.specs.Memory.{Memory, memory, model, Leaves, Stays}
 use Rattle.store_calls.specs.declared.Call.{Call}
 use Rattle.store_calls.specs.declared.answers.Answer.{Answer}
+use Rattle.store_calls.specs.declared.answers.Answer.the-variants.{Refused as RefusedAnswer}
 use Rattle.store_calls.specs.Calls as Store
 use Rattle.records.specs.declared.Body.{Body}
 use Rattle.records.specs.Reading.{callOf, operandsFrom, OperandsInSheet}
