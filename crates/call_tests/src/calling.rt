@@ -1,4 +1,5 @@
 // A call, by its line.
+ghost use mathlib.Core.Path.{_≡_};
 ghost use Prim.Native.Nat.{_≤_};
 ghost use Rattle.encoding.specs.Encoding.{lastCode};
 use crate::showing;
@@ -6,6 +7,7 @@ use crate::state::Now;
 use arena::DagArena;
 use calls::CallResult;
 use encoding::codes;
+use encoding::headers::Header;
 use scripts::lines;
 use scripts::lines::MOST_VALUES;
 use scripts::lines::Values;
@@ -15,10 +17,7 @@ use scripts::tokens::narrow;
 
 // The header of an encoded call, and the place of the first operand.
 struct Arguments {
-    a: u32,
-    b: u32,
-    high: u32,
-    low: u32,
+    header: Header,
     first: usize,
 }
 
@@ -32,32 +31,42 @@ fn given(line: &[u8], code: u32, turn: u32) -> Values
     }
 }
 
-fn header(a: u64, b: u64, wide: u64, first: usize) -> Arguments {
+fn arguments(code: u32, a: u64, b: u64, wide: u64, first: usize) -> Arguments
+    ensures { λ r. ⌜ r .header .code ≡ code ⌝ }
+{
     Arguments {
-        a: narrow(a),
-        b: narrow(b),
-        high: high(wide),
-        low: narrow(wide),
+        header: Header {
+            code,
+            a: narrow(a),
+            b: narrow(b),
+            high: high(wide),
+            low: narrow(wide),
+        },
         first,
     }
 }
 
 // The arguments of a call, by the numbers of its line.
-fn arguments_of(code: u32, list: [u64; MOST_VALUES]) -> Arguments {
+fn arguments_of(code: u32, list: [u64; MOST_VALUES]) -> Arguments
+    ensures { λ r. ⌜ r .header .code ≡ code ⌝ }
+{
     match code {
-        codes::CONSTANT => header(0, 0, list[1], MOST_VALUES),
-        codes::PRUNE => header(list[1], 0, list[2], MOST_VALUES),
-        codes::OPERATOR => header(list[1], list[2], 0, 3),
-        codes::FUNCTION | codes::CONTROL => header(list[1], 0, 0, 2),
-        codes::INTERN | codes::LOOKUP | codes::READ => header(0, 0, 0, 1),
+        codes::CONSTANT => arguments(code, 0, 0, list[1], MOST_VALUES),
+        codes::PRUNE => arguments(code, list[1], 0, list[2], MOST_VALUES),
+        codes::OPERATOR => arguments(code, list[1], list[2], 0, 3),
+        codes::FUNCTION | codes::CONTROL => arguments(code, list[1], 0, 0, 2),
+        codes::INTERN | codes::LOOKUP | codes::READ => arguments(code, 0, 0, 0, 1),
         codes::SELECT | codes::IF_ELSE | codes::FOR_LOOP => Arguments {
-            a: narrow(list[1]),
-            b: narrow(list[2]),
-            high: narrow(list[3]),
-            low: narrow(list[4]),
+            header: Header {
+                code,
+                a: narrow(list[1]),
+                b: narrow(list[2]),
+                high: narrow(list[3]),
+                low: narrow(list[4]),
+            },
             first: MOST_VALUES,
         },
-        _ => header(list[1], list[2], list[3], MOST_VALUES),
+        _ => arguments(code, list[1], list[2], list[3], MOST_VALUES),
     }
 }
 
@@ -87,20 +96,17 @@ fn call(
     let values = given(line, code, turn);
     let list = values.list;
     let end = values.count;
-    let h = arguments_of(code, list);
+    let given = arguments_of(code, list);
+    let header = given.header;
     let words = narrowed(list);
-    let first = least(h.first, end);
+    let first = least(given.first, end);
     calls::call(
         nodes,
         slots,
         entries,
         arena,
         names,
-        code,
-        h.a,
-        h.b,
-        h.high,
-        h.low,
+        header,
         &words[first..end],
     )
 }

@@ -2,34 +2,36 @@
 use arena::DagArena;
 use calls::CallResult;
 use calls::LastReply;
-use calls::Reply;
 use scripts::printing::number;
 use scripts::printing::refused;
 use scripts::printing::text;
+use store_calls::Answer;
+use store_calls::Pruned;
+use store_calls::Walked;
 
-fn store_reply(reply: Reply) {
-    match reply {
-        Reply::Stored(id) => number(id),
-        Reply::Simplified { id, steps } => {
-            number(id);
-            text(b" in steps");
-            number(steps);
-        }
-        Reply::Spent { id, steps } => {
-            text(b" spent");
-            number(id);
-            text(b" in steps");
-            number(steps);
-        }
-        Reply::Pruned { id, kept, dropped } => {
-            number(id);
-            text(b" kept");
-            number(kept);
-            text(b" dropped");
-            number(dropped);
-        }
-        Reply::Refused(refusal) => refused(refusal),
-        Reply::Nothing => text(b" nothing"),
+fn walked(answer: Walked) {
+    if answer.spent {
+        text(b" spent");
+    }
+    number(answer.id);
+    text(b" in steps");
+    number(answer.steps);
+}
+
+fn pruned(answer: Pruned) {
+    number(answer.id);
+    text(b" kept");
+    number(answer.kept);
+    text(b" dropped");
+    number(answer.dropped);
+}
+
+fn store_reply(answer: Answer) {
+    match answer {
+        Answer::Stored(id) => number(id),
+        Answer::Simplified(answer) => walked(answer),
+        Answer::Pruned(answer) => pruned(answer),
+        Answer::Refused(refusal) => refused(refusal),
     }
 }
 
@@ -53,6 +55,7 @@ pub(crate) fn handed(last: CallResult) {
     let arena = last.arena;
     let name = last.name;
     match reply {
+        LastReply::Nothing => text(b" nothing"),
         LastReply::Store(answer) => store_reply(answer),
         LastReply::Names(answer) => name_reply(answer, name),
     }

@@ -7,6 +7,7 @@ use native.Mathlib.Omega.{arith}
 use Rattle.arena.specs.declared.DagArena.{DagArena}
 use Rattle.definitions.specs.Machine as M
 use Rattle.store.specs.Memory.{Memory, memory, Leaves}
+use Rattle.store_calls.proofs.Same.{leaves-as, same-request}
 use Rattle.outputs.specs.Calls.{arenaOf, lentMemory, unlessRefused, OutputsStay, SpentOrNot, isRefused, Left, SpentLeft}
 use Rattle.curvalique.proofs.Refusals.{never-0}
 
@@ -43,3 +44,7 @@ pub simplify-in-numbers : (c : M.Call) (m : Memory) (words slots : List ℕ) (ar
 simplify-in-numbers c m words slots arena count size answer r left before after spent h e l s =
     let n = in-numbers c m words slots arena count size answer r left before after h e l in
     (n .0, (n .1, λ z. s (not-refused c m (memory words slots arena) answer r left before after h l z)))
+
+-- a store call by another that wants the same node
+pub made-as : {S : Type 0} (m : Memory) (c d : M.Store) (a : M.Answer) (m′ : Memory) → M.requested d ≡ M.requested c → Leaves (M.store d) m a m′ × S → Leaves (M.store c) m a m′ × S
+made-as m c d a m′ e (k, s) = (leaves-as m (M.store d) (M.store c) (same-request d c e m) a m′ k, s)

@@ -23,6 +23,7 @@ use Rattle.listing_lines.specs.Outcome.{answeredAs, outcomeOf}
 use Rattle.sheet.specs.declared.Ran.{Ran}
 use Rattle.records.specs.Reading.{isSheet}
 use Rattle.sheet.specs.Sheets.{Ended, Runs, notOpened, RunsFresh}
+use Rattle.curvalique.specs.Kinds.{Kind, kindOf}
 use Rattle.curvalique.proofs.Refusals.{Numbered, plain-numbered}
 
 -- ---- the plain machine's sheet
@@ -36,11 +37,11 @@ abbrev RanNumbered : Sheet.Ran → Type 0
 RanNumbered ran = RefusalNumbered (ran .refusal)
 
 -- after a call
-called-numbered : (al : List M.Answer) (st : M.State) (a : M.Answer) (more : Sheet.Ran) → Numbered a → RanNumbered more → RanNumbered (elim (Sheet.refusalOf a) [ none ↦ more | some r ↦ Sheet.ran al (some (r, length al)) st ])
-called-numbered al st (M.stored id) more n h = h
-called-numbered al st (M.simplified id spent steps) more n h = h
-called-numbered al st (M.pruned id kept dropped) more n h = h
-called-numbered al st (M.refused number) more n h = n
+called-numbered : (al : List M.Answer) (st : M.State) (a : M.Answer) (k : Kind) (more : Sheet.Ran) → Numbered a k → RanNumbered more → RanNumbered (elim (Sheet.refusalOf a) [ none ↦ more | some r ↦ Sheet.ran al (some (r, length al)) st ])
+called-numbered al st (M.stored id) k more n h = h
+called-numbered al st (M.simplified id spent steps) k more n h = h
+called-numbered al st (M.pruned id kept dropped) k more n h = h
+called-numbered al st (M.refused number) k more n h = n
 
 records-numbered : (more : ℕ) (l : Lent) (al : List M.Answer) (st : M.State) (rest : List ℕ) → RanNumbered (Sheet.records more l al st rest)
 unfolding Sheet.records
@@ -60,7 +61,7 @@ records-numbered (suc more) l al st (b ∷ bs) = by (Sheet.recordCall (Sheet.cut
     by (some cr) h =
         let a = M.call l st (Sheet.callOn (Sheet.operandId (length (st .nodes)) al) (cr .0)) in
         let next = Sheet.records more l (al ++ a .answer ∷ []) (a .left) (cr .1) in
-        called-numbered al (a .left) (a .answer) next (plain-numbered l st (Sheet.callOn (Sheet.operandId (length (st .nodes)) al) (cr .0))) (h (al ++ a .answer ∷ []) (a .left) (cr .1))
+        called-numbered al (a .left) (a .answer) (kindOf (Sheet.callOn (Sheet.operandId (length (st .nodes)) al) (cr .0))) next (plain-numbered l st (Sheet.callOn (Sheet.operandId (length (st .nodes)) al) (cr .0))) (h (al ++ a .answer ∷ []) (a .left) (cr .1))
 
 sheet-numbered : (l : Lent) (st : M.State) (s : List ℕ) → RanNumbered (Sheet.sheet l st s)
 unfolding Sheet.sheet

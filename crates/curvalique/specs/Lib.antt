@@ -1,3 +1,4 @@
+pub mod Kinds
 pub mod Opening
 pub mod Reading
 pub mod SheetRuns

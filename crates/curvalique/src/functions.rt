@@ -3,8 +3,9 @@ ghost use mathlib.Core.List.{[], _∷_};
 ghost use Rattle.definitions.specs.Machine as M;
 ghost use Rattle.store.specs.Memory.{Leaves};
 ghost use Rattle.outputs.specs.Calls.{lentMemory, unlessRefused, OutputsStay};
-use arena::DagArena;
-use outputs::leaving::leave_built;
+use crate::performing::make;
+use store_calls::Call;
+use store_calls::codes;
 
 // A function, by its number, over its operands.
 #[no_mangle]
@@ -23,12 +24,8 @@ pub extern "C" fn curvalique_function(
         (now (size .exit))) ⌝ }
     ensures { λ r. ⌜ OutputsStay r (now (id .entry) ∷ []) (now (id .exit) ∷ []) ⌝ }
 {
-    let arena = DagArena {
-        count: *count,
-        size: *size,
-    };
-    let built = builder::function(nodes, slots, arena, number, operands);
-    leave_built(built, count, size, id)
+    let call = Call::Function(number);
+    make(nodes, slots, count, size, call, operands, id)
 }
 
 // Select, over three operands.
@@ -48,12 +45,8 @@ pub extern "C" fn curvalique_select(
         (lentMemory (now (nodes .exit)) (now (slots .exit)) (now (count .exit)) (now (size .exit))) ⌝ }
     ensures { λ r. ⌜ OutputsStay r (now (id .entry) ∷ []) (now (id .exit) ∷ []) ⌝ }
 {
-    let arena = DagArena {
-        count: *count,
-        size: *size,
-    };
-    let built = builder::select(nodes, slots, arena, a, b, c);
-    leave_built(built, count, size, id)
+    let call = Call::Control(codes::SELECT);
+    make(nodes, slots, count, size, call, &[a, b, c], id)
 }
 
 // IfElse, over three operands.
@@ -73,12 +66,8 @@ pub extern "C" fn curvalique_if_else(
         (lentMemory (now (nodes .exit)) (now (slots .exit)) (now (count .exit)) (now (size .exit))) ⌝ }
     ensures { λ r. ⌜ OutputsStay r (now (id .entry) ∷ []) (now (id .exit) ∷ []) ⌝ }
 {
-    let arena = DagArena {
-        count: *count,
-        size: *size,
-    };
-    let built = builder::if_else(nodes, slots, arena, a, b, c);
-    leave_built(built, count, size, id)
+    let call = Call::Control(codes::IF_ELSE);
+    make(nodes, slots, count, size, call, &[a, b, c], id)
 }
 
 // ForLoop, over four operands.
@@ -99,12 +88,8 @@ pub extern "C" fn curvalique_for_loop(
         (lentMemory (now (nodes .exit)) (now (slots .exit)) (now (count .exit)) (now (size .exit))) ⌝ }
     ensures { λ r. ⌜ OutputsStay r (now (id .entry) ∷ []) (now (id .exit) ∷ []) ⌝ }
 {
-    let arena = DagArena {
-        count: *count,
-        size: *size,
-    };
-    let built = builder::for_loop(nodes, slots, arena, a, b, c, d);
-    leave_built(built, count, size, id)
+    let call = Call::Control(codes::FOR_LOOP);
+    make(nodes, slots, count, size, call, &[a, b, c, d], id)
 }
 
 // Any control, by its code, over any operands.
@@ -124,10 +109,6 @@ pub extern "C" fn curvalique_control(
         (now (size .exit))) ⌝ }
     ensures { λ r. ⌜ OutputsStay r (now (id .entry) ∷ []) (now (id .exit) ∷ []) ⌝ }
 {
-    let arena = DagArena {
-        count: *count,
-        size: *size,
-    };
-    let built = builder::control(nodes, slots, arena, code, operands);
-    leave_built(built, count, size, id)
+    let call = Call::Control(code);
+    make(nodes, slots, count, size, call, operands, id)
 }

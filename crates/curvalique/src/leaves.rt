@@ -3,8 +3,8 @@ ghost use mathlib.Core.List.{[], _∷_};
 ghost use Rattle.definitions.specs.Machine as M;
 ghost use Rattle.store.specs.Memory.{Leaves};
 ghost use Rattle.outputs.specs.Calls.{lentMemory, unlessRefused, OutputsStay};
-use arena::DagArena;
-use outputs::leaving::leave_built;
+use crate::performing::make;
+use store_calls::Call;
 
 // A variable, by its symbol.
 #[no_mangle]
@@ -21,12 +21,7 @@ pub extern "C" fn curvalique_variable(
         (lentMemory (now (nodes .exit)) (now (slots .exit)) (now (count .exit)) (now (size .exit))) ⌝ }
     ensures { λ r. ⌜ OutputsStay r (now (id .entry) ∷ []) (now (id .exit) ∷ []) ⌝ }
 {
-    let arena = DagArena {
-        count: *count,
-        size: *size,
-    };
-    let built = builder::variable(nodes, slots, arena, symbol);
-    leave_built(built, count, size, id)
+    make(nodes, slots, count, size, Call::Variable(symbol), &[], id)
 }
 
 // A constant, by its binary64 bits.
@@ -44,10 +39,5 @@ pub extern "C" fn curvalique_constant(
         (lentMemory (now (nodes .exit)) (now (slots .exit)) (now (count .exit)) (now (size .exit))) ⌝ }
     ensures { λ r. ⌜ OutputsStay r (now (id .entry) ∷ []) (now (id .exit) ∷ []) ⌝ }
 {
-    let arena = DagArena {
-        count: *count,
-        size: *size,
-    };
-    let built = builder::constant(nodes, slots, arena, bits);
-    leave_built(built, count, size, id)
+    make(nodes, slots, count, size, Call::Constant(bits), &[], id)
 }

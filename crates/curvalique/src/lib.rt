@@ -6,6 +6,7 @@ pub mod listings;
 pub mod naming;
 pub mod opening;
 pub mod operators;
+mod performing;
 pub mod reading;
 pub mod rewriting;
 pub mod sheets;

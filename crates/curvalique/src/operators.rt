@@ -3,8 +3,9 @@ ghost use mathlib.Core.List.{[], _∷_};
 ghost use Rattle.definitions.specs.Machine as M;
 ghost use Rattle.store.specs.Memory.{Leaves};
 ghost use Rattle.outputs.specs.Calls.{lentMemory, unlessRefused, OutputsStay};
-use arena::DagArena;
-use outputs::leaving::leave_built;
+use crate::performing::make;
+use store_calls::Call;
+use store_calls::codes;
 
 // The sum of two.
 #[no_mangle]
@@ -22,12 +23,11 @@ pub extern "C" fn curvalique_add(
         (lentMemory (now (nodes .exit)) (now (slots .exit)) (now (count .exit)) (now (size .exit))) ⌝ }
     ensures { λ r. ⌜ OutputsStay r (now (id .entry) ∷ []) (now (id .exit) ∷ []) ⌝ }
 {
-    let arena = DagArena {
-        count: *count,
-        size: *size,
+    let call = Call::Operator {
+        code: codes::ADD,
+        flags: codes::REORDERABLE,
     };
-    let built = builder::add(nodes, slots, arena, a, b);
-    leave_built(built, count, size, id)
+    make(nodes, slots, count, size, call, &[a, b], id)
 }
 
 // The first minus the second.
@@ -46,12 +46,11 @@ pub extern "C" fn curvalique_sub(
         (lentMemory (now (nodes .exit)) (now (slots .exit)) (now (count .exit)) (now (size .exit))) ⌝ }
     ensures { λ r. ⌜ OutputsStay r (now (id .entry) ∷ []) (now (id .exit) ∷ []) ⌝ }
 {
-    let arena = DagArena {
-        count: *count,
-        size: *size,
+    let call = Call::Operator {
+        code: codes::SUB,
+        flags: codes::NO_FLAGS,
     };
-    let built = builder::sub(nodes, slots, arena, a, b);
-    leave_built(built, count, size, id)
+    make(nodes, slots, count, size, call, &[a, b], id)
 }
 
 // The product of two.
@@ -70,12 +69,11 @@ pub extern "C" fn curvalique_mul(
         (lentMemory (now (nodes .exit)) (now (slots .exit)) (now (count .exit)) (now (size .exit))) ⌝ }
     ensures { λ r. ⌜ OutputsStay r (now (id .entry) ∷ []) (now (id .exit) ∷ []) ⌝ }
 {
-    let arena = DagArena {
-        count: *count,
-        size: *size,
+    let call = Call::Operator {
+        code: codes::MUL,
+        flags: codes::REORDERABLE,
     };
-    let built = builder::mul(nodes, slots, arena, a, b);
-    leave_built(built, count, size, id)
+    make(nodes, slots, count, size, call, &[a, b], id)
 }
 
 // The first over the second.
@@ -94,12 +92,11 @@ pub extern "C" fn curvalique_div(
         (lentMemory (now (nodes .exit)) (now (slots .exit)) (now (count .exit)) (now (size .exit))) ⌝ }
     ensures { λ r. ⌜ OutputsStay r (now (id .entry) ∷ []) (now (id .exit) ∷ []) ⌝ }
 {
-    let arena = DagArena {
-        count: *count,
-        size: *size,
+    let call = Call::Operator {
+        code: codes::DIV,
+        flags: codes::NO_FLAGS,
     };
-    let built = builder::div(nodes, slots, arena, a, b);
-    leave_built(built, count, size, id)
+    make(nodes, slots, count, size, call, &[a, b], id)
 }
 
 // The first to the power of the second.
@@ -118,12 +115,11 @@ pub extern "C" fn curvalique_pow(
         (lentMemory (now (nodes .exit)) (now (slots .exit)) (now (count .exit)) (now (size .exit))) ⌝ }
     ensures { λ r. ⌜ OutputsStay r (now (id .entry) ∷ []) (now (id .exit) ∷ []) ⌝ }
 {
-    let arena = DagArena {
-        count: *count,
-        size: *size,
+    let call = Call::Operator {
+        code: codes::POW,
+        flags: codes::NO_FLAGS,
     };
-    let built = builder::pow(nodes, slots, arena, a, b);
-    leave_built(built, count, size, id)
+    make(nodes, slots, count, size, call, &[a, b], id)
 }
 
 // The first modulo the second.
@@ -142,12 +138,11 @@ pub extern "C" fn curvalique_modulo(
         (lentMemory (now (nodes .exit)) (now (slots .exit)) (now (count .exit)) (now (size .exit))) ⌝ }
     ensures { λ r. ⌜ OutputsStay r (now (id .entry) ∷ []) (now (id .exit) ∷ []) ⌝ }
 {
-    let arena = DagArena {
-        count: *count,
-        size: *size,
+    let call = Call::Operator {
+        code: codes::MOD,
+        flags: codes::NO_FLAGS,
     };
-    let built = builder::modulo(nodes, slots, arena, a, b);
-    leave_built(built, count, size, id)
+    make(nodes, slots, count, size, call, &[a, b], id)
 }
 
 // The opposite.
@@ -165,12 +160,11 @@ pub extern "C" fn curvalique_neg(
         (lentMemory (now (nodes .exit)) (now (slots .exit)) (now (count .exit)) (now (size .exit))) ⌝ }
     ensures { λ r. ⌜ OutputsStay r (now (id .entry) ∷ []) (now (id .exit) ∷ []) ⌝ }
 {
-    let arena = DagArena {
-        count: *count,
-        size: *size,
+    let call = Call::Operator {
+        code: codes::NEG,
+        flags: codes::NO_FLAGS,
     };
-    let built = builder::neg(nodes, slots, arena, a);
-    leave_built(built, count, size, id)
+    make(nodes, slots, count, size, call, &[a], id)
 }
 
 // Any operator, by its code, with any flags and operands.
@@ -191,10 +185,6 @@ pub extern "C" fn curvalique_operator(
         (now (size .exit))) ⌝ }
     ensures { λ r. ⌜ OutputsStay r (now (id .entry) ∷ []) (now (id .exit) ∷ []) ⌝ }
 {
-    let arena = DagArena {
-        count: *count,
-        size: *size,
-    };
-    let built = builder::operator(nodes, slots, arena, code, flags, operands);
-    leave_built(built, count, size, id)
+    let call = Call::Operator { code, flags };
+    make(nodes, slots, count, size, call, operands, id)
 }

@@ -4,10 +4,10 @@ ghost use Rattle.definitions.specs.Machine as M;
 ghost use Rattle.definitions.specs.Walk.{standard, strict};
 ghost use Rattle.store.specs.Memory.{Leaves};
 ghost use Rattle.outputs.specs.Calls.{lentMemory, unlessRefused, isSpent, OutputsStay, SpentOrNot};
-use arena::DagArena;
+use crate::performing::prune;
+use crate::performing::simplify;
 use definitions::mode::Mode;
-use outputs::leaving::leave_pruned;
-use outputs::leaving::leave_simplified;
+use store_calls::Call;
 
 // A walk of a root, with a depth limit and a budget of steps.
 #[no_mangle]
@@ -31,12 +31,13 @@ pub extern "C" fn curvalique_simplify(
         (now (id .exit) ∷ now (spent .exit) ∷ now (steps .exit) ∷ []) ⌝ }
     ensures { λ r. ⌜ SpentOrNot r (now (spent .exit)) ⌝ }
 {
-    let arena = DagArena {
-        count: *count,
-        size: *size,
+    let call = Call::Simplify {
+        mode: Mode::Standard,
+        root,
+        depth,
+        budget,
     };
-    let outcome = walk::simplify(nodes, slots, arena, Mode::Standard, root, depth, budget);
-    leave_simplified(outcome, count, size, id, spent, steps)
+    simplify(nodes, slots, count, size, call, id, spent, steps)
 }
 
 // A strict walk of a root (02 i), with a depth limit and a budget of steps.
@@ -61,12 +62,13 @@ pub extern "C" fn curvalique_simplify_strictly(
         (now (id .exit) ∷ now (spent .exit) ∷ now (steps .exit) ∷ []) ⌝ }
     ensures { λ r. ⌜ SpentOrNot r (now (spent .exit)) ⌝ }
 {
-    let arena = DagArena {
-        count: *count,
-        size: *size,
+    let call = Call::Simplify {
+        mode: Mode::Strict,
+        root,
+        depth,
+        budget,
     };
-    let outcome = walk::simplify(nodes, slots, arena, Mode::Strict, root, depth, budget);
-    leave_simplified(outcome, count, size, id, spent, steps)
+    simplify(nodes, slots, count, size, call, id, spent, steps)
 }
 
 // A prune of a root at a threshold, by its binary64 bits.
@@ -88,12 +90,8 @@ pub extern "C" fn curvalique_prune(
     ensures { λ r. ⌜ OutputsStay r (now (id .entry) ∷ now (kept .entry) ∷ now (dropped .entry) ∷ [])
         (now (id .exit) ∷ now (kept .exit) ∷ now (dropped .exit) ∷ []) ⌝ }
 {
-    let arena = DagArena {
-        count: *count,
-        size: *size,
-    };
-    let outcome = pruner::prune(nodes, slots, arena, root, threshold);
-    leave_pruned(outcome, count, size, id, kept, dropped)
+    let call = Call::Prune { root, threshold };
+    prune(nodes, slots, count, size, call, id, kept, dropped)
 }
 
 // A prune of a root by a setting.
@@ -115,10 +113,6 @@ pub extern "C" fn curvalique_prune_by_setting(
     ensures { λ r. ⌜ OutputsStay r (now (id .entry) ∷ now (kept .entry) ∷ now (dropped .entry) ∷ [])
         (now (id .exit) ∷ now (kept .exit) ∷ now (dropped .exit) ∷ []) ⌝ }
 {
-    let arena = DagArena {
-        count: *count,
-        size: *size,
-    };
-    let outcome = pruner::prune_by_setting(nodes, slots, arena, root, setting);
-    leave_pruned(outcome, count, size, id, kept, dropped)
+    let call = Call::PruneBySetting { root, setting };
+    prune(nodes, slots, count, size, call, id, kept, dropped)
 }

@@ -1,6 +1,6 @@
 -- Ids that no node has, brought down to the count, change no call.
-use Prim.Native.Nat.{ℕ, zero, suc, _+_, _*_, _≤_, _<_}
-use mathlib.Core.Path.{_≡_, refl, sym, ap, ap₂, _∙_, subst}
+use Prim.Native.Nat.{ℕ, _≤_, _<_}
+use mathlib.Core.Path.{_≡_, refl, sym, ap, ap₂, _∙_}
 use mathlib.Core.Bool.{Bool, true, false, _&&_, _||_, cond, and-false}
 use mathlib.Core.List.{List, [], _∷_, map}
 use lib.ListN.{length, getD, length-map}
@@ -9,7 +9,7 @@ use native.Mathlib.Omega.{arith}
 use borrow.Author.Tests.{lt-ltb, le-ltb, lt-leb, ne-eqb}
 use Rattle.definitions.specs.Limits.{mostDepth, mostChildren, mostOperands}
 use Rattle.definitions.specs.Refusals.{badOperand, badCode, notANumber, badChildCount}
-use Rattle.definitions.specs.Node.{Node, node, addKind, mulKind, negKind, functionKind, controlKind, forLoopControl, operatorChildren, controlChildren, nanConstant, childCountListed}
+use Rattle.definitions.specs.Node.{Node, node, addKind, mulKind, negKind, functionKind, controlKind, forLoopControl, nanConstant, childCountListed}
 use Rattle.definitions.specs.Intern.{Lent, intern}
 use Rattle.definitions.specs.Walk.{Mode, walkRoot}
 use Rattle.definitions.specs.Threshold.{given}

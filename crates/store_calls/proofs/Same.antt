@@ -1,5 +1,4 @@
 -- What a call leaves, two plain calls that are one leave.
-use Prim.Native.Nat.{ℕ}
 use mathlib.Core.Path.{_≡_, refl, ap, _∙_}
 use Rattle.definitions.specs.Machine as M
 use Rattle.store.specs.Memory.{Memory, memoryAfter, model, changesNothing, left, leftBy, Leaves}

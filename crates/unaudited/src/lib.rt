@@ -18,6 +18,8 @@ use definitions::mode::Mode;
 use outputs::leaving::leave_built;
 use outputs::leaving::leave_pruned;
 use outputs::leaving::leave_simplified;
+use store_calls::Call;
+use store_calls::perform_sound;
 
 // The audit alone: whether the store is sound.
 #[no_mangle]
@@ -87,8 +89,14 @@ pub extern "C" fn curvalique_simplify_sound(
         count: *count,
         size: *size,
     };
-    let outcome = walk::simplify_sound(nodes, slots, arena, Mode::Standard, root, depth, budget);
-    leave_simplified(outcome, count, size, id, spent, steps)
+    let call = Call::Simplify {
+        mode: Mode::Standard,
+        root,
+        depth,
+        budget,
+    };
+    let performed = perform_sound(nodes, slots, arena, call, &[]);
+    leave_simplified(performed, count, size, id, spent, steps)
 }
 
 // A prune of a root at a threshold.
@@ -115,6 +123,7 @@ pub extern "C" fn curvalique_prune_sound(
         count: *count,
         size: *size,
     };
-    let outcome = pruner::prune_sound(nodes, slots, arena, root, threshold);
-    leave_pruned(outcome, count, size, id, kept, dropped)
+    let call = Call::Prune { root, threshold };
+    let performed = perform_sound(nodes, slots, arena, call, &[]);
+    leave_pruned(performed, count, size, id, kept, dropped)
 }

@@ -1,43 +1,30 @@
--- imports
 use borrow.Author.Tests.{not-true, not-false}
 use Rattle.store.proofs.Leaving.{leaves-unsound}
 use borrow.Author.Needs.{needs}
 use Rattle.store_calls.proofs.perform.Statement.{statement}
 use Rattle.store_calls.proofs.perform.Tie as tie
-use Rattle.store_calls.proofs.perform.Reads as reads
-use Rattle.store_calls.proofs.perform.Lts as lts
-use Rattle.store.proofs.audit.Reads as audit-reads
-use Rattle.store_calls.proofs.perform_sound.Reads as perform-sound-reads
 
--- src/lib.rt:133:9
 audit-requires : tie.Need-audit-requires
 audit-requires c κs = search needs
 
--- src/lib.rt:134:9
 same-length : tie.Need-same-length
 same-length c = search needs
 
--- src/lib.rt:134:9
 same-length-2 : tie.Need-same-length-2
 same-length-2 c = search needs
 
--- src/lib.rt:134:9
 returns : tie.Need-returns
 returns c = leaves-unsound _ _ (c .before .audit .ensures .no (not-true _ (c .if1 .taken)))
 
--- src/lib.rt:139:5
 perform-sound-requires : tie.Need-perform-sound-requires
 perform-sound-requires c κs = c .before .before .before .audit .ensures .yes (not-false _ (c .before .before .if1 .left))
 
--- src/lib.rt:123:1
 same-length-3 : tie.Need-same-length-3
 same-length-3 c = search needs
 
--- src/lib.rt:123:1
 same-length-4 : tie.Need-same-length-4
 same-length-4 c = search needs
 
--- src/lib.rt:123:1
 returns-2 : tie.Need-returns-2
 returns-2 c = search needs
 

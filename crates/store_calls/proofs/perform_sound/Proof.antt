@@ -1,4 +1,3 @@
--- imports
 use mathlib.Core.Path.{refl}
 use Rattle.definitions.specs.Machine as M
 use Rattle.builder.proofs.Codes.{asked-variable, asked-constant, asked-operator-code, asked-function, asked-control-code, operator-request}
@@ -7,242 +6,175 @@ use Rattle.store_calls.proofs.Handing.{performed}
 use borrow.Author.Needs.{needs}
 use Rattle.store_calls.proofs.perform_sound.Statement.{statement}
 use Rattle.store_calls.proofs.perform_sound.Tie as tie
-use Rattle.store_calls.proofs.perform_sound.Reads as reads
-use Rattle.store_calls.proofs.perform_sound.Lts as lts
-use Rattle.builder.proofs.build_sound.Reads as build-sound-reads
-use Rattle.builder.proofs.is_operator.Reads as is-operator-reads
-use Rattle.pruner.proofs.prune_by_setting_sound.Reads as prune-by-setting-sound-reads
-use Rattle.pruner.proofs.prune_sound.Reads as prune-sound-reads
-use Rattle.store_calls.proofs.answers.of_built.Reads as of-built-reads
-use Rattle.store_calls.proofs.answers.of_prune.Reads as of-prune-reads
-use Rattle.store_calls.proofs.answers.of_walk.Reads as of-walk-reads
-use Rattle.walk.proofs.simplify_sound.Reads as simplify-sound-reads
 
--- src/lib.rt:66:24
 enum-known-call : tie.Need-enum-known-call
 enum-known-call c = search needs
 
--- src/lib.rt:72:13
 cast-build-sound : tie.Need-cast-build-sound
 cast-build-sound c = search needs
 
--- src/lib.rt:74:13
 slice-aggregate-build-sound : tie.Need-slice-aggregate-build-sound
 slice-aggregate-build-sound c = search needs
 
--- src/lib.rt:66:44
 build-sound-requires : tie.Need-build-sound-requires
 build-sound-requires c κs = (asked-variable _ (search needs), c .before .before .before .before .before .before .before .before .before .pre)
 
--- src/lib.rt:66:35
 of-built-requires : tie.Need-of-built-requires
 of-built-requires c κs = search needs
 
--- src/lib.rt:76:24
 enum-known-call-2 : tie.Need-enum-known-call-2
 enum-known-call-2 c = search needs
 
--- src/lib.rt:84:13
 slice-aggregate-build-sound-2 : tie.Need-slice-aggregate-build-sound-2
 slice-aggregate-build-sound-2 c = search needs
 
--- src/lib.rt:76:42
 build-sound-requires-2 : tie.Need-build-sound-requires-2
 build-sound-requires-2 c κs = (asked-constant _, c .before .before .before .before .before .before .before .before .before .pre)
 
--- src/lib.rt:76:33
 of-built-requires-2 : tie.Need-of-built-requires-2
 of-built-requires-2 c κs = search needs
 
--- src/lib.rt:86:26
 enum-known-call-3 : tie.Need-enum-known-call-3
 enum-known-call-3 c = search needs
 
--- src/lib.rt:87:24
 cast-code : tie.Need-cast-code
 cast-code c = search needs
 
--- src/lib.rt:88:25
 cast-flags : tie.Need-cast-flags
 cast-flags c = search needs
 
--- src/lib.rt:89:17
 is-operator-requires : tie.Need-is-operator-requires
 is-operator-requires c κs = search needs
 
--- src/lib.rt:90:63
 add-build-sound : tie.Need-add-build-sound
 add-build-sound c = search needs
 
--- src/lib.rt:90:22
 build-sound-requires-3 : tie.Need-build-sound-requires-3
 build-sound-requires-3 c κs = (asked-operator-code _ _ _ (c .before .before .is-operator .ensures), c .before .before .before .before .before .before .before .before .before .pre)
 
--- src/lib.rt:90:13
 of-built-requires-3 : tie.Need-of-built-requires-3
 of-built-requires-3 c κs = search needs
 
--- src/lib.rt:92:24
 enum-known-call-4 : tie.Need-enum-known-call-4
 enum-known-call-4 c = search needs
 
--- src/lib.rt:98:13
 cast-build-sound-2 : tie.Need-cast-build-sound-2
 cast-build-sound-2 c = search needs
 
--- src/lib.rt:92:44
 build-sound-requires-4 : tie.Need-build-sound-requires-4
 build-sound-requires-4 c κs = (asked-function _ (search needs), c .before .before .before .before .before .before .before .before .pre)
 
--- src/lib.rt:92:35
 of-built-requires-4 : tie.Need-of-built-requires-4
 of-built-requires-4 c κs = search needs
 
--- src/lib.rt:102:23
 enum-known-call-5 : tie.Need-enum-known-call-5
 enum-known-call-5 c = search needs
 
--- src/lib.rt:103:27
 cast-payload : tie.Need-cast-payload
 cast-payload c = search needs
 
--- src/lib.rt:105:22
 build-sound-requires-5 : tie.Need-build-sound-requires-5
 build-sound-requires-5 c κs = (asked-control-code _, c .before .before .before .before .before .before .before .before .pre)
 
--- src/lib.rt:105:13
 of-built-requires-5 : tie.Need-of-built-requires-5
 of-built-requires-5 c κs = search needs
 
--- src/lib.rt:108:13
 enum-known-call-6 : tie.Need-enum-known-call-6
 enum-known-call-6 c = search needs
 
--- src/lib.rt:112:22
 simplify-sound-requires : tie.Need-simplify-sound-requires
 simplify-sound-requires c κs = c .before .before .before .before .before .before .before .before .pre
 
--- src/lib.rt:112:14
 of-walk-requires : tie.Need-of-walk-requires
 of-walk-requires c κs = search needs
 
--- src/lib.rt:113:23
 enum-known-call-7 : tie.Need-enum-known-call-7
 enum-known-call-7 c = search needs
 
--- src/lib.rt:114:22
 prune-sound-requires : tie.Need-prune-sound-requires
 prune-sound-requires c κs = c .before .before .before .before .before .before .before .before .pre
 
--- src/lib.rt:114:13
 of-prune-requires : tie.Need-of-prune-requires
 of-prune-requires c κs = search needs
 
--- src/lib.rt:116:32
 enum-known-call-8 : tie.Need-enum-known-call-8
 enum-known-call-8 c = search needs
 
--- src/lib.rt:117:22
 prune-by-setting-sound-requires : tie.Need-prune-by-setting-sound-requires
 prune-by-setting-sound-requires c κs = c .before .before .before .before .before .before .before .before .pre
 
--- src/lib.rt:117:13
 of-prune-requires-2 : tie.Need-of-prune-requires-2
 of-prune-requires-2 c κs = search needs
 
--- src/lib.rt:54:1
 same-length : tie.Need-same-length
 same-length c = search needs
 
--- src/lib.rt:54:1
 same-length-2 : tie.Need-same-length-2
 same-length-2 c = search needs
 
--- src/lib.rt:54:1
 returns : tie.Need-returns
 returns c = performed _ _ _ _ _ _ _ _ (c .of-built .result) (c .before .before .before .before .before .before .before .before .before .before .call .given .1) (stores-sound (M.variable _) _ refl _ _ _ (c .before .before .before .before .before .before .before .before .before .before .before .before .before .before .before .pre) (c .before .before .before .before .before .build-sound .ensures)) (c .of-built .ensures)
 
--- src/lib.rt:54:1
 same-length-3 : tie.Need-same-length-3
 same-length-3 c = search needs
 
--- src/lib.rt:54:1
 same-length-4 : tie.Need-same-length-4
 same-length-4 c = search needs
 
--- src/lib.rt:54:1
 returns-2 : tie.Need-returns-2
 returns-2 c = performed _ _ _ _ _ _ _ _ (c .of-built2 .result) (c .before .before .before .before .before .before .before .before .before .before .call2 .given .1) (stores-sound (M.constant _) _ refl _ _ _ (c .before .before .before .before .before .before .before .before .before .before .before .before .before .before .before .pre) (c .before .before .before .before .before .build-sound2 .ensures)) (c .of-built2 .ensures)
 
--- src/lib.rt:54:1
 same-length-5 : tie.Need-same-length-5
 same-length-5 c = search needs
 
--- src/lib.rt:54:1
 same-length-6 : tie.Need-same-length-6
 same-length-6 c = search needs
 
--- src/lib.rt:54:1
 returns-3 : tie.Need-returns-3
 returns-3 c = performed _ _ _ _ _ _ _ _ (c .of-built3 .result) (c .before .before .before .before .before .before .before .before .before .before .call3 .given .1) (stores-sound (M.operator _ _ _) _ (operator-request _ _ _ (c .before .before .before .before .before .before .before .before .is-operator .ensures) _) _ _ _ (c .before .before .before .before .before .before .before .before .before .before .before .before .before .before .before .pre) (c .before .before .before .before .before .build-sound3 .ensures)) (c .of-built3 .ensures)
 
--- src/lib.rt:54:1
 same-length-7 : tie.Need-same-length-7
 same-length-7 c = search needs
 
--- src/lib.rt:54:1
 same-length-8 : tie.Need-same-length-8
 same-length-8 c = search needs
 
--- src/lib.rt:54:1
 returns-4 : tie.Need-returns-4
 returns-4 c = performed _ _ _ _ _ _ _ _ (c .of-built4 .result) (c .before .before .before .before .before .before .before .before .before .call4 .given .1) (stores-sound (M.function _ _) _ refl _ _ _ (c .before .before .before .before .before .before .before .before .before .before .before .before .before .before .pre) (c .before .before .before .before .before .build-sound4 .ensures)) (c .of-built4 .ensures)
 
--- src/lib.rt:54:1
 same-length-9 : tie.Need-same-length-9
 same-length-9 c = search needs
 
--- src/lib.rt:54:1
 same-length-10 : tie.Need-same-length-10
 same-length-10 c = search needs
 
--- src/lib.rt:54:1
 returns-5 : tie.Need-returns-5
 returns-5 c = performed _ _ _ _ _ _ _ _ (c .of-built5 .result) (c .before .before .before .before .before .before .before .before .before .call5 .given .1) (stores-sound (M.control _ _) _ refl _ _ _ (c .before .before .before .before .before .before .before .before .before .before .before .before .before .before .pre) (c .before .before .before .before .before .build-sound5 .ensures)) (c .of-built5 .ensures)
 
--- src/lib.rt:54:1
 same-length-11 : tie.Need-same-length-11
 same-length-11 c = search needs
 
--- src/lib.rt:54:1
 same-length-12 : tie.Need-same-length-12
 same-length-12 c = search needs
 
--- src/lib.rt:54:1
 returns-6 : tie.Need-returns-6
 returns-6 c = performed _ _ _ _ _ _ _ _ (c .of-walk .result) (c .before .before .before .before .before .before .before .before .before .call6 .given .1) (c .before .before .before .before .before .simplify-sound .ensures) (c .of-walk .ensures)
 
--- src/lib.rt:54:1
 same-length-13 : tie.Need-same-length-13
 same-length-13 c = search needs
 
--- src/lib.rt:54:1
 same-length-14 : tie.Need-same-length-14
 same-length-14 c = search needs
 
--- src/lib.rt:54:1
 returns-7 : tie.Need-returns-7
 returns-7 c = performed _ _ _ _ _ _ _ _ (c .of-prune .result) (c .before .before .before .before .before .before .before .before .before .call7 .given .1) (c .before .before .before .before .before .prune-sound .ensures) (c .of-prune .ensures)
 
--- src/lib.rt:54:1
 same-length-15 : tie.Need-same-length-15
 same-length-15 c = search needs
 
--- src/lib.rt:54:1
 same-length-16 : tie.Need-same-length-16
 same-length-16 c = search needs
 
--- src/lib.rt:54:1
 returns-8 : tie.Need-returns-8
 returns-8 c = performed _ _ _ _ _ _ _ _ (c .of-prune2 .result) (c .before .before .before .before .before .before .before .before .before .call8 .given .1) (c .before .before .before .before .before .prune-by-setting-sound .ensures) (c .of-prune2 .ensures)
 

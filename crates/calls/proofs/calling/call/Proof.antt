@@ -1,4 +1,3 @@
--- imports
 use mathlib.Core.Path.{refl}
 use Rattle.calls.proofs.CodeCalls.{runs-store, runs-naming, runs-reading, last-reading}
 use borrow.Author.Needs.{needs}

@@ -1,6 +1,4 @@
--- imports
-use mathlib.Core.Path.{_≡_, sym}
-use lib.ListN.{length}
+use mathlib.Core.Path.{sym}
 use lib.Seq.{length-take-le}
 use native.Mathlib.Omega.{arith}
 use Rattle.calls.proofs.CodeCalls.{runs, placed, few-numbers}

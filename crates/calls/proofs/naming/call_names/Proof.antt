@@ -1,4 +1,3 @@
--- imports
 use mathlib.Core.Path.{refl}
 use lib.ListN.{length-take, replicate}
 use native.Mathlib.Omega.{arith}

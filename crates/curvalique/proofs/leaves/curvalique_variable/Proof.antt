@@ -1,13 +1,13 @@
-use Rattle.curvalique.proofs.Answering.{in-numbers}
+use mathlib.Core.Path.{refl}
 use borrow.Author.Needs.{needs}
 use Rattle.curvalique.proofs.leaves.curvalique_variable.Statement.{statement}
 use Rattle.curvalique.proofs.leaves.curvalique_variable.Tie as tie
 
-variable-requires : tie.Need-variable-requires
-variable-requires c κs = search needs
+slice-aggregate-make : tie.Need-slice-aggregate-make
+slice-aggregate-make c = search needs
 
-leave-built-requires : tie.Need-leave-built-requires
-leave-built-requires c κs = search needs
+make-requires : tie.Need-make-requires
+make-requires c κs = refl
 
 same-length : tie.Need-same-length
 same-length c = search needs
@@ -16,8 +16,7 @@ same-length-2 : tie.Need-same-length-2
 same-length-2 c = search needs
 
 returns : tie.Need-returns
-returns c = in-numbers _ _ _ _ _ _ _ _ _ _ _ _ (c .before .before .before .before .before .before .before .before .variable .ensures) (c .leave-built .ensures .0) (c .leave-built .ensures .1)
+returns c = c .before .before .before .before .make .ensures
 
 pub curvalique-variable-spec : {M : Type 1} → statement M
-curvalique-variable-spec =
-    tie.close (tie.spec variable-requires leave-built-requires same-length same-length-2 returns)
+curvalique-variable-spec = tie.close (tie.spec slice-aggregate-make make-requires same-length same-length-2 returns)

@@ -1,4 +1,3 @@
--- imports
 use mathlib.Core.Path.{_∙_}
 use Rattle.outputs.proofs.Equal.{left-same, built-answers}
 use borrow.Author.Needs.{needs}

@@ -1,4 +1,3 @@
--- imports
 use mathlib.Core.Path.{ap, sym, _∙_, subst}
 use mathlib.Core.Bool.{false≢true}
 use Rattle.store_calls.specs.declared.answers.Answer.{Answer}

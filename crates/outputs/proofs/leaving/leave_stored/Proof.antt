@@ -1,4 +1,3 @@
--- imports
 use mathlib.Core.Path.{refl, ap, subst}
 use Rattle.store_calls.specs.declared.answers.Answer.{Answer}
 use Rattle.store_calls.specs.Calls.{answerOf}

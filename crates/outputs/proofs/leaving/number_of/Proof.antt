@@ -1,7 +1,5 @@
--- imports
 use mathlib.Core.Path.{sym}
 use native.Mathlib.Omega.{arith}
-use borrow.Author.Needs.{needs}
 use Rattle.outputs.proofs.leaving.number_of.Statement.{statement}
 use Rattle.outputs.proofs.leaving.number_of.Tie as tie
 

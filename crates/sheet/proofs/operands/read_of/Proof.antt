@@ -1,17 +1,12 @@
--- imports
 use mathlib.Core.Path.{sym}
 use native.Mathlib.Omega.{arith}
 use Rattle.sheet.proofs.Calls.{read-few, read-many}
 use Rattle.sheet.proofs.operands.read_of.Statement.{statement}
 use Rattle.sheet.proofs.operands.read_of.Tie as tie
-use Rattle.sheet.proofs.operands.read_of.Reads as reads
-use Rattle.sheet.proofs.operands.read_of.Lts as lts
 
--- src/operands.rt:16:1
 returns : tie.Need-returns
 returns c = (sym (read-few _ (c .if1 .taken)), omega arith)
 
--- src/operands.rt:16:1
 returns-2 : tie.Need-returns-2
 returns-2 c = (sym (read-many _ (c .if1 .left)), omega arith)
 

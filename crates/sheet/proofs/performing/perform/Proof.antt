@@ -1,4 +1,3 @@
--- imports
 use mathlib.Core.Path.{_≡_, sym}
 use lib.ListN.{length}
 use lib.Seq.{length-take-le}
@@ -10,30 +9,19 @@ use Rattle.sheet.proofs.Calls.{read-fits, asked-call, asked-nothing, bo
 use borrow.Author.Needs.{needs}
 use Rattle.sheet.proofs.performing.perform.Statement.{statement}
 use Rattle.sheet.proofs.performing.perform.Tie as tie
-use Rattle.sheet.proofs.performing.perform.Reads as reads
-use Rattle.sheet.proofs.performing.perform.Lts as lts
-use Rattle.sheet.proofs.operands.operand_ids.Reads as operand-ids-reads
-use Rattle.sheet.proofs.operands.read_of.Reads as read-of-reads
-use Rattle.sheet.proofs.performing.request_of.Reads as request-of-reads
-use Rattle.store_calls.proofs.perform_sound.Reads as perform-sound-reads
 
--- src/performing.rt:118:9
 request-of-requires : tie.Need-request-of-requires
 request-of-requires c κs = (c .before .before .before .pre .1, c .before .before .before .pre .2, c .before .before .before .pre .3 .nodes .formed .many)
 
--- src/performing.rt:121:21
 enum-told : tie.Need-enum-told
 enum-told c = search needs
 
--- src/performing.rt:125:13
 enum-known-request : tie.Need-enum-known-request
 enum-known-request c = search needs
 
--- src/performing.rt:129:17
 read-of-requires : tie.Need-read-of-requires
 read-of-requires c κs = search needs
 
--- src/performing.rt:130:28
 operand-ids-requires : tie.Need-operand-ids-requires
 operand-ids-requires c κs =
     let e = c .before .before .before .before .before .before .before .before in
@@ -41,19 +29,15 @@ operand-ids-requires c κs =
     let q = asked-call (now (a .sheet)) (a .body) (idBelow (now (a .ids)) (a .done) (a .arena .count)) _ (c .before .before .before .before .request-of .ensures (now (a .sheet)) (e .pre .0)) _ _ _ (c .before .before .request .given .1) in
     (c .read-of .ensures .1, read-fits (now (a .sheet)) _ _ _ (q .within) (c .read-of .ensures .0), e .pre .1, e .pre .2, e .pre .3 .nodes .formed .many)
 
--- src/performing.rt:131:54
 array-share-prefix-children : tie.Need-array-share-prefix-children
 array-share-prefix-children c = let l : length (c .before .before .operand-ids .result) ≡ operandsRead = search needs in let w = c .before .before .before .read-of .ensures .1 in omega arith
 
--- src/performing.rt:131:54
 slice-aggregate-perform-sound : tie.Need-slice-aggregate-perform-sound
 slice-aggregate-perform-sound c = let l : length (c .before .before .before .operand-ids .result) ≡ operandsRead = search needs in let w = c .before .before .before .before .read-of .ensures .1 in sym (length-take-le _ _ (omega arith))
 
--- src/performing.rt:131:13
 perform-sound-requires : tie.Need-perform-sound-requires
 perform-sound-requires c κs = c .before .before .before .before .before .before .before .before .before .before .before .before .pre .3
 
--- src/performing.rt:103:1
 returns : tie.Need-returns
 returns c =
     let e = c .before .before .before .before .before .before in
@@ -61,15 +45,12 @@ returns c =
     body-malformed (memory (now (a .nodes)) (now (a .slots)) (a .arena)) (now (a .ids)) (a .done) (now (a .sheet)) (a .body)
     (asked-nothing (now (a .sheet)) (a .body) (idBelow (now (a .ids)) (a .done) (a .arena .count)) _ (c .before .before .request-of .ensures (now (a .sheet)) (e .pre .0)) (c .enum-told .given .1))
 
--- src/performing.rt:103:1
 same-length : tie.Need-same-length
 same-length c = search needs
 
--- src/performing.rt:103:1
 same-length-2 : tie.Need-same-length-2
 same-length-2 c = search needs
 
--- src/performing.rt:103:1
 returns-2 : tie.Need-returns-2
 returns-2 c =
     let e = c .before .before .before .before .before .before .before .before .before .before .before .before .before .before .before .before .before in

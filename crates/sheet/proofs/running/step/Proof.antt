@@ -1,4 +1,3 @@
--- imports
 use mathlib.Core.Path.{refl}
 use native.Mathlib.Omega.{arith}
 use Rattle.sheet.proofs.Onward.{doing-full, doing-refused, doing-more, turned-more, turned-refused}

@@ -1,25 +1,18 @@
--- imports
 use mathlib.Core.Path.{refl, sym, ap}
 use Rattle.store.specs.Memory as Store
 use borrow.Author.Needs.{needs}
 use Rattle.store_calls.proofs.answers.of_built.Statement.{statement}
 use Rattle.store_calls.proofs.answers.of_built.Tie as tie
-use Rattle.store_calls.proofs.answers.of_built.Reads as reads
-use Rattle.store_calls.proofs.answers.of_built.Lts as lts
 
--- src/answers.rt:45:27
 enum-known-answer : tie.Need-enum-known-answer
 enum-known-answer c = search needs
 
--- src/answers.rt:49:32
 enum-known-answer-2 : tie.Need-enum-known-answer-2
 enum-known-answer-2 c = search needs
 
--- src/answers.rt:39:1
 returns : tie.Need-returns
 returns c = (sym (ap Store.answerOf (c .before .answer .given .1)), refl)
 
--- src/answers.rt:39:1
 returns-2 : tie.Need-returns-2
 returns-2 c = (sym (ap Store.answerOf (c .before .answer2 .given .1)), refl)
 

@@ -1,25 +1,18 @@
--- imports
 use mathlib.Core.Path.{refl, sym, ap}
 use Rattle.pruner.specs.Answers.{meaning}
 use borrow.Author.Needs.{needs}
 use Rattle.store_calls.proofs.answers.of_prune.Statement.{statement}
 use Rattle.store_calls.proofs.answers.of_prune.Tie as tie
-use Rattle.store_calls.proofs.answers.of_prune.Reads as reads
-use Rattle.store_calls.proofs.answers.of_prune.Lts as lts
 
--- src/answers.rt:93:34
 enum-known-answer : tie.Need-enum-known-answer
 enum-known-answer c = search needs
 
--- src/answers.rt:97:33
 enum-known-answer-2 : tie.Need-enum-known-answer-2
 enum-known-answer-2 c = search needs
 
--- src/answers.rt:87:1
 returns : tie.Need-returns
 returns c = (sym (ap meaning (c .before .answer .given .1)), refl)
 
--- src/answers.rt:87:1
 returns-2 : tie.Need-returns-2
 returns-2 c = (sym (ap meaning (c .before .answer2 .given .1)), refl)
 

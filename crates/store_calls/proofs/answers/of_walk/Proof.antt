@@ -1,33 +1,24 @@
--- imports
 use mathlib.Core.Path.{refl, sym, ap}
 use Rattle.walk.specs.Answers.{meaning}
 use borrow.Author.Needs.{needs}
 use Rattle.store_calls.proofs.answers.of_walk.Statement.{statement}
 use Rattle.store_calls.proofs.answers.of_walk.Tie as tie
-use Rattle.store_calls.proofs.answers.of_walk.Reads as reads
-use Rattle.store_calls.proofs.answers.of_walk.Lts as lts
 
--- src/answers.rt:63:36
 enum-known-answer : tie.Need-enum-known-answer
 enum-known-answer c = search needs
 
--- src/answers.rt:71:31
 enum-known-answer-2 : tie.Need-enum-known-answer-2
 enum-known-answer-2 c = search needs
 
--- src/answers.rt:79:31
 enum-known-answer-3 : tie.Need-enum-known-answer-3
 enum-known-answer-3 c = search needs
 
--- src/answers.rt:57:1
 returns : tie.Need-returns
 returns c = (sym (ap meaning (c .before .answer .given .1)), refl)
 
--- src/answers.rt:57:1
 returns-2 : tie.Need-returns-2
 returns-2 c = (sym (ap meaning (c .before .answer2 .given .1)), refl)
 
--- src/answers.rt:57:1
 returns-3 : tie.Need-returns-3
 returns-3 c = (sym (ap meaning (c .before .answer3 .given .1)), refl)
 

@@ -1,0 +1,14 @@
+-- What a call makes.
+use Rattle.definitions.specs.Machine as M
+
+-- a node, a walk or a prune
+pub data Kind : Type 0 where
+  making : Kind
+  walking : Kind
+  pruning : Kind
+
+abbrev pub kindOf : M.Call → Kind
+kindOf (M.store c) = making
+kindOf (M.simplify mode root depth budget) = walking
+kindOf (M.prune root threshold) = pruning
+kindOf (M.pruneBySetting root setting) = pruning
