@@ -20,7 +20,13 @@ pub fn any(random: &mut Random) -> u64 {
         11 => of_exponent(random, EXPONENT_MAXIMUM - 100, EXPONENT_MAXIMUM),
         12 => of_exponent(random, 0, 0),
         13 => of_exponent(random, 960, 1_090),
-        14 => if random.once_in(8) { not_a_number(random) } else { special(random) },
+        14 => {
+            if random.once_in(8) {
+                not_a_number(random)
+            } else {
+                special(random)
+            }
+        }
         _ => random.next(),
     }
 }

@@ -146,7 +146,9 @@ fn folded() -> Vec<Sheet> {
 /// Merges that would give a NaN (02 b): the formula stays.
 fn merged() -> Vec<Sheet> {
     let mut sheets = Vec::new();
-    for (operator, first, second) in [(MUL, f64::INFINITY, 0.0), (MUL, 0.0, f64::NEG_INFINITY), (ADD, f64::INFINITY, f64::NEG_INFINITY)] {
+    for (operator, first, second) in
+        [(MUL, f64::INFINITY, 0.0), (MUL, 0.0, f64::NEG_INFINITY), (ADD, f64::INFINITY, f64::NEG_INFINITY)]
+    {
         for inner_first in [true, false] {
             for outer_first in [true, false] {
                 let of_constants = |sheet: &mut Sheet| {

@@ -68,7 +68,11 @@ fn field(random: &mut Random, last: u8) -> u8 {
 
 /// So many operands, or a faulty number of them.
 fn with_operands(random: &mut Random, mut body: Vec<u8>, count: usize, index: usize) -> Vec<u8> {
-    let count = if random.once_in(FAULTY) { random.pick(&[0, 1, 3, 5, ARGUMENTS_MAXIMUM, ARGUMENTS_MAXIMUM + 1, 300]) } else { count };
+    let count = if random.once_in(FAULTY) {
+        random.pick(&[0, 1, 3, 5, ARGUMENTS_MAXIMUM, ARGUMENTS_MAXIMUM + 1, 300])
+    } else {
+        count
+    };
     for _ in 0..count {
         body = with_operand(random, body, index);
     }
