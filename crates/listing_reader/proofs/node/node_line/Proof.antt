@@ -51,20 +51,23 @@ no-line-requires-5 c κs = search needs
 returns-5 : tie.Need-returns-5
 returns-5 c = other-kind (c .before .before .before .before .before .before .before .before .before .before .before .before .heading-at .ensures) (c .before .before .before .before .before .before .before .before .before .before .start .given .1) (c .before .before .before .before .before .before .children-at .ensures) (not-false _ (c .before .before .before .before .if3 .left)) (c .before .before .is-listed .ensures) (not-true _ (c .before .if4 .taken)) (c .no-line5 .ensures)
 
+slice-aggregate-lower-children : tie.Need-slice-aggregate-lower-children
+slice-aggregate-lower-children c = search needs
+
 lower-children-requires : tie.Need-lower-children-requires
-lower-children-requires c κs = search needs
+lower-children-requires c κs = (search needs, c .before .before .before .before .before .before .children-at .ensures .placed (not-false _ (c .before .before .before .before .if3 .left)) .few)
 
 no-line-requires-6 : tie.Need-no-line-requires-6
 no-line-requires-6 c κs = search needs
 
 returns-6 : tie.Need-returns-6
-returns-6 c = other-places (c .before .before .before .before .before .before .before .before .before .before .before .before .before .before .heading-at .ensures) (c .before .before .before .before .before .before .before .before .before .before .before .before .start .given .1) (c .before .before .before .before .before .before .before .before .children-at .ensures) (not-false _ (c .before .before .before .before .before .before .if3 .left)) (c .before .before .before .before .before .before .before .before .before .before .if1 .left) (c .before .before .lower-children .ensures) (not-true _ (c .before .if5 .taken)) (c .no-line6 .ensures)
+returns-6 c = other-places (c .before .before .before .before .before .before .before .before .before .before .before .before .before .before .before .heading-at .ensures) (c .before .before .before .before .before .before .before .before .before .before .before .before .before .start .given .1) (c .before .before .before .before .before .before .before .before .before .children-at .ensures) (not-false _ (c .before .before .before .before .before .before .before .if3 .left)) (c .before .before .before .before .before .before .before .before .before .before .before .if1 .left) (c .before .before .lower-children .ensures) (not-true _ (c .before .if5 .taken)) (c .no-line6 .ensures)
 
 new-requires : tie.Need-new-requires
-new-requires c κs = c .before .before .before .before .before .before .before .children-at .ensures .placed (not-false _ (c .before .before .before .before .before .if3 .left)) .few
+new-requires c κs = c .before .before .before .before .before .before .before .before .children-at .ensures .placed (not-false _ (c .before .before .before .before .before .before .if3 .left)) .few
 
 returns-7 : tie.Need-returns-7
-returns-7 c = line-found (c .before .before .before .before .before .before .before .before .before .before .before .before .before .before .heading-at .ensures) (c .before .before .before .before .before .before .before .before .before .before .before .before .start .given .1) (c .before .before .before .before .before .before .before .before .children-at .ensures) (not-false _ (c .before .before .before .before .before .before .if3 .left)) (c .before .before .before .before .before .before .before .before .before .before .if1 .left) (c .before .before .before .before .before .before .before .before .before .if2 .left) (c .before .before .before .before .is-listed .ensures) (not-false _ (c .before .before .before .if4 .left)) (c .before .before .lower-children .ensures) (not-false _ (c .before .if5 .left)) (c .new .ensures) refl refl
+returns-7 c = line-found (c .before .before .before .before .before .before .before .before .before .before .before .before .before .before .before .heading-at .ensures) (c .before .before .before .before .before .before .before .before .before .before .before .before .before .start .given .1) (c .before .before .before .before .before .before .before .before .before .children-at .ensures) (not-false _ (c .before .before .before .before .before .before .before .if3 .left)) (c .before .before .before .before .before .before .before .before .before .before .before .if1 .left) (c .before .before .before .before .before .before .before .before .before .before .if2 .left) (c .before .before .before .before .before .is-listed .ensures) (not-false _ (c .before .before .before .before .if4 .left)) (c .before .before .lower-children .ensures) (not-false _ (c .before .if5 .left)) (c .new .ensures) refl refl
 
 pub node-line-spec : {M : Type 1} → statement M
 node-line-spec =
@@ -85,6 +88,7 @@ node-line-spec =
     is-listed-requires
     no-line-requires-5
     returns-5
+    slice-aggregate-lower-children
     lower-children-requires
     no-line-requires-6
     returns-6
