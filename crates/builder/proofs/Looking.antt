@@ -12,10 +12,10 @@ use Rattle.definitions.specs.Refusals.{notSound, badOperand}
 use Rattle.store.specs.Sound.{Sound}
 use Rattle.store.proofs.Viewing.{at-plain}
 use Rattle.builder.specs.declared.reading.NodeRead.{NodeRead}
-use Rattle.builder.specs.Reads.{Reads, refusedRead, foundRead}
+use Rattle.builder.specs.Reads.{ReadsNode, refusedRead, foundRead}
 
 module _ (w slots : List ℕ) (s : DagArena) (id : ℕ) where
-  pub reads-unsound : (r : NodeRead) → r ≡ refusedRead notSound → (Sound w slots s → ⊥) → Reads w slots s id r
+  pub reads-unsound : (r : NodeRead) → r ≡ refusedRead notSound → (Sound w slots s → ⊥) → ReadsNode w slots s id r
   reads-unsound r e n = record {
     unsound = λ _. e;
     unknown = λ h. absurd (n h);
@@ -24,7 +24,7 @@ module _ (w slots : List ℕ) (s : DagArena) (id : ℕ) where
   }
 
   module _ (h : Sound w slots s) where
-    pub reads-unknown : (r : NodeRead) → r ≡ refusedRead badOperand → s .count ≤ id → Reads w slots s id r
+    pub reads-unknown : (r : NodeRead) → r ≡ refusedRead badOperand → s .count ≤ id → ReadsNode w slots s id r
     reads-unknown r e l = record {
       unsound = λ n. absurd (n h);
       unknown = λ _ _. e;
@@ -35,7 +35,7 @@ module _ (w slots : List ℕ) (s : DagArena) (id : ℕ) where
     pub reads-fits : id < s .count → id * nodeWords + nodeWords ≤ length w
     reads-fits l = let f = h .nodes .formed .fits in omega arith
 
-    pub reads-found : id < s .count → (n : DagNode) → n ≡ nodeAt w id → Reads w slots s id (foundRead n)
+    pub reads-found : id < s .count → (n : DagNode) → n ≡ nodeAt w id → ReadsNode w slots s id (foundRead n)
     reads-found l n e = record {
       unsound = λ k. absurd (k h);
       unknown = λ _ m. absurd (omega arith);

@@ -8,7 +8,7 @@ use borrow.Author.Tests.{lt-ltb, le-ltb}
 use Rattle.arena.specs.declared.DagArena.{DagArena}
 use Rattle.arena.specs.Nodes.{AllWellFormed}
 use Rattle.dedup.specs.Table.{hashAt}
-use Rattle.dedup.specs.Insert.{Fits, Rehashed}
+use Rattle.dedup.specs.Insert.{FitsTable, Rehashed}
 use Rattle.dedup.proofs.Inserting.{inserted-none}
 use Rattle.definitions.specs.Limits.{firstTableSize}
 use Rattle.definitions.specs.Refusals.{noSlotPlace}
@@ -22,7 +22,7 @@ use Rattle.builder.specs.Opens.{Opens}
 pub none-formed : (w : List ℕ) → AllWellFormed w 0
 none-formed w = record { many = omega arith; fits = omega arith; each = λ i l. absurd (omega arith) }
 
-pub first-fits : (slots : List ℕ) → firstTableSize ≤ length slots → Fits 0 slots firstTableSize
+pub first-fits : (slots : List ℕ) → firstTableSize ≤ length slots → FitsTable 0 slots firstTableSize
 first-fits slots l = record { doubled = record { doublings = 0; is = refl }; sized = l; load = omega arith }
 
 pub opens-refused : (w slots : List ℕ) → length slots < firstTableSize → Opens w slots (Refused noSlotPlace) slots

@@ -14,8 +14,8 @@ use Rattle.definitions.specs.Refusals.{badOperand, badCode, notANumber, badChil
 use Rattle.definitions.specs.Machine as M
 use Rattle.definitions.specs.Machine.{call, storeCall, storedAs, requested, request, allBelow, onNodes, outcome, refused}
 use Rattle.store.specs.declared.Built.{Built}
-use Rattle.store.specs.declared.Answer.{Answer}
-use Rattle.store.specs.declared.Answer.the-variants.{Id, Refused}
+use Rattle.store.specs.declared.NodeAnswer.{NodeAnswer}
+use Rattle.store.specs.declared.NodeAnswer.the-variants.{Id, Refused}
 use Rattle.store.specs.Sound.{Sound}
 use Rattle.store.specs.View.{nodesIn, lent, plainBuilt}
 use Rattle.store.specs.Lookup.{Fits}
@@ -41,11 +41,11 @@ module _ (c : M.Store) (q : M.Request) (e : requested c ≡ q) (m : Memory) wher
   stores-audited a m′ (sound h b) = stores-sound a m′ h b
 
 -- an answer, plainly
-answered : (a : Answer) (ns : List N.Node) → storedAs (plainBuilt a ns) ≡ outcome (answerOf a) ns
+answered : (a : NodeAnswer) (ns : List N.Node) → storedAs (plainBuilt a ns) ≡ outcome (answerOf a) ns
 answered (Id id) ns = refl
 answered (Refused number) ns = refl
 
-refused-is : (a : Answer) (number : ℕ) → answerOf a ≡ refused number → a ≡ Refused number
+refused-is : (a : NodeAnswer) (number : ℕ) → answerOf a ≡ refused number → a ≡ Refused number
 refused-is (Id id) number e = absurd (let z : _≡_ {A = ℕ} 0 1 = cc in omega arith)
 refused-is (Refused k) number e = cc
 

@@ -12,7 +12,7 @@ use Rattle.definitions.specs.Refusals.{notSound, badOperand}
 use Rattle.store.specs.Sound.{Sound}
 use Rattle.store.specs.View.{plainNode, nodesIn}
 use Rattle.builder.specs.declared.reading.NodeRead.{NodeRead}
-use Rattle.builder.specs.declared.reading.Found.the-variants.{Node, Refused}
+use Rattle.builder.specs.declared.reading.NodeFound.the-variants.{Node, Refused}
 
 -- what stands beside a refusal
 abbrev pub noNode : DagNode
@@ -25,7 +25,7 @@ abbrev pub foundRead : DagNode → NodeRead
 foundRead n = record { answer = Node; node = n }
 
 -- 20, then 4, then the node: plainly it is the plain machine's
-pub record Reads (words slots : List ℕ) (arena : DagArena) (id : ℕ) (r : NodeRead) : Type 0 where
+pub record ReadsNode (words slots : List ℕ) (arena : DagArena) (id : ℕ) (r : NodeRead) : Type 0 where
   pub unsound : (Sound words slots arena → ⊥) → r ≡ refusedRead notSound
   pub unknown : Sound words slots arena → arena .count ≤ id → r ≡ refusedRead badOperand
   pub found : Sound words slots arena → id < arena .count → r ≡ foundRead (nodeAt words id)

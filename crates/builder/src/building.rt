@@ -11,8 +11,8 @@ use definitions::refusals::BAD_CHILD_COUNT;
 use definitions::refusals::BAD_CODE;
 use definitions::refusals::BAD_OPERAND;
 use definitions::refusals::NOT_SOUND;
-use store::Answer;
 use store::Built;
+use store::NodeAnswer;
 use store::audit;
 use store::intern;
 use text_language::NOT_A_NUMBER;
@@ -48,26 +48,26 @@ pub fn build_sound(
 {
     if !listed {
         return Built {
-            answer: Answer::Refused(BAD_CODE),
+            answer: NodeAnswer::Refused(BAD_CODE),
             arena,
         };
     }
     if is_nan_constant(kind, payload) {
         return Built {
-            answer: Answer::Refused(NOT_A_NUMBER),
+            answer: NodeAnswer::Refused(NOT_A_NUMBER),
             arena,
         };
     }
     let arity = operands.len() as u64;
     if !is_listed(kind, payload, arity) {
         return Built {
-            answer: Answer::Refused(BAD_CHILD_COUNT),
+            answer: NodeAnswer::Refused(BAD_CHILD_COUNT),
             arena,
         };
     }
     if !all_below(operands, arena.count) {
         return Built {
-            answer: Answer::Refused(BAD_OPERAND),
+            answer: NodeAnswer::Refused(BAD_OPERAND),
             arena,
         };
     }
@@ -91,7 +91,7 @@ pub(crate) fn build(
 {
     if !audit(nodes, slots, arena) {
         return Built {
-            answer: Answer::Refused(NOT_SOUND),
+            answer: NodeAnswer::Refused(NOT_SOUND),
             arena,
         };
     }

@@ -26,6 +26,6 @@ pub use operators::neg;
 pub use operators::operator;
 pub use operators::pow;
 pub use operators::sub;
-pub use reading::Found;
+pub use reading::NodeFound;
 pub use reading::NodeRead;
 pub use reading::node;

@@ -1,5 +1,5 @@
 // A node read back.
-ghost use Rattle.builder.specs.Reads.{Reads, refusedRead};
+ghost use Rattle.builder.specs.Reads.{ReadsNode, refusedRead};
 ghost use mathlib.Core.Path.{_≡_};
 use arena::DagArena;
 use arena::DagNode;
@@ -10,14 +10,14 @@ use definitions::refusals::NOT_SOUND;
 use store::audit;
 
 // The node of an id, or the number of a refusal.
-pub enum Found {
+pub enum NodeFound {
     Node,
     Refused(u64),
 }
 
 // The answer, with the node beside it: an enum holds no arrays. Beside a refusal all its words are 0.
 pub struct NodeRead {
-    pub answer: Found,
+    pub answer: NodeFound,
     pub node: DagNode,
 }
 
@@ -35,14 +35,14 @@ fn refused(number: u64) -> NodeRead
         children,
     };
     NodeRead {
-        answer: Found::Refused(number),
+        answer: NodeFound::Refused(number),
         node,
     }
 }
 
 // The node of an id.
 pub fn node(nodes: &[u64], slots: &[u32], arena: DagArena, id: u32) -> NodeRead
-    ensures { λ r. ⌜ Reads (now (nodes .entry)) (now (slots .entry)) arena id r ⌝ }
+    ensures { λ r. ⌜ ReadsNode (now (nodes .entry)) (now (slots .entry)) arena id r ⌝ }
 {
     if !audit(nodes, slots, arena) {
         return refused(NOT_SOUND);
@@ -52,7 +52,7 @@ pub fn node(nodes: &[u64], slots: &[u32], arena: DagArena, id: u32) -> NodeRead
     }
     let node = load(nodes, id as u64);
     NodeRead {
-        answer: Found::Node,
+        answer: NodeFound::Node,
         node,
     }
 }

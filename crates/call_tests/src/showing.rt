@@ -35,17 +35,17 @@ fn store_reply(answer: Answer) {
     }
 }
 
-fn name_reply(answer: names::Answer, name: [u8; 32]) {
+fn name_reply(answer: names::NameReply, name: [u8; 32]) {
     match answer {
-        names::Answer::Numbered(n) => number(n as u64),
-        names::Answer::Unknown => text(b" unknown"),
-        names::Answer::Named(length) => {
+        names::NameReply::Numbered(n) => number(n as u64),
+        names::NameReply::Unknown => text(b" unknown"),
+        names::NameReply::Named(length) => {
             text(b" ");
             if length <= 32 {
                 text(&name[..length]);
             }
         }
-        names::Answer::Refused(refusal) => refused(refusal),
+        names::NameReply::Refused(refusal) => refused(refusal),
     }
 }
 

@@ -15,10 +15,10 @@ use Rattle.store_calls.specs.declared.answers.Performed.{Performed}
 use Rattle.store_calls.specs.Calls as Calls
 use Rattle.store_calls.specs.Calls.{callOf}
 use Rattle.store_calls.proofs.Same.{leaves-as}
-use Rattle.names.specs.Calls.{answerOf, Called}
+use Rattle.names.specs.Calls.{answerOf, NameListCalled}
 use Rattle.names.specs.Memory.{nameMemory, nameModel}
 use Rattle.text.specs.declared.making.ReadOutcome.{ReadOutcome}
-use Rattle.text.specs.Reading.{Reads}
+use Rattle.text.specs.Reading.{ReadsText}
 use Rattle.text.specs.Calling as Text
 use Rattle.calls.specs.declared.handing.CallResult.{CallResult}
 use Rattle.calls.specs.declared.handing.LastReply.{LastReply}
@@ -52,7 +52,7 @@ pub few-numbers : (h : Header) (r : StoreCall) (n : ℕ) → DecodesHeader h r �
 few-numbers h r n d e = subst InNumbers e (d .few)
 
 pub runs-names : (header : Header) (k : ℕ) (operands : List ℕ) (x : NameCall) (bytes bytes′ : List ℕ) (count : ℕ) (r : Named)
-    → header .code ≡ k → Called bytes count x (answerOf (r .answer) (r .bytes)) bytes′ (r .count) → NameBeside (Last.Names (r .answer)) (r .bytes)
+    → header .code ≡ k → NameListCalled bytes count x (answerOf (r .answer) (r .bytes)) bytes′ (r .count) → NameBeside (Last.Names (r .answer)) (r .bytes)
     → callOfCode k (header .a) (header .b) (header .high) (header .low) operands ≡ some (naming x) → RunsNameCall (headerCall header operands) bytes count r bytes′
 runs-names header k operands x bytes bytes′ count r e h name table = record {
   ran = x;
@@ -99,7 +99,7 @@ runs-naming call m words slots bytes bytes′ arena count r h at f (same, named,
 
 -- a reading, by what it was lent
 pub runs-reading : (header : Header) (operands : List ℕ) (d : ControllerMemory) (words slots bytes : List ℕ) (r : ReadOutcome) (h : CallResult)
-    → header .code ≡ firstReading → Reads (bytesOf operands) d (r .answer) (controllerMemory words slots (r .arena) bytes (r .names))
+    → header .code ≡ firstReading → ReadsText (bytesOf operands) d (r .answer) (controllerMemory words slots (r .arena) bytes (r .names))
     → (lastReplyOf (h .reply) (h .name) ≡ some (Text.answered (r .answer))) × NameBeside (h .reply) (h .name) × (h .arena ≡ r .arena) × (h .names ≡ r .names)
     → RunsCall (headerCall header operands) d h (controllerMemory words slots (h .arena) bytes (h .names))
 unfolding callOfCode

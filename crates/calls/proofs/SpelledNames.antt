@@ -12,11 +12,11 @@ use native.Mathlib.Decide.{decLe}
 use borrow.Author.Tests.{le-leb, lt-leb}
 use Rattle.definitions.specs.Refusals.{badNameLength, notSound, noNamePlace}
 use Rattle.definitions.specs.Names.{NameCall, internName, lookupName, NameAnswer, numbered, named, refused, NameResult, answers, nameCall, internAt, lookupAt, numberFrom, lengthAllowed, shortestName, longestName, mostNames}
-use Rattle.names.specs.declared.Answer.{Answer}
-use Rattle.names.specs.declared.Answer.the-variants.{Numbered, Unknown, Named, Refused}
-use Rattle.names.specs.Sound.{Sound, namesOf, lentEntries}
+use Rattle.names.specs.declared.NameReply.{NameReply}
+use Rattle.names.specs.declared.NameReply.the-variants.{Numbered, Unknown, Named, Refused}
+use Rattle.names.specs.Sound.{SoundNames, namesOf, lentEntries}
 use Rattle.names.specs.Memory.{nameMemory, namesAfter, NamesLeft, namesLeft}
-use Rattle.names.specs.Calls.{answerOf, Called, plainly, namesLeftBy}
+use Rattle.names.specs.Calls.{answerOf, NameListCalled, plainly, namesLeftBy}
 use Rattle.calls.specs.declared.handing.LastReply.the-variants as Last
 use Rattle.encoding.specs.Encoding.{bytesOf}
 use Rattle.encoding.specs.Spelling.{mostNameBytes}
@@ -80,21 +80,21 @@ lookup-unnamed lent names name b = by (lengthAllowed name) (numberFrom names 0 n
     by true none e = let z : _≡_ {A = ℕ} 0 1 = cc in absurd (omega arith)
     by false o e = clash _ b badNameLength (sym e)
 
-module _ (bytes : List ℕ) (count : ℕ) (c d : NameCall) (a : Answer) (out bytes′ : List ℕ) (count′ : ℕ) where
-  no-name : ((b : List ℕ) → plainly bytes count c .answer ≡ named b → ⊥) → Called bytes count c (answerOf a []) bytes′ count′ → (n : ℕ) → a ≡ Named n → ⊥
+module _ (bytes : List ℕ) (count : ℕ) (c d : NameCall) (a : NameReply) (out bytes′ : List ℕ) (count′ : ℕ) where
+  no-name : ((b : List ℕ) → plainly bytes count c .answer ≡ named b → ⊥) → NameListCalled bytes count c (answerOf a []) bytes′ count′ → (n : ℕ) → a ≡ Named n → ⊥
   no-name never h n q =
-      let e : answerOf a [] ≡ named (take n []) = ap (λ (x : Answer). answerOf x []) q in
-      let not-sound : Sound bytes count → ⊥ = λ s. never (take n []) (sym (ap (λ (x : NamesLeft). x .answer) (h .equation (yes s))) ∙ e) in
+      let e : answerOf a [] ≡ named (take n []) = ap (λ (x : NameReply). answerOf x []) q in
+      let not-sound : SoundNames bytes count → ⊥ = λ s. never (take n []) (sym (ap (λ (x : NamesLeft). x .answer) (h .equation (yes s))) ∙ e) in
       clash _ (take n []) notSound (sym e ∙ ap (λ (x : NamesLeft). x .answer) (h .equation (no not-sound)))
 
-  beside : (x : Answer) → ((n : ℕ) → x ≡ Named n → ⊥) → answerOf x [] ≡ answerOf x out
+  beside : (x : NameReply) → ((n : ℕ) → x ≡ Named n → ⊥) → answerOf x [] ≡ answerOf x out
   beside (Numbered n) k = refl
   beside Unknown k = refl
   beside (Named n) k = absurd (k n refl)
   beside (Refused r) k = refl
 
   -- 0s stand beside an answer that is no name's length
-  zeros-beside : (x : Answer) → ((n : ℕ) → x ≡ Named n → ⊥) → NameBeside (Last.Names x) (replicate longestName 0)
+  zeros-beside : (x : NameReply) → ((n : ℕ) → x ≡ Named n → ⊥) → NameBeside (Last.Names x) (replicate longestName 0)
   zeros-beside (Numbered n) k = (refl, tt)
   zeros-beside Unknown k = (refl, tt)
   zeros-beside (Named n) k = absurd (k n refl)
@@ -102,35 +102,35 @@ module _ (bytes : List ℕ) (count : ℕ) (c d : NameCall) (a : Answer) (out byt
 
   -- a call that the plain registry takes for another, whatever bytes stand beside its answer
   as-another : ((b : List ℕ) → plainly bytes count c .answer ≡ named b → ⊥) → plainly bytes count c ≡ plainly bytes count d
-      → Called bytes count c (answerOf a []) bytes′ count′ → Called bytes count d (answerOf a out) bytes′ count′
+      → NameListCalled bytes count c (answerOf a []) bytes′ count′ → NameListCalled bytes count d (answerOf a out) bytes′ count′
   as-another never same h =
-      subst (λ (x : NameAnswer). Called bytes count d x bytes′ count′) (beside a (no-name never h)) (record { equation = by })
+      subst (λ (x : NameAnswer). NameListCalled bytes count d x bytes′ count′) (beside a (no-name never h)) (record { equation = by })
     where
-      by : (x : Dec (Sound bytes count)) → namesLeft (answerOf a []) (nameMemory bytes′ count′) ≡ namesLeftBy d (nameMemory bytes count) x
+      by : (x : Dec (SoundNames bytes count)) → namesLeft (answerOf a []) (nameMemory bytes′ count′) ≡ namesLeftBy d (nameMemory bytes count) x
       by (yes s) = h .equation (yes s) ∙ ap (λ (r : NameResult). namesLeft (r .answer) (namesAfter (nameMemory bytes count) (r .names))) same
       by (no n) = h .equation (no n)
 
-module _ (bytes : List ℕ) (count : ℕ) (operands name : List ℕ) (a : Answer) (out bytes′ : List ℕ) (count′ : ℕ) (is : name ≡ take mostNameBytes (bytesOf operands)) where
-  pub interns-spelled : Called bytes count (internName name) (answerOf a []) bytes′ count′ → Called bytes count (internName (bytesOf operands)) (answerOf a out) bytes′ count′
+module _ (bytes : List ℕ) (count : ℕ) (operands name : List ℕ) (a : NameReply) (out bytes′ : List ℕ) (count′ : ℕ) (is : name ≡ take mostNameBytes (bytesOf operands)) where
+  pub interns-spelled : NameListCalled bytes count (internName name) (answerOf a []) bytes′ count′ → NameListCalled bytes count (internName (bytesOf operands)) (answerOf a out) bytes′ count′
   interns-spelled =
       as-another bytes count (internName name) (internName (bytesOf operands)) a out bytes′ count′
       (intern-unnamed (lentEntries bytes) (namesOf bytes count) name)
       (ap (λ (x : List ℕ). plainly bytes count (internName x)) is ∙ intern-first (lentEntries bytes) (namesOf bytes count) (bytesOf operands))
 
-  pub looks-up-spelled : Called bytes count (lookupName name) (answerOf a []) bytes′ count′ → Called bytes count (lookupName (bytesOf operands)) (answerOf a out) bytes′ count′
+  pub looks-up-spelled : NameListCalled bytes count (lookupName name) (answerOf a []) bytes′ count′ → NameListCalled bytes count (lookupName (bytesOf operands)) (answerOf a out) bytes′ count′
   looks-up-spelled =
       as-another bytes count (lookupName name) (lookupName (bytesOf operands)) a out bytes′ count′
       (lookup-unnamed (lentEntries bytes) (namesOf bytes count) name)
       (ap (λ (x : List ℕ). plainly bytes count (lookupName x)) is ∙ lookup-first (lentEntries bytes) (namesOf bytes count) (bytesOf operands))
 
 -- 0s stand beside the answers of interning and looking up
-module _ (bytes : List ℕ) (count : ℕ) (name : List ℕ) (a : Answer) (bytes′ : List ℕ) (count′ : ℕ) where
-  pub interned-beside : Called bytes count (internName name) (answerOf a []) bytes′ count′ → NameBeside (Last.Names a) (replicate longestName 0)
+module _ (bytes : List ℕ) (count : ℕ) (name : List ℕ) (a : NameReply) (bytes′ : List ℕ) (count′ : ℕ) where
+  pub interned-beside : NameListCalled bytes count (internName name) (answerOf a []) bytes′ count′ → NameBeside (Last.Names a) (replicate longestName 0)
   interned-beside h =
       zeros-beside bytes count (internName name) (internName name) a [] bytes′ count′ a
       (no-name bytes count (internName name) (internName name) a [] bytes′ count′ (intern-unnamed (lentEntries bytes) (namesOf bytes count) name) h)
 
-  pub looked-up-beside : Called bytes count (lookupName name) (answerOf a []) bytes′ count′ → NameBeside (Last.Names a) (replicate longestName 0)
+  pub looked-up-beside : NameListCalled bytes count (lookupName name) (answerOf a []) bytes′ count′ → NameBeside (Last.Names a) (replicate longestName 0)
   looked-up-beside h =
       zeros-beside bytes count (lookupName name) (lookupName name) a [] bytes′ count′ a
       (no-name bytes count (lookupName name) (lookupName name) a [] bytes′ count′ (lookup-unnamed (lentEntries bytes) (namesOf bytes count) name) h)

@@ -6,16 +6,16 @@ use lib.ListN.{length, take}
 use lib.Seq.{take-all, length-take-le}
 use native.Mathlib.Omega.{arith}
 use native.Mathlib.Decide.{decLe}
-use Rattle.store.specs.declared.Answer.{Answer}
+use Rattle.store.specs.declared.NodeAnswer.{NodeAnswer}
 use Rattle.text_language.specs.Reading.{mostBytes, long}
 use Rattle.text.specs.Memory.{ControllerMemory, controllerOf, lentOf, BothSound}
-use Rattle.text.specs.Reading.{answered, readingLeft, readingLeftOf, readingLeftBy, Reads}
+use Rattle.text.specs.Reading.{answered, readingLeft, readingLeftOf, readingLeftBy, ReadsText}
 use Rattle.text.proofs.Determined.{plain-refused}
 use Rattle.encoding.specs.Encoding.{bytesOf}
 use Rattle.encoding.specs.Spelling.{mostTextBytes}
 
 -- a longer text is refused whatever stands past its first bytes
-both-long : (s t : List ℕ) (d d′ : ControllerMemory) (a : Answer) → mostBytes < length s → mostBytes < length t → Reads s d a d′ → Reads t d a d′
+both-long : (s t : List ℕ) (d d′ : ControllerMemory) (a : NodeAnswer) → mostBytes < length s → mostBytes < length t → ReadsText s d a d′ → ReadsText t d a d′
 both-long s t d d′ a h k r = record { equation = by }
   where
     by : (x : Dec (BothSound d)) → readingLeft (answered a) d′ ≡ readingLeftBy t d x
@@ -25,12 +25,12 @@ both-long s t d d′ a h k r = record { equation = by }
 first-long : (text : List ℕ) → (length text ≤ mostTextBytes → ⊥) → mostBytes < length (take mostTextBytes text)
 first-long text l = let e : length (take mostTextBytes text) ≡ mostTextBytes = length-take-le mostTextBytes text (omega arith) in omega arith
 
-pub reads-typed : (operands s : List ℕ) (d d′ : ControllerMemory) (a : Answer) → s ≡ take mostTextBytes (bytesOf operands) → Reads s d a d′ → Reads (bytesOf operands) d a d′
+pub reads-typed : (operands s : List ℕ) (d d′ : ControllerMemory) (a : NodeAnswer) → s ≡ take mostTextBytes (bytesOf operands) → ReadsText s d a d′ → ReadsText (bytesOf operands) d a d′
 reads-typed operands s d d′ a e h = go (decLe (length (bytesOf operands)) mostTextBytes)
   where
-    first : Reads (take mostTextBytes (bytesOf operands)) d a d′
-    first = subst (λ (x : List ℕ). Reads x d a d′) e h
+    first : ReadsText (take mostTextBytes (bytesOf operands)) d a d′
+    first = subst (λ (x : List ℕ). ReadsText x d a d′) e h
 
-    go : Dec (length (bytesOf operands) ≤ mostTextBytes) → Reads (bytesOf operands) d a d′
-    go (yes p) = subst (λ (x : List ℕ). Reads x d a d′) (take-all mostTextBytes (bytesOf operands) p) first
+    go : Dec (length (bytesOf operands) ≤ mostTextBytes) → ReadsText (bytesOf operands) d a d′
+    go (yes p) = subst (λ (x : List ℕ). ReadsText x d a d′) (take-all mostTextBytes (bytesOf operands) p) first
     go (no p) = both-long (take mostTextBytes (bytesOf operands)) (bytesOf operands) d d′ a (first-long (bytesOf operands) p) (omega arith) first

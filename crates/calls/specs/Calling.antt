@@ -10,7 +10,7 @@ use Rattle.definitions.specs.Controller.{ControllerCall, naming, ControllerAnsw
 use Rattle.store.specs.Memory.{Memory, Leaves}
 use Rattle.store_calls.specs.declared.answers.Performed.{Performed}
 use Rattle.store_calls.specs.Calls as Calls
-use Rattle.names.specs.Calls.{answerOf, Called, bytesBeside, Fits}
+use Rattle.names.specs.Calls.{answerOf, NameListCalled, bytesBeside, LengthFits}
 use Rattle.calls.specs.declared.handing.LastReply.{LastReply}
 use Rattle.calls.specs.declared.handing.LastReply.the-variants as Last
 use Rattle.calls.specs.declared.handing.CallResult.{CallResult}
@@ -28,7 +28,7 @@ lastReplyOf (Last.Names a) name = some (fromNames (answerOf a name))
 abbrev pub NameBeside : LastReply → List ℕ → Type 0
 NameBeside Last.Nothing name = name ≡ replicate longestName 0
 NameBeside (Last.Store a) name = name ≡ replicate longestName 0
-NameBeside (Last.Names a) name = (name ≡ bytesBeside (answerOf a name)) × Fits a
+NameBeside (Last.Names a) name = (name ≡ bytesBeside (answerOf a name)) × LengthFits a
 
 -- there is a call of the store, and it meets the contract of the public call that it stands for
 pub record RunsStoreCall (call : Option ControllerCall) (m : Memory) (r : Performed) (m′ : Memory) : Type 0 where
@@ -40,7 +40,7 @@ pub record RunsStoreCall (call : Option ControllerCall) (m : Memory) (r : Perfor
 pub record RunsNameCall (call : Option ControllerCall) (bytes : List ℕ) (count : ℕ) (r : Named) (bytes′ : List ℕ) : Type 0 where
   pub ran : NameCall
   pub is : call ≡ some (naming ran)
-  pub called : Called bytes count ran (answerOf (r .answer) (r .bytes)) bytes′ (r .count)
+  pub called : NameListCalled bytes count ran (answerOf (r .answer) (r .bytes)) bytes′ (r .count)
   pub name : NameBeside (Last.Names (r .answer)) (r .bytes)
 
 -- there is a call, and it leaves what the public call that it stands for does

@@ -8,15 +8,15 @@ use Rattle.definitions.specs.Names.{NameCall, NameAnswer}
 use Rattle.definitions.specs.Controller.{ControllerCall, naming, reading, ControllerAnswer, fromStore, fromNames, asked, Part}
 use Rattle.definitions.specs.Promise.{FreshController, Promise, All}
 use Rattle.definitions.specs.Beside.{beside}
-use Rattle.store.specs.declared.Answer.{Answer}
+use Rattle.store.specs.declared.NodeAnswer.{NodeAnswer}
 use Rattle.store.specs.Memory.{Memory, model, Leaves}
 use Rattle.builder.specs.declared.opening.FreshStore.{FreshStore}
 use Rattle.builder.specs.declared.opening.FreshStore.the-variants.{Store}
 use Rattle.builder.specs.Opens.{freshMemory, Opens}
-use Rattle.names.specs.Calls.{Called}
+use Rattle.names.specs.Calls.{NameListCalled}
 use Rattle.names.specs.Memory.{NameMemory, nameMemory, nameModel}
 use Rattle.text.specs.Memory.{ControllerMemory, controllerMemory, lentController}
-use Rattle.text.specs.Reading.{Reads}
+use Rattle.text.specs.Reading.{ReadsText}
 use Rattle.text.specs.Calling.{answered}
 
 -- What the contract of each public call says of the whole memory: a store, simplify or prune call is lent no names, and a name call no
@@ -24,10 +24,10 @@ use Rattle.text.specs.Calling.{answered}
 pub data CallLeaves : ControllerCall → ControllerMemory → ControllerAnswer → ControllerMemory → Type 0 where
   by-store : {c : Machine.Call} {s s′ : Memory} {a : Machine.Answer} {n : NameMemory} → Leaves c s a s′
       → CallLeaves (asked c) (beside model nameModel s n) (fromStore a) (beside model nameModel s′ n)
-  by-names : {c : NameCall} {s : Memory} {bytes bytes′ : List ℕ} {count count′ : ℕ} {a : NameAnswer} → Called bytes count c a bytes′ count′
+  by-names : {c : NameCall} {s : Memory} {bytes bytes′ : List ℕ} {count count′ : ℕ} {a : NameAnswer} → NameListCalled bytes count c a bytes′ count′
       → CallLeaves (naming c) (beside model nameModel s (nameMemory bytes count)) (fromNames a)
       (beside model nameModel s (nameMemory bytes′ count′))
-  by-text : {text : List ℕ} {m m′ : ControllerMemory} {a : Answer} → Reads text m a m′ → CallLeaves (reading text) m (answered a) m′
+  by-text : {text : List ℕ} {m m′ : ControllerMemory} {a : NodeAnswer} → ReadsText text m a m′ → CallLeaves (reading text) m (answered a) m′
 
 -- "each other one the store as the call before left it, and nobody else writes it meanwhile", and so the name list
 pub data LeavesInTurn : ControllerMemory → List ControllerCall → List ControllerAnswer → List ControllerMemory → Type 0 where

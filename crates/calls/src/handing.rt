@@ -20,7 +20,7 @@ pub enum LastReply {
     // No call was run.
     Nothing,
     Store(Answer),
-    Names(names::Answer),
+    Names(names::NameReply),
 }
 
 // A reply, the bytes of a name that it gives the length of, the store's count and size, and how many names there are.

@@ -10,7 +10,7 @@ use encoding::spelling::spell_name;
 
 // An answer, the bytes of a name that it gives the length of, and how many names there are then.
 pub(crate) struct Named {
-    pub answer: names::Answer,
+    pub answer: names::NameReply,
     pub bytes: [u8; LONGEST_NAME],
     pub count: usize,
 }

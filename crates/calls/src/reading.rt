@@ -1,6 +1,6 @@
 // One reading.
 ghost use Rattle.text.specs.Memory.{controllerMemory};
-ghost use Rattle.text.specs.Reading.{Reads};
+ghost use Rattle.text.specs.Reading.{ReadsText};
 ghost use Rattle.encoding.specs.Encoding.{bytesOf};
 use arena::DagArena;
 use encoding::spelling::spell_text;
@@ -14,7 +14,7 @@ pub(crate) fn call_reading(
     names: usize,
     operands: &[u32],
 ) -> ReadOutcome
-    ensures { λ r. ⌜ Reads (bytesOf (now (operands .entry)))
+    ensures { λ r. ⌜ ReadsText (bytesOf (now (operands .entry)))
         (controllerMemory (now (nodes .entry)) (now (slots .entry)) arena (now (entries .entry)) names) (r .answer)
         (controllerMemory (now (nodes .exit)) (now (slots .exit)) (r .arena) (now (entries .exit)) (r .names)) ⌝ }
 {

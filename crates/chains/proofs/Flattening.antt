@@ -14,7 +14,7 @@ use Rattle.definitions.proofs.Stable.{Lower}
 use Rattle.definitions.proofs.Intern.{lower-up}
 use Rattle.store.specs.View.{nodesIn}
 use Rattle.store.proofs.Viewing.{plain-length}
-use Rattle.chains.specs.Terms.{childrenIn, Readable, Pushes, HasTerm, Puts, Closes, Flattens}
+use Rattle.chains.specs.Terms.{childrenIn, Readable, Pushes, HasTerm, PutsTerm, Closes, Flattens}
 use Rattle.chains.specs.declared.chain.Waiting.{Waiting}
 use Rattle.chains.specs.declared.chain.Waiting.the-variants.{Before, Nowhere}
 use Rattle.chains.specs.declared.chain.Flattened.{Flattened}
@@ -97,7 +97,7 @@ module _ (words : List ℕ) (count root : ℕ) (keep : ℕ → Bool) (r : Readab
   known = omega (arith, plain-length words count, id-below)
 
   -- ---- a term that ends the chains ahead is put before the last ones
-  module _ (term : ℕ) (answer : Bool) (after : List ℕ) (puts : Puts (keep term) (mostTerms - 1 - back) term array answer after) where
+  module _ (term : ℕ) (answer : Bool) (after : List ℕ) (puts : PutsTerm (keep term) (mostTerms - 1 - back) term array answer after) where
     pub long-too : length after ≡ mostTerms
     long-too = ap length (puts .1) ∙ length-set array (mostTerms - 1 - back) term ∙ f .long
 
@@ -143,7 +143,7 @@ module _ (words : List ℕ) (count root : ℕ) (keep : ℕ → Bool) (r : Readab
       }
 
   -- ---- an id that is no Add is a term
-  module _ (answer : Bool) (after : List ℕ) (puts : Puts (keep id) (mostTerms - 1 - back) id array answer after) where
+  module _ (answer : Bool) (after : List ℕ) (puts : PutsTerm (keep id) (mostTerms - 1 - back) id array answer after) where
     -- the last of the ids that wait
     module _ (t : top ≡ front → ⊥) where
       next : ahead after front (top - 1) (getD after (top - 1) 0) ≡ rest
@@ -220,7 +220,7 @@ module _ (words : List ℕ) (count root : ℕ) (keep : ℕ → Bool) (r : Readab
     is-other place h child is e = h .term (ap (λ (i : ℕ). at ns i .kind) (sym is) ∙ e)
 
     -- ---- the last of two children is put before the last ones if it is a term
-    module _ (e : HasTerm words count id 1) (h : top < mostTerms - 1 - found + front) (last : ℕ) (closes-with : last ≡ getD (childrenIn words count id) 1 0) (first : ℕ) (opens-with : first ≡ getD (childrenIn words count id) 0 0) (answer : Bool) (after : List ℕ) (puts : Puts (keep last) (mostTerms - 1 - back) last array answer after) where
+    module _ (e : HasTerm words count id 1) (h : top < mostTerms - 1 - found + front) (last : ℕ) (closes-with : last ≡ getD (childrenIn words count id) 1 0) (first : ℕ) (opens-with : first ≡ getD (childrenIn words count id) 0 0) (answer : Bool) (after : List ℕ) (puts : PutsTerm (keep last) (mostTerms - 1 - back) last array answer after) where
       first-left : ahead after front top first ≡ rest ++ first ∷ []
       first-left = ap (λ (l : List ℕ). drop front l ++ first ∷ []) (before-same last answer after puts top (omega (arith, f .few, f .room, f .ordered)))
 
@@ -250,7 +250,7 @@ module _ (words : List ℕ) (count root : ℕ) (keep : ℕ → Bool) (r : Readab
       takes-last-less = omega (arith, ap weights first-left, ap weights family-is, weights-append rest children, weights-append (rest ++ first ∷ []) (last ∷ []), weights-append rest (id ∷ []), lighter)
 
     -- ---- where no id waits, the first of two children is put after the first ones if it is a term
-    module _ (alone : top ≡ front) (b : HasTerm words count id 0) (h : found + 1 < mostTerms) (first : ℕ) (opens-with : first ≡ getD (childrenIn words count id) 0 0) (second : ℕ) (closes-with : second ≡ getD (childrenIn words count id) 1 0) (answer : Bool) (longer : List ℕ) (puts : Puts (keep first) front first array answer longer) (front′ : ℕ) (counts : Counts answer front front′) where
+    module _ (alone : top ≡ front) (b : HasTerm words count id 0) (h : found + 1 < mostTerms) (first : ℕ) (opens-with : first ≡ getD (childrenIn words count id) 0 0) (second : ℕ) (closes-with : second ≡ getD (childrenIn words count id) 1 0) (answer : Bool) (longer : List ℕ) (puts : PutsTerm (keep first) front first array answer longer) (front′ : ℕ) (counts : Counts answer front front′) where
       are-two : children ≡ first ∷ second ∷ []
       are-two = both-are (b .two) first opens-with second closes-with
 

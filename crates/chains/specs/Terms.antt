@@ -40,8 +40,8 @@ pub record HasTerm (words : List ℕ) (count id place : ℕ) : Type 0 where
   pub term : at (nodesIn words count) (getD (childrenIn words count id) place 0) .kind ≡ addKind → ⊥
 
 -- How a term put at a place changes the array, and whether it is kept.
-abbrev pub Puts : Bool → ℕ → ℕ → List ℕ → Bool → List ℕ → Type 0
-Puts kept place id array answer array′ = (answer ≡ kept) × (array′ ≡ set array place id)
+abbrev pub PutsTerm : Bool → ℕ → ℕ → List ℕ → Bool → List ℕ → Type 0
+PutsTerm kept place id array answer array′ = (answer ≡ kept) × (array′ ≡ set array place id)
 
 -- How the first `front` places and the last `back` places of the array come to stand side by side, from a place on.
 abbrev pub Closes : ℕ → ℕ → ℕ → List ℕ → Flattened → List ℕ → Type 0
@@ -51,12 +51,12 @@ Closes found front back array TooMany array′ = ⊥
 
 -- The number of the chain's terms, and those kept, "a term is kept if its magnitude is at least the threshold", in order from a place of
 -- the array on; or, "over 4,096 terms", kept or not, the answer that there are too many.
-abbrev pub Holds : List ℕ → (ℕ → Bool) → Flattened → List ℕ → Type 0
-Holds terms keep (Terms from found kept) array =
+abbrev pub HoldsTerms : List ℕ → (ℕ → Bool) → Flattened → List ℕ → Type 0
+HoldsTerms terms keep (Terms from found kept) array =
     (found ≡ length terms) × (found ≤ mostTerms) × (kept ≡ length (filter keep terms)) × (from + kept ≤ mostTerms) × (take kept (drop from array) ≡ filter keep terms)
-Holds terms keep TooMany array = mostTerms < length terms
+HoldsTerms terms keep TooMany array = mostTerms < length terms
 
 -- How a flattening ends. The array keeps its length.
 pub record Flattens (terms : List ℕ) (keep : ℕ → Bool) (answer : Flattened) (array : List ℕ) : Type 0 where
-  pub holds : Holds terms keep answer array
+  pub holds : HoldsTerms terms keep answer array
   pub long : length array ≡ mostTerms

@@ -9,7 +9,7 @@ ghost use Rattle.definitions.specs.Prune as Prune;
 ghost use Rattle.definitions.specs.Prune.{chain};
 ghost use Rattle.store.specs.View.{nodesIn};
 ghost use Rattle.store.specs.Lookup.{Lookup};
-ghost use Rattle.chains.specs.Terms.{childrenIn, Readable, Pushes, HasTerm, Puts, Closes, Flattens};
+ghost use Rattle.chains.specs.Terms.{childrenIn, Readable, Pushes, HasTerm, PutsTerm, Closes, Flattens};
 use crate::keeping::keeps;
 use arena::kind::ADD;
 
@@ -107,7 +107,7 @@ fn put_term(
     id: u64,
 ) -> bool
     requires { ⌜ Lookup (now nodes) count id × (place < mostTerms) × (length (now terms) ≡ mostTerms) ⌝ }
-    ensures { λ r. ⌜ Puts (Prune.keeps (nodesIn (now (nodes .entry)) count) (ofBits binary64 threshold) id) place id (now (terms .entry)) r
+    ensures { λ r. ⌜ PutsTerm (Prune.keeps (nodesIn (now (nodes .entry)) count) (ofBits binary64 threshold) id) place id (now (terms .entry)) r
         (now (terms .exit)) ⌝ }
 {
     terms[place] = id as u32;

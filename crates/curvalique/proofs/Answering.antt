@@ -8,12 +8,12 @@ use Rattle.arena.specs.declared.DagArena.{DagArena}
 use Rattle.definitions.specs.Machine as M
 use Rattle.store.specs.Memory.{Memory, memory, Leaves}
 use Rattle.store_calls.proofs.Same.{leaves-as, same-request}
-use Rattle.outputs.specs.Calls.{arenaOf, lentMemory, unlessRefused, OutputsStay, SpentOrNot, isRefused, Left, SpentLeft}
+use Rattle.outputs.specs.Calls.{arenaOf, lentMemory, unlessRefused, OutputsStay, SpentOrNot, isRefused, LeftBehind, SpentLeft}
 use Rattle.curvalique.proofs.Refusals.{never-0}
 
 -- what is left is the answer, and what is returned its number
 same-answer : (c : M.Call) (m m′ : Memory) (answer : M.Answer) (r : ℕ) (left : M.Answer) (before after : List ℕ)
-    → Leaves c m answer m′ → Left answer r left before after → (unlessRefused r left ≡ answer) × OutputsStay r before after
+    → Leaves c m answer m′ → LeftBehind answer r left before after → (unlessRefused r left ≡ answer) × OutputsStay r before after
 same-answer c m m′ (M.stored id) r left before after h l = (ap (λ (n : ℕ). unlessRefused n left) (l .number) ∙ l .answered refl, λ p. let e = l .number in absurd (omega arith))
 same-answer c m m′ (M.simplified id spent steps) r left before after h l = (ap (λ (n : ℕ). unlessRefused n left) (l .number) ∙ l .answered refl, λ p. let e = l .number in absurd (omega arith))
 same-answer c m m′ (M.pruned id kept dropped) r left before after h l = (ap (λ (n : ℕ). unlessRefused n left) (l .number) ∙ l .answered refl, λ p. let e = l .number in absurd (omega arith))
@@ -22,7 +22,7 @@ same-answer c m m′ (M.refused (suc number)) r left before after h l = (ap (λ 
 
 -- a call in numbers
 pub in-numbers : (c : M.Call) (m : Memory) (words slots : List ℕ) (arena : DagArena) (count size : ℕ) (answer : M.Answer) (r : ℕ) (left : M.Answer) (before after : List ℕ)
-    → Leaves c m answer (memory words slots arena) → arenaOf count size ≡ arena → Left answer r left before after
+    → Leaves c m answer (memory words slots arena) → arenaOf count size ≡ arena → LeftBehind answer r left before after
     → Leaves c m (unlessRefused r left) (lentMemory words slots count size) × OutputsStay r before after
 in-numbers c m words slots arena count size answer r left before after h e l =
     let s = same-answer c m (memory words slots arena) answer r left before after h l in
@@ -30,7 +30,7 @@ in-numbers c m words slots arena count size answer r left before after h e l =
 
 -- 0 is returned of an answer alone
 pub not-refused : (c : M.Call) (m m′ : Memory) (answer : M.Answer) (r : ℕ) (left : M.Answer) (before after : List ℕ)
-    → Leaves c m answer m′ → Left answer r left before after → r ≡ 0 → isRefused answer ≡ false
+    → Leaves c m answer m′ → LeftBehind answer r left before after → r ≡ 0 → isRefused answer ≡ false
 not-refused c m m′ (M.stored id) r left before after h l z = refl
 not-refused c m m′ (M.simplified id spent steps) r left before after h l z = refl
 not-refused c m m′ (M.pruned id kept dropped) r left before after h l z = refl
@@ -39,7 +39,7 @@ not-refused c m m′ (M.refused (suc number)) r left before after h l z = let e 
 
 -- a simplify in numbers
 pub simplify-in-numbers : (c : M.Call) (m : Memory) (words slots : List ℕ) (arena : DagArena) (count size : ℕ) (answer : M.Answer) (r : ℕ) (left : M.Answer) (before after : List ℕ) (spent : ℕ)
-    → Leaves c m answer (memory words slots arena) → arenaOf count size ≡ arena → Left answer r left before after → SpentLeft answer spent
+    → Leaves c m answer (memory words slots arena) → arenaOf count size ≡ arena → LeftBehind answer r left before after → SpentLeft answer spent
     → Leaves c m (unlessRefused r left) (lentMemory words slots count size) × (OutputsStay r before after × SpentOrNot r spent)
 simplify-in-numbers c m words slots arena count size answer r left before after spent h e l s =
     let n = in-numbers c m words slots arena count size answer r left before after h e l in

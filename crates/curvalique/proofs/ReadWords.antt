@@ -10,9 +10,9 @@ use Rattle.arena.specs.declared.node.DagNode.{DagNode}
 use Rattle.arena.specs.Layout.{nodeWords}
 use Rattle.arena.specs.Node.{wordsOf, put}
 use Rattle.builder.specs.declared.reading.NodeRead.{NodeRead}
-use Rattle.builder.specs.declared.reading.Found.{Found}
-use Rattle.builder.specs.declared.reading.Found.the-variants.{Node, Refused}
-use Rattle.builder.specs.Reads.{Reads}
+use Rattle.builder.specs.declared.reading.NodeFound.{NodeFound}
+use Rattle.builder.specs.declared.reading.NodeFound.the-variants.{Node, Refused}
+use Rattle.builder.specs.Reads.{ReadsNode}
 use Rattle.curvalique.specs.Reading.{ReadsWords}
 
 -- the words of a node, where there is place for one
@@ -26,8 +26,8 @@ not-node number e = let z : _≡_ {A = ℕ} 0 1 = cc in omega arith
 same-number : (a b : ℕ) → Refused a ≡ Refused b → a ≡ b
 same-number a b e = cc
 
-module _ (words slots : List ℕ) (arena : DagArena) (id : ℕ) (read : NodeRead) (h : Reads words slots arena id read) where
-  abbrev answerOf : NodeRead → Found
+module _ (words slots : List ℕ) (arena : DagArena) (id : ℕ) (read : NodeRead) (h : ReadsNode words slots arena id read) where
+  abbrev answerOf : NodeRead → NodeFound
   answerOf r = r .answer
 
   pub words-answered : (before after : List ℕ) → read .answer ≡ Node → after ≡ wordsOf (read .node) → ReadsWords words slots arena id 0 before after

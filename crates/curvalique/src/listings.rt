@@ -2,7 +2,7 @@
 ghost use mathlib.Core.Path.{_≡_};
 ghost use mathlib.Core.List.{[], _∷_};
 ghost use Rattle.listing_bytes.specs.Listed.{Listed};
-ghost use Rattle.listing_reader.specs.Listing.{Reading};
+ghost use Rattle.listing_reader.specs.Listing.{ListingReading};
 ghost use Rattle.outputs.specs.ListingCalls.{readAnswer, readOutputs};
 use listing_bytes::LISTING_BYTES;
 use outputs::listings::leave_read;
@@ -31,7 +31,7 @@ pub extern "C" fn curvalique_read_listing(
     record: &mut u64,
     line: &mut u64,
 ) -> u64
-    ensures { λ r. ⌜ Reading (now (bytes .entry)) (now (nodes .entry))
+    ensures { λ r. ⌜ ListingReading (now (bytes .entry)) (now (nodes .entry))
         (readAnswer r (now (count .exit)) (now (form .exit)) (now (id .exit)) (now (number .exit)) (now («record» .exit))
         (now (line .exit))) (now (nodes .exit)) ⌝ }
     ensures { λ r. ⌜ r ∷ now (count .exit) ∷ now (form .exit) ∷ now (id .exit) ∷ now (number .exit) ∷ now («record» .exit) ∷ now

@@ -1,10 +1,10 @@
 // The name calls.
 ghost use mathlib.Core.List.{[], _∷_};
 ghost use Rattle.definitions.specs.Names.{internName, lookupName, nameOf, numbered};
-ghost use Rattle.names.specs.Calls.{Called};
+ghost use Rattle.names.specs.Calls.{NameListCalled};
 ghost use Rattle.outputs.specs.Calls.{OutputsStay};
 ghost use Rattle.outputs.specs.NameCalls.{nameUnlessRefused, numberIfKnown, nameIfKnown, Known, Padded};
-use names::Answer;
+use names::NameReply;
 use outputs::leaving::ANSWERED;
 use outputs::naming::LONGEST_NAME;
 use outputs::naming::leave_name;
@@ -17,7 +17,7 @@ pub extern "C" fn curvalique_intern_name(
     name: &[u8],
     number: &mut u64,
 ) -> u64
-    ensures { λ r. ⌜ Called (now (entries .entry)) (now (count .entry)) (internName (now (name .entry)))
+    ensures { λ r. ⌜ NameListCalled (now (entries .entry)) (now (count .entry)) (internName (now (name .entry)))
         (nameUnlessRefused r (numbered (now (number .exit)))) (now (entries .exit)) (now (count .exit)) ⌝ }
     ensures { λ r. ⌜ OutputsStay r (now (number .entry) ∷ []) (now (number .exit) ∷ []) ⌝ }
 {
@@ -25,13 +25,13 @@ pub extern "C" fn curvalique_intern_name(
     *count = interned.count;
     let answer = interned.answer;
     match answer {
-        Answer::Numbered(given) => {
+        NameReply::Numbered(given) => {
             *number = given as u64;
             ANSWERED
         }
-        Answer::Unknown => ANSWERED,
-        Answer::Named(_) => ANSWERED,
-        Answer::Refused(refusal) => refusal,
+        NameReply::Unknown => ANSWERED,
+        NameReply::Named(_) => ANSWERED,
+        NameReply::Refused(refusal) => refusal,
     }
 }
 
@@ -44,24 +44,24 @@ pub extern "C" fn curvalique_lookup_name(
     known: &mut u64,
     number: &mut u64,
 ) -> u64
-    ensures { λ r. ⌜ Called (now (entries .entry)) count (lookupName (now (name .entry)))
+    ensures { λ r. ⌜ NameListCalled (now (entries .entry)) count (lookupName (now (name .entry)))
         (nameUnlessRefused r (numberIfKnown (now (known .exit)) (now (number .exit)))) (now (entries .entry)) count ⌝ }
     ensures { λ r. ⌜ Known r (now (known .exit)) (now (number .entry) ∷ []) (now (number .exit) ∷ []) ⌝ }
     ensures { λ r. ⌜ OutputsStay r (now (known .entry) ∷ now (number .entry) ∷ []) (now (known .exit) ∷ now (number .exit) ∷ []) ⌝ }
 {
     let answer = names::lookup(entries, count, name);
     match answer {
-        Answer::Numbered(found) => {
+        NameReply::Numbered(found) => {
             *known = 1;
             *number = found as u64;
             ANSWERED
         }
-        Answer::Unknown => {
+        NameReply::Unknown => {
             *known = 0;
             ANSWERED
         }
-        Answer::Named(_) => ANSWERED,
-        Answer::Refused(refusal) => refusal,
+        NameReply::Named(_) => ANSWERED,
+        NameReply::Refused(refusal) => refusal,
     }
 }
 
@@ -75,7 +75,7 @@ pub extern "C" fn curvalique_name(
     length: &mut usize,
     bytes: &mut [u8; LONGEST_NAME],
 ) -> u64
-    ensures { λ r. ⌜ Called (now (entries .entry)) count (nameOf number)
+    ensures { λ r. ⌜ NameListCalled (now (entries .entry)) count (nameOf number)
         (nameUnlessRefused r (nameIfKnown (now (known .exit)) (now (length .exit)) (now (bytes .exit)))) (now (entries .entry)) count ⌝ }
     ensures { λ r. ⌜ Known r (now (known .exit)) (now (length .entry) ∷ now (bytes .entry)) (now (length .exit) ∷ now (bytes .exit)) ⌝ }
     ensures { λ r. ⌜ Padded r (now (known .exit)) (now (length .exit)) (now (bytes .exit)) ⌝ }

@@ -6,7 +6,7 @@ ghost use Rattle.curvalique.specs.Reading.{ReadsWords};
 use arena::DagArena;
 use arena::DagNode;
 use arena::NODE_WORDS;
-use builder::Found;
+use builder::NodeFound;
 use outputs::leaving::ANSWERED;
 
 // A node as its words.
@@ -34,11 +34,11 @@ pub extern "C" fn curvalique_node(
     let read = builder::node(nodes, slots, DagArena { count, size }, id);
     let answer = read.answer;
     match answer {
-        Found::Node => {
+        NodeFound::Node => {
             let node = read.node;
             *words = words_of(node);
             ANSWERED
         }
-        Found::Refused(number) => number,
+        NodeFound::Refused(number) => number,
     }
 }

@@ -1,7 +1,7 @@
 // A formula typed as text, read into a store and a name list.
 ghost use mathlib.Core.List.{[], _∷_};
 ghost use Rattle.text.specs.Memory.{controllerMemory};
-ghost use Rattle.text.specs.Reading.{Reads};
+ghost use Rattle.text.specs.Reading.{ReadsText};
 ghost use Rattle.outputs.specs.Calls.{arenaOf, OutputsStay};
 ghost use Rattle.curvalique.specs.TextCalls.{idUnlessRefused};
 use arena::DagArena;
@@ -20,7 +20,7 @@ pub extern "C" fn curvalique_read_text(
     name_count: &mut usize,
     id: &mut u64,
 ) -> u64
-    ensures { λ r. ⌜ Reads (now (text .entry))
+    ensures { λ r. ⌜ ReadsText (now (text .entry))
         (controllerMemory (now (nodes .entry)) (now (slots .entry)) (arenaOf (now (count .entry)) (now (size .entry))) (now (entries .entry)) (now («name_count» .entry))) (idUnlessRefused r (now (id .exit)))
         (controllerMemory (now (nodes .exit)) (now (slots .exit)) (arenaOf (now (count .exit)) (now (size .exit))) (now (entries .exit)) (now («name_count» .exit))) ⌝ }
     ensures { λ r. ⌜ OutputsStay r (now (id .entry) ∷ []) (now (id .exit) ∷ []) ⌝ }

@@ -6,7 +6,7 @@ ghost use Rattle.curvalique.specs.Writing.{lengthUnlessRefused};
 ghost use Rattle.text.specs.Memory.{controllerMemory};
 use arena::DagArena;
 use outputs::leaving::ANSWERED;
-use writer::Answer;
+use writer::WriteAnswer;
 
 // The text of a node, and its length.
 #[no_mangle]
@@ -36,10 +36,10 @@ pub extern "C" fn curvalique_write_text(
         text,
     );
     match answer {
-        Answer::Length(bytes) => {
+        WriteAnswer::Length(bytes) => {
             *length = bytes as u64;
             ANSWERED
         }
-        Answer::Refused(number) => number,
+        WriteAnswer::Refused(number) => number,
     }
 }

@@ -15,17 +15,17 @@ use Rattle.arena.specs.Node.{put, find}
 use Rattle.arena.specs.Nodes.{AllWellFormed, Nodes}
 use Rattle.arena.proofs.Putting.{put-old, put-new}
 use Rattle.arena.proofs.Adding.{nodes-add}
-use Rattle.dedup.specs.declared.Answer.the-variants.{Old, New, Refused}
+use Rattle.dedup.specs.declared.Insertion.the-variants.{Old, New, Refused}
 use Rattle.definitions.specs.Refusals.{noNodePlace, noSlotPlace}
 use Rattle.definitions.specs.Intern.{capacity}
 use Rattle.dedup.specs.Table.{Table, hashAt}
-use Rattle.dedup.specs.Insert.{FirstFree, Fits, Rehashed}
-use Rattle.dedup.specs.Intern.{Interned, answered, newAnswer, internAnswer, wordsAfter, Interns, Absent}
+use Rattle.dedup.specs.Insert.{FirstFree, FitsTable, Rehashed}
+use Rattle.dedup.specs.Intern.{Interned, answered, newAnswer, internAnswer, wordsAfter, Inserts, Absent}
 use Rattle.dedup.proofs.Doubling.{at-least, doubled-twice}
 use Rattle.dedup.proofs.Inserting.{table-add, past-add}
 
 -- an old node
-pub old-answer : (w slots : List ℕ) (a : DagArena) (key : DagNode) (id : ℕ) → find w (a .count) key ≡ some id → Nodes w (a .count) → Table (hashAt w) (a .count) slots (a .size) → Interns w slots a key (answered (Old id) (a .count) (a .size)) w slots
+pub old-answer : (w slots : List ℕ) (a : DagArena) (key : DagNode) (id : ℕ) → find w (a .count) key ≡ some id → Nodes w (a .count) → Table (hashAt w) (a .count) slots (a .size) → Inserts w slots a key (answered (Old id) (a .count) (a .size)) w slots
 unfolding internAnswer wordsAfter
 old-answer w slots a key id e s t = record { answer = rw e refl; words-after = refl; slots-past = refl; nodes = s; table = t }
 
@@ -40,15 +40,15 @@ module _ (w slots : List ℕ) (a : DagArena) (key : DagNode) (x : Absent w slots
   unfolding internAnswer
   new r e = rw (x .absent) e
 
-  refuse : (k : ℕ) → answered (Refused k) count size ≡ newAnswer (length w) (length slots) count size → Interns w slots a key (answered (Refused k) count size) w slots
+  refuse : (k : ℕ) → answered (Refused k) count size ≡ newAnswer (length w) (length slots) count size → Inserts w slots a key (answered (Refused k) count size) w slots
   unfolding wordsAfter
   refuse k e = record { answer = new _ e; words-after = refl; slots-past = refl; nodes = x .nodes; table = x .table }
 
-  pub refuse-count : mostNodes ≤ count → Interns w slots a key (answered (Refused noNodePlace) count size) w slots
+  pub refuse-count : mostNodes ≤ count → Inserts w slots a key (answered (Refused noNodePlace) count size) w slots
   unfolding newAnswer
   refuse-count m = refuse noNodePlace (rw (le-leb mostNodes count m) refl)
 
-  pub refuse-words : count < mostNodes → length w < count * nodeWords + nodeWords → Interns w slots a key (answered (Refused noNodePlace) count size) w slots
+  pub refuse-words : count < mostNodes → length w < count * nodeWords + nodeWords → Inserts w slots a key (answered (Refused noNodePlace) count size) w slots
   unfolding newAnswer
   refuse-words m l = refuse noNodePlace (rw (lt-leb mostNodes count m, lt-ltb (length w) (count * nodeWords + nodeWords) l) refl)
 
@@ -56,7 +56,7 @@ module _ (w slots : List ℕ) (a : DagArena) (key : DagNode) (x : Absent w slots
     no-21 : (leb mostNodes count || ltb (length w) (count * nodeWords + nodeWords)) ≡ false
     no-21 = rw (lt-leb mostNodes count many, le-ltb (length w) (count * nodeWords + nodeWords) fits) refl
 
-    pub refuse-slots : capacity size ≤ count → length slots < size * 2 → Interns w slots a key (answered (Refused noSlotPlace) count size) w slots
+    pub refuse-slots : capacity size ≤ count → length slots < size * 2 → Inserts w slots a key (answered (Refused noSlotPlace) count size) w slots
     unfolding newAnswer
     refuse-slots l m = refuse noSlotPlace (rw (no-21, lt-leb (count + 1) (capacity size) (omega arith), lt-ltb (length slots) (size * 2) m) refl)
 
@@ -77,7 +77,7 @@ module _ (w slots : List ℕ) (a : DagArena) (key : DagNode) (x : Absent w slots
         free′ : FirstFree slots size (hashAt w′ count) place
         free′ = rw new-hash free
 
-        pub added : Interns w slots a key (answered (New count) (count + 1) size) w′ (set slots place (count + 1))
+        pub added : Inserts w slots a key (answered (New count) (count + 1) size) w′ (set slots place (count + 1))
         unfolding newAnswer wordsAfter
         added = record {
           answer = new _ (rw (no-21, le-leb (count + 1) (capacity size) (omega arith)) refl);
@@ -89,7 +89,7 @@ module _ (w slots : List ℕ) (a : DagArena) (key : DagNode) (x : Absent w slots
 
       module _ (full : capacity size ≤ count) (enough : size ≤ length slots / 2) where
         -- all nodes, the new one too, go into the doubled table
-        pub doubles : AllWellFormed w′ (count + 1) × Fits (count + 1) slots (size * 2)
+        pub doubles : AllWellFormed w′ (count + 1) × FitsTable (count + 1) slots (size * 2)
         doubles = (
           nodes′ .formed,
           record {
@@ -99,7 +99,7 @@ module _ (w slots : List ℕ) (a : DagArena) (key : DagNode) (x : Absent w slots
           },
         )
 
-        pub added-doubled : (slots′ : List ℕ) → Rehashed (hashAt w′) (count + 1) slots (size * 2) slots′ → Interns w slots a key (answered (New count) (count + 1) (size * 2)) w′ slots′
+        pub added-doubled : (slots′ : List ℕ) → Rehashed (hashAt w′) (count + 1) slots (size * 2) slots′ → Inserts w slots a key (answered (New count) (count + 1) (size * 2)) w′ slots′
         unfolding newAnswer wordsAfter
         added-doubled slots′ r = record {
           answer = new _ (rw (no-21, lt-leb (count + 1) (capacity size) (omega arith), le-ltb (length slots) (size * 2) (omega arith)) refl);

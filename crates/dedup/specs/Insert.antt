@@ -39,7 +39,7 @@ pub record Taken (slots : List ℕ) (size hash id : ℕ) (slots′ : List ℕ) :
   pub after : slots′ ≡ set slots place (id + 1)
 
 -- so many nodes go into a table of this size
-pub record Fits (count : ℕ) (slots : List ℕ) (size : ℕ) : Type 0 where
+pub record FitsTable (count : ℕ) (slots : List ℕ) (size : ℕ) : Type 0 where
   pub doubled : TableSize size
   pub sized : size ≤ length slots
   pub load : count ≤ capacity size

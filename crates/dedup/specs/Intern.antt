@@ -11,18 +11,18 @@ use Rattle.arena.specs.declared.node.DagNode.{DagNode}
 use Rattle.arena.specs.Layout.{nodeWords, mostNodes, arenaOf}
 use Rattle.arena.specs.Node.{put, find}
 use Rattle.arena.specs.Nodes.{WellFormed, Nodes}
-use Rattle.dedup.specs.declared.Answer.{Answer}
-use Rattle.dedup.specs.declared.Answer.the-variants.{Old, New, Refused}
+use Rattle.dedup.specs.declared.Insertion.{Insertion}
+use Rattle.dedup.specs.declared.Insertion.the-variants.{Old, New, Refused}
 use Rattle.definitions.specs.Refusals.{noNodePlace, noSlotPlace}
 use Rattle.definitions.specs.Intern.{capacity}
 use Rattle.dedup.specs.Table.{Table, hashAt}
 
 -- an answer, and the counts of the store after it
 pub record Interned : Type 0 where
-  pub answer : Answer
+  pub answer : Insertion
   pub arena : DagArena
 
-abbrev pub answered : Answer → ℕ → ℕ → Interned
+abbrev pub answered : Insertion → ℕ → ℕ → Interned
 answered answer count size = record { answer = answer; arena = arenaOf count size }
 
 -- to a new node, with so many words and slots lent. 01: "21 no place for a new node (65,536 at most). 22 a new node needs a doubling and
@@ -40,13 +40,13 @@ internAnswer (some id) words slots count size = answered (Old id) count size
 internAnswer none words slots count size = newAnswer words slots count size
 
 -- the words after an answer: those of a new node, put at its id
-unfoldable pub wordsAfter : Answer → List ℕ → DagNode → List ℕ
+unfoldable pub wordsAfter : Insertion → List ℕ → DagNode → List ℕ
 wordsAfter (Old id) words key = words
 wordsAfter (New id) words key = put words id key
 wordsAfter (Refused number) words key = words
 
 -- the answer, the words after it, and the slots. 01: "Words and slots past the used ones stay."
-pub record Interns (words slots : List ℕ) (arena : DagArena) (key : DagNode) (r : Interned) (words′ slots′ : List ℕ) : Type 0 where
+pub record Inserts (words slots : List ℕ) (arena : DagArena) (key : DagNode) (r : Interned) (words′ slots′ : List ℕ) : Type 0 where
   pub answer : r ≡ internAnswer (find words (arena .count) key) (length words) (length slots) (arena .count) (arena .size)
   pub words-after : words′ ≡ wordsAfter (r .answer) words key
   pub slots-past : drop (r .arena .size) slots′ ≡ drop (r .arena .size) slots

@@ -32,7 +32,7 @@ pub record OverNewest (count : ℕ) (children : List ℕ) : Type 0 where
   pub newest : greatestChild children + 1 ≡ count
 
 -- what a search needs: a table, and the nodes that it compares
-pub record Ready (words : List ℕ) (known : ℕ) (slots : List ℕ) (size : ℕ) : Type 0 where
+pub record Searchable (words : List ℕ) (known : ℕ) (slots : List ℕ) (size : ℕ) : Type 0 where
   pub doubled : TableSize size
   pub sized : size ≤ length slots
   pub formed : AllWellFormed words known

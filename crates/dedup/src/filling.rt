@@ -6,7 +6,7 @@ ghost use lib.ListN.{length, replicate, drop};
 ghost use Rattle.arena.specs.Layout.{nodeWords, mostNodes};
 ghost use Rattle.arena.specs.Nodes.{AllWellFormed};
 ghost use Rattle.dedup.specs.Table.{hashAt};
-ghost use Rattle.dedup.specs.Insert.{Room, FirstFree, Taken, Fits, Rehashed};
+ghost use Rattle.dedup.specs.Insert.{Room, FirstFree, Taken, FitsTable, Rehashed};
 use crate::sizes::modulo_size;
 use crate::window::FREE_WINDOW;
 use crate::window::first_empty;
@@ -74,7 +74,7 @@ fn clear(slots: &mut [u32], n: usize)
 
 // The table anew, at a size: the nodes by rising id, each at its first free place.
 pub fn rehash(nodes: &[u64], slots: &mut [u32], size: usize, count: u64)
-    requires { ⌜ AllWellFormed (now nodes) count × Fits count (now slots) size ⌝ }
+    requires { ⌜ AllWellFormed (now nodes) count × FitsTable count (now slots) size ⌝ }
     ensures { λ r. ⌜ Rehashed (hashAt (now (nodes .entry))) count (now (slots .entry)) size (now (slots .exit)) ⌝ }
 {
     clear(slots, size);

@@ -4,7 +4,7 @@ ghost use Rattle.arena.specs.Node.{nodeOf, Key};
 ghost use Rattle.arena.specs.Nodes.{WellFormed, Nodes};
 ghost use Rattle.dedup.specs.Table.{Table, hashAt};
 ghost use Rattle.dedup.specs.Insert.{FirstFree};
-ghost use Rattle.dedup.specs.Intern.{answered, Interns, Absent, Full};
+ghost use Rattle.dedup.specs.Intern.{answered, Inserts, Absent, Full};
 
 pub mod auditing;
 pub mod filling;
@@ -25,7 +25,7 @@ use probing::slot_id;
 use sizes::load_limit;
 
 // The id of an old node or of a new one, or the number of a refusal.
-pub enum Answer {
+pub enum Insertion {
     Old(u64),
     New(u64),
     Refused(u64),
@@ -42,23 +42,23 @@ fn insert_growing(
     flags: u64,
     hash: u64,
     children: &[u32],
-) -> Answer
+) -> Insertion
     requires { ⌜ Full (now nodes) (now slots) (arenaOf (now count) (now size)) (nodeOf kind payload flags (now children)) × Key kind payload
         hash (now children) ⌝ }
-    ensures { λ r. ⌜ Interns (now (nodes .entry)) (now (slots .entry)) (arenaOf (now (count .entry)) (now (size .entry)))
+    ensures { λ r. ⌜ Inserts (now (nodes .entry)) (now (slots .entry)) (arenaOf (now (count .entry)) (now (size .entry)))
         (nodeOf kind payload flags (now (children .entry))) (answered r (now (count .exit)) (now (size .exit))) (now (nodes .exit))
         (now (slots .exit)) ⌝ }
 {
     let id = *count;
     if slots.len() / 2 < *size {
-        return Answer::Refused(NO_SLOT_PLACE);
+        return Insertion::Refused(NO_SLOT_PLACE);
     }
     let doubled = *size * 2;
     store_parts(nodes, id, kind, payload, flags, hash, children);
     rehash(nodes, slots, doubled, id + 1);
     *count = id + 1;
     *size = doubled;
-    Answer::New(id)
+    Insertion::New(id)
 }
 
 // A node that is none of the old ones, whose first free place is at hand.
@@ -73,25 +73,25 @@ fn insert(
     hash: u64,
     children: &[u32],
     free: usize,
-) -> Answer
+) -> Insertion
     requires { ⌜ Absent (now nodes) (now slots) (arenaOf (now count) (now size)) (nodeOf kind payload flags (now children)) × FirstFree
         (now slots) (now size) hash free × Key kind payload hash (now children) ⌝ }
-    ensures { λ r. ⌜ Interns (now (nodes .entry)) (now (slots .entry)) (arenaOf (now (count .entry)) (now (size .entry)))
+    ensures { λ r. ⌜ Inserts (now (nodes .entry)) (now (slots .entry)) (arenaOf (now (count .entry)) (now (size .entry)))
         (nodeOf kind payload flags (now (children .entry))) (answered r (now (count .exit)) (now (size .exit))) (now (nodes .exit))
         (now (slots .exit)) ⌝ }
 {
     let id = *count;
     if MOST_NODES <= id {
-        return Answer::Refused(NO_NODE_PLACE);
+        return Insertion::Refused(NO_NODE_PLACE);
     }
     if nodes.len() < id as usize * NODE_WORDS + NODE_WORDS {
-        return Answer::Refused(NO_NODE_PLACE);
+        return Insertion::Refused(NO_NODE_PLACE);
     }
     if (id as usize) < load_limit(*size) {
         slots[free] = (id + 1) as u32;
         store_parts(nodes, id, kind, payload, flags, hash, children);
         *count = id + 1;
-        return Answer::New(id);
+        return Insertion::New(id);
     }
     insert_growing(
         nodes,
@@ -117,10 +117,10 @@ pub fn get_or_insert(
     flags: u64,
     hash: u64,
     children: &[u32],
-) -> Answer
+) -> Insertion
     requires { ⌜ Nodes (now nodes) (now count) × Table (hashAt (now nodes)) (now count) (now slots) (now size) × WellFormed (now count)
         (nodeOf kind payload flags (now children)) × Key kind payload hash (now children) ⌝ }
-    ensures { λ r. ⌜ Interns (now (nodes .entry)) (now (slots .entry)) (arenaOf (now (count .entry)) (now (size .entry)))
+    ensures { λ r. ⌜ Inserts (now (nodes .entry)) (now (slots .entry)) (arenaOf (now (count .entry)) (now (size .entry)))
         (nodeOf kind payload flags (now (children .entry))) (answered r (now (count .exit)) (now (size .exit))) (now (nodes .exit))
         (now (slots .exit)) ⌝ }
 {
@@ -136,7 +136,7 @@ pub fn get_or_insert(
         *count,
     );
     match found {
-        Place::Here(at) => Answer::Old(slot_id(slots[at])),
+        Place::Here(at) => Insertion::Old(slot_id(slots[at])),
         Place::Free(at) => insert(
             nodes,
             slots,
@@ -150,6 +150,6 @@ pub fn get_or_insert(
             at,
         ),
         // A table within its load limit has an empty slot, so a search does not end here.
-        Place::Nowhere => Answer::Refused(NO_SLOT_PLACE),
+        Place::Nowhere => Insertion::Refused(NO_SLOT_PLACE),
     }
 }

@@ -5,7 +5,7 @@ ghost use Rattle.definitions.specs.Says.{Says};
 ghost use Rattle.arena.specs.Node.{nodeOf, Key};
 ghost use Rattle.arena.specs.Nodes.{AllWellFormed};
 ghost use Rattle.dedup.specs.Insert.{Room};
-ghost use Rattle.dedup.specs.Probe.{greatestChild, comparedId, holds, Ready, Probed, OverNewest};
+ghost use Rattle.dedup.specs.Probe.{greatestChild, comparedId, holds, Searchable, Probed, OverNewest};
 use crate::filling::free_place;
 use crate::sizes::modulo_size;
 use arena::HASH;
@@ -103,7 +103,7 @@ fn probe(
     greatest: u64,
     known: u64,
 ) -> Place
-    requires { ⌜ Ready (now nodes) known (now slots) size × Key kind payload hash (now children) ×
+    requires { ⌜ Searchable (now nodes) known (now slots) size × Key kind payload hash (now children) ×
         (greatest ≡ greatestChild (now children)) ⌝ }
     ensures { λ r. ⌜ Probed (now (nodes .entry)) known (now (slots .entry)) size (nodeOf kind payload flags (now (children .entry))) r ⌝ }
 {
@@ -145,7 +145,7 @@ pub(crate) fn search(
     children: &[u32],
     count: u64,
 ) -> Place
-    requires { ⌜ Ready (now nodes) count (now slots) size × Room (now slots) size × Key kind payload hash (now children) ⌝ }
+    requires { ⌜ Searchable (now nodes) count (now slots) size × Room (now slots) size × Key kind payload hash (now children) ⌝ }
     ensures { λ r. ⌜ Probed (now (nodes .entry)) count (now (slots .entry)) size (nodeOf kind payload flags (now (children .entry))) r ⌝ }
 {
     let greatest = greatest_child(children);

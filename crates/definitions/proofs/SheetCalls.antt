@@ -13,13 +13,13 @@ use Rattle.definitions.specs.Intern.{Lent}
 use Rattle.definitions.specs.Walk.{standard}
 use Rattle.definitions.specs.Machine.{variable, constant, operator, Call, store, simplify, Answer, stored, simplified, pruned, refused, State, empty, call, answers, states, run}
 use Rattle.definitions.specs.Sheet.{callOn, operandId, Ran, ran, cut, recordCall, refusalOf, records, sheet}
-use Rattle.definitions.specs.SheetCalls.{recordCalls, sheetCalls, Ends, whole, bySheet, byCall, AsCalls}
+use Rattle.definitions.specs.SheetCalls.{recordCalls, sheetCalls, SheetEnds, whole, bySheet, byCall, AsCalls}
 use Rattle.definitions.specs.Examples.{sheetBytes}
 use Rattle.definitions.specs.Promise.{Promise}
 use Rattle.definitions.specs.Controller.{LentLists, asked, fromStore, withNames}
 use Rattle.definitions.proofs.StoreLists.{store-promise}
 
-without-calls : (l : Lent) (al : List Answer) (s : State) (o : Option (ℕ × ℕ)) → Ends al o [] → AsCalls l al s [] (ran al o s)
+without-calls : (l : Lent) (al : List Answer) (s : State) (o : Option (ℕ × ℕ)) → SheetEnds al o [] → AsCalls l al s [] (ran al o s)
 unfolding answers run
 without-calls l al s o e = record { same-state = refl; last = []; same-answers = refl; ends = e }
 

@@ -36,10 +36,10 @@ sheetCalls l s (v ∷ bs) = cond (eqb v 1 && leb (length (v ∷ bs)) mostSheetBy
 
 -- How a sheet ends whose records answered `al`, and what its calls answer past them: nothing after its last byte or a refusal of its own
 -- (1, 2, 3), and the refusal where a call refused.
-pub data Ends (al : List Answer) : Option (ℕ × ℕ) → List Answer → Type 0 where
-  whole : Ends al none []
-  bySheet : (r : ℕ) → r ≤ tooManyRecords → Ends al (some (r, length al)) []
-  byCall : (r : ℕ) → Ends al (some (r, length al)) (refused r ∷ [])
+pub data SheetEnds (al : List Answer) : Option (ℕ × ℕ) → List Answer → Type 0 where
+  whole : SheetEnds al none []
+  bySheet : (r : ℕ) → r ≤ tooManyRecords → SheetEnds al (some (r, length al)) []
+  byCall : (r : ℕ) → SheetEnds al (some (r, length al)) (refused r ∷ [])
 
 -- Records that went on from the state `s`, after those that gave `al`, leave what the calls `cs` leave and answer what these answer. `last`
 -- is what the calls answer past the records: the refusal, if a call was refused.
@@ -47,4 +47,4 @@ pub record AsCalls (l : Lent) (al : List Answer) (s : State) (cs : List Call) (r
   pub same-state : r .left ≡ run l s cs
   pub last : List Answer
   pub same-answers : al ++ answers l s cs ≡ r .answers ++ last
-  pub ends : Ends (r .answers) (r .refusal) last
+  pub ends : SheetEnds (r .answers) (r .refusal) last

@@ -10,15 +10,15 @@ use native.Mathlib.Nat.{pow-zero, pow-succ', add-mul, mul-assoc, mul-le-mul-righ
 use borrow.Author.Tests.{leb-true, leb-false, lt-leb}
 use Rattle.text_language.specs.Grammar.{isDigit, isHex, hexDigit, digits, Run}
 use Rattle.text_language.proofs.Sound.{absurd-bool, and-both}
-use Rattle.expression_text.specs.Listed.{All}
+use Rattle.expression_text.specs.Listed.{AllOf}
 
-pub run-all : {p : ℕ → Bool} {s w r : List ℕ} → Run p s w r → All p w
+pub run-all : {p : ℕ → Bool} {s w r : List ℕ} → Run p s w r → AllOf p w
 run-all Run.stop = tt
 run-all (Run.more h q) = (h, run-all q)
 
 module _ (b : ℕ) (f : ℕ → ℕ) (p : ℕ → Bool) (low : (c : ℕ) → p c ≡ true → f c < b) where
   -- digits after n stay below the power of the base that is (n + 1) times theirs
-  pub digits-low : (n : ℕ) (w : List ℕ) → All p w → digits b f n w < (n + 1) * b ^ length w
+  pub digits-low : (n : ℕ) (w : List ℕ) → AllOf p w → digits b f n w < (n + 1) * b ^ length w
   unfolding digits
   digits-low n [] h =
       let y : (n + 1) * b ^ length {A = ℕ} [] ≡ (n + 1) * 1 = ap (λ (q : ℕ). (n + 1) * q) (pow-zero b) in

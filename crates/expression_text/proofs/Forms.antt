@@ -18,14 +18,14 @@ use Rattle.text_language.specs.Reading.{nanToken, anyNan}
 use Rattle.text_language.proofs.Sound.{and-both}
 use Rattle.text_language.proofs.Constants.{any-first, any-parts, any-append, any-both, both-numbers}
 use Rattle.expression_text.specs.Proper.{allWords, isName, numberBits, Proper}
-use Rattle.expression_text.specs.Listed.{All, OnlyProper}
+use Rattle.expression_text.specs.Listed.{AllOf, OnlyProper}
 use Rattle.expression_text.proofs.Bracketing.{Spelled}
 use Rattle.expression_text.proofs.Numerals.{numeral-atom, NameForm, name-atom}
 use Rattle.expression_text.proofs.Digits.{run-all, digits-low, hex-low}
 
 -- ---- a proper expression is spelled as the language has it
 
-pub all-words : (v : List ℕ) → allWords v ≡ true → All isWord v
+pub all-words : (v : List ℕ) → allWords v ≡ true → AllOf isWord v
 unfolding allWords
 all-words [] h = tt
 all-words (c ∷ v) h = let p = and-both (isWord c) (allWords v) h in (p .0, all-words v (p .1))
@@ -79,7 +79,7 @@ run-words Run.stop = refl
 run-words (Run.more {c} {s} {w} {r} h q) = ap₂ (λ (x y : Bool). x && y) h (run-words q)
 
 -- # and 16 hex digits, and the bits of a whole number, are below 2^64
-hex-bits : (w : List ℕ) → All isHex w → length w ≡ 16 → hexadecimal w < 2 ^ 64
+hex-bits : (w : List ℕ) → AllOf isHex w → length w ≡ 16 → hexadecimal w < 2 ^ 64
 unfolding hexadecimal
 hex-bits w h l =
     let z = digits-low 16 hexDigit isHex hex-low 0 w h in

@@ -16,7 +16,7 @@ use borrow.Author.Tests.{eqb-true, eqb-false, eq-eqb, leb-true, leb-false, le-le
 use Rattle.text_language.specs.Grammar.{isDigit, decimal, wholeBits}
 use Rattle.text_language.proofs.Sound.{and-both}
 use Rattle.expression_text.specs.Numeral.{mostWhole, mostDigits, hexDigits, numberSign, decimals, hexByte, hexes, wholePart, isWhole, numeral}
-use Rattle.expression_text.specs.Listed.{All, isCapitalHex, Numerals}
+use Rattle.expression_text.specs.Listed.{AllOf, isCapitalHex, Numerals}
 use Rattle.expression_text.proofs.Digits.{digits-low, digit-low}
 
 -- ---- which are whole
@@ -65,7 +65,7 @@ decimals-few (suc k) n m w h = go (eqb (n / 10) 0) refl m h (λ i l. decimals-fe
     go false e zero h rec = let z = eqb-false (n / 10) 0 e in absurd (z (omega arith))
     go false e (suc m) h rec = let z = pow-succ' 10 (suc m) in let i = rec m (omega arith) in omega arith
 
-fewest : (n : ℕ) → n ≤ mostWhole → (w : List ℕ) → All isDigit w → 0 < length w → decimal w ≡ n → length (decimals mostDigits n []) ≤ length w
+fewest : (n : ℕ) → n ≤ mostWhole → (w : List ℕ) → AllOf isDigit w → 0 < length w → decimal w ≡ n → length (decimals mostDigits n []) ≤ length w
 unfolding decimal
 fewest n l [] h s e = absurd (omega arith)
 fewest n l (c ∷ w) h s e =
@@ -86,7 +86,7 @@ capital d h = go (leb d 9) refl
         let z = leb-false d 9 q in
         ap₂ (λ (x y : Bool). isDigit (55 + d) || x && y) (le-leb 65 (55 + d) (omega arith)) (le-leb (55 + d) 70 (omega arith)) ∙ or-true (isDigit (55 + d))
 
-capitals : (k n : ℕ) (w : List ℕ) → All isCapitalHex w → All isCapitalHex (hexes k n w)
+capitals : (k n : ℕ) (w : List ℕ) → AllOf isCapitalHex w → AllOf isCapitalHex (hexes k n w)
 unfolding hexes
 capitals zero n w h = h
 capitals (suc k) n w h = capitals k (n / 16) (hexByte (n % 16) ∷ w) (capital (n % 16) (omega arith), h)

@@ -11,9 +11,9 @@ use borrow.Author.Tests.{eqb-true, leb-true, leb-false, le-leb, lt-leb}
 use Rattle.text_language.specs.Grammar.{constant, variable, isDigit, isLetter, isWord, isHex, hexDigit, digits, decimal, hexadecimal, wholeBits, Run, stop, Atom}
 use Rattle.text_language.proofs.Sound.{and-both}
 use Rattle.expression_text.specs.Numeral.{mostWhole, decimals, hexByte, hexes, wholePart, isWhole, numeral}
-use Rattle.expression_text.specs.Listed.{All}
+use Rattle.expression_text.specs.Listed.{AllOf}
 
-pub all-run : (p : ℕ → Bool) (w r : List ℕ) → All p w → Run p (w ++ r) w r
+pub all-run : (p : ℕ → Bool) (w r : List ℕ) → AllOf p w → Run p (w ++ r) w r
 all-run p [] r h = stop
 all-run p (c ∷ w) r h = Run.more (h .0) (all-run p w r (h .1))
 
@@ -27,7 +27,7 @@ digit-byte n =
 
 -- a shape: between 1 and k bytes more than w, digits all
 pub record Digits (p : ℕ → Bool) (low high : ℕ) (w : List ℕ) : Type 0 where
-  pub all : All p w
+  pub all : AllOf p w
   pub least : low ≤ length w
   pub most : length w ≤ high
 
@@ -83,7 +83,7 @@ hex-byte d h = go (leb d 9) refl
               ∙ ap (λ (x : Bool). cond x (55 + d - 55) (55 + d - 87)) c ∙ omega arith,
         )
 
-pub hexes-all : (k n : ℕ) (w : List ℕ) → All isHex w → All isHex (hexes k n w)
+pub hexes-all : (k n : ℕ) (w : List ℕ) → AllOf isHex w → AllOf isHex (hexes k n w)
 unfolding hexes
 hexes-all zero n w h = h
 hexes-all (suc k) n w h = hexes-all k (n / 16) (hexByte (n % 16) ∷ w) (hex-byte (n % 16) (omega arith) .0, h)
@@ -133,7 +133,7 @@ pub record NameForm (w : List ℕ) : Type 0 where
   pub rest : List ℕ
   pub is : w ≡ head ∷ rest
   pub letter : isLetter head ≡ true
-  pub words : All isWord rest
+  pub words : AllOf isWord rest
   pub short : length rest ≤ 31
 
 pub name-atom : (w : List ℕ) → NameForm w → (r : List ℕ) → Atom (w ++ r) (variable w) r

@@ -13,9 +13,9 @@ use Rattle.expression_text.specs.Written.{textOf, depthOf, bracketPairs,
 use Rattle.expression_text.specs.Proper.{Proper}
 
 -- every byte of w passes p
-abbrev pub All : (ℕ → Bool) → List ℕ → Type 0
-All p [] = Unit {0}
-All p (c ∷ w) = (p c ≡ true) × All p w
+abbrev pub AllOf : (ℕ → Bool) → List ℕ → Type 0
+AllOf p [] = Unit {0}
+AllOf p (c ∷ w) = (p c ≡ true) × AllOf p w
 
 -- 0 to 9 or A to F
 abbrev pub isCapitalHex : ℕ → Bool
@@ -25,8 +25,8 @@ isCapitalHex c = isDigit c || leb 65 c && leb c 70
 pub record Numerals : Type 0 where
   pub whole : (n : ℕ) → n ≤ mostWhole → numeral (wholeBits n) ≡ decimals mostDigits n []
   pub other : (b : ℕ) → ((n : ℕ) → n ≤ mostWhole → b ≡ wholeBits n → ⊥) → numeral b ≡ numberSign ∷ hexes hexDigits b []
-  pub fewest : (n : ℕ) → n ≤ mostWhole → (w : List ℕ) → All isDigit w → 0 < length w → decimal w ≡ n → length (decimals mostDigits n []) ≤ length w
-  pub capitals : (b : ℕ) → All isCapitalHex (hexes hexDigits b [])
+  pub fewest : (n : ℕ) → n ≤ mostWhole → (w : List ℕ) → AllOf isDigit w → 0 < length w → decimal w ≡ n → length (decimals mostDigits n []) ≤ length w
+  pub capitals : (b : ℕ) → AllOf isCapitalHex (hexes hexDigits b [])
 
 -- an expression has a text exactly if it is proper
 pub record HasText (e : Expr) : Type 0 where

@@ -24,7 +24,7 @@ use text_language::NOT_A_NUMBER;
 use text_language::OUTSIDE_LANGUAGE;
 use threshold::say_dropped;
 use write_back::DEPTH;
-use write_back::Outcome;
+use write_back::FormulaOutcome;
 use write_back::Pruning;
 
 // One byte more than the longest text, and a newline after it.
@@ -128,9 +128,9 @@ fn say_pruned(setting: u32, kept: u64, dropped: u64) {
     say_dropped(setting, dropped);
 }
 
-fn show(outcome: Outcome, pruning: Pruning, text: &[u8]) {
+fn show(outcome: FormulaOutcome, pruning: Pruning, text: &[u8]) {
     match outcome {
-        Outcome::Written {
+        FormulaOutcome::Written {
             length,
             steps,
             spent,
@@ -148,7 +148,7 @@ fn show(outcome: Outcome, pruning: Pruning, text: &[u8]) {
                 Pruning::BySetting(setting) => say_pruned(setting, kept, dropped),
             }
         }
-        Outcome::Refused(number) => refuse(number),
+        FormulaOutcome::Refused(number) => refuse(number),
     }
 }
 

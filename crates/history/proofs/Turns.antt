@@ -10,7 +10,7 @@ use Rattle.definitions.specs.Names.{nameCall}
 use Rattle.definitions.specs.Listing.{lastOf}
 use Rattle.definitions.proofs.Listing.{last-more}
 use Rattle.definitions.proofs.NameLists.{names-longer}
-use Rattle.store.specs.declared.Answer.{Answer}
+use Rattle.store.specs.declared.NodeAnswer.{NodeAnswer}
 use Rattle.store.proofs.Staying.{stays-refl, leaves-stays}
 use Rattle.names.specs.Sound.{namesOf, lentEntries}
 use Rattle.names.proofs.Listing.{names-length}
@@ -43,7 +43,7 @@ left-extends (by-names {c = c} {s = s} {bytes = bytes} {bytes′ = bytes′} {co
     }
 left-extends (by-text {text = text} {m = m} {m′ = m′} {a = a} l) h = by (equation-gives-case text m m′ a l (yes h))
   where
-    by : {b : Answer} {m″ : ControllerMemory} → ReadingCases text m b m″ → Extends m m″
+    by : {b : NodeAnswer} {m″ : ControllerMemory} → ReadingCases text m b m″ → Extends m m″
     by (unsound n) = absurd (n h)
     by (refused k r) = extends-refl m h
     by (read k e x) = x .extends

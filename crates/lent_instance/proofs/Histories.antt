@@ -13,7 +13,7 @@ use Rattle.definitions.specs.Controller.{ControllerCall, building, simplifying,
 use Rattle.definitions.specs.Promise.{ControllerCalled, FreshController, History, done, next, All}
 use Rattle.definitions.proofs.Histories.{all-of, call-untouched}
 use Rattle.names.specs.Entry.{entryAt, SoundEntry}
-use Rattle.names.specs.Sound.{Sound, lentEntries}
+use Rattle.names.specs.Sound.{SoundNames, lentEntries}
 use Rattle.text.specs.Memory.{lentController}
 use Rattle.lent_instance.specs.Memory.{lentHere, memoryFor}
 

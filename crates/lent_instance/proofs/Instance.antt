@@ -30,7 +30,7 @@ use Rattle.dedup.specs.Table.{hashAt}
 use Rattle.dedup.proofs.Inserting.{inserted-length}
 use Rattle.definitions.specs.Limits.{firstTableSize}
 use Rattle.names.specs.Entry.{entryAt, SoundEntry}
-use Rattle.names.specs.Sound.{Sound as NamesSound, namesOf}
+use Rattle.names.specs.Sound.{SoundNames as NamesSound, namesOf}
 use Rattle.names.proofs.Modelled.{no-names}
 use Rattle.text.specs.Memory.{ControllerMemory, lentController}
 use Rattle.lent_instance.specs.Memory.{lentNodes, lentNames, lentHere, wordsFor, bytesFor, memoryFor}

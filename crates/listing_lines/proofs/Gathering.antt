@@ -12,7 +12,7 @@ use Rattle.listing_lines.specs.declared.line.Line.{Line}
 use Rattle.listing_lines.specs.declared.Outcome.{Outcome}
 use Rattle.listing_lines.specs.Line.{lineBytes, text, Holds}
 use Rattle.listing_lines.specs.Outcome.{firstLineOf, lineOf, joined, allLines}
-use Rattle.listing_lines.specs.Filling.{Puts, Fills}
+use Rattle.listing_lines.specs.Filling.{PutsLine, Fills}
 use Rattle.listing_lines.proofs.Lines.{later-rest}
 
 -- the lines of one id more
@@ -41,7 +41,7 @@ module _ (from : ℕ) (first words : List ℕ) (count : ℕ) where
     pub some : id ≤ count
     pub rest : drop at out ≡ drop at before
 
-  pub gathered-more : (before out : List ℕ) (at id : ℕ) → Gathered before out at id → id < count → (line : Line) → Holds (lineOf (nodesIn words count) id) line → (r : ℕ) (out′ : List ℕ) → Puts (text line) at out r out′ → Gathered before out′ r (id + 1)
+  pub gathered-more : (before out : List ℕ) (at id : ℕ) → Gathered before out at id → id < count → (line : Line) → Holds (lineOf (nodesIn words count) id) line → (r : ℕ) (out′ : List ℕ) → PutsLine (text line) at out r out′ → Gathered before out′ r (id + 1)
   gathered-more before out at id g l line h r out′ p = record {
     is =
         p .is
@@ -75,7 +75,7 @@ module _ (from : ℕ) (first words : List ℕ) (count : ℕ) where
       }
 
 -- the first line in an array
-module _ (o : Outcome) (line : Line) (h : Holds (firstLineOf o ++ (lineFeed ∷ [])) line) (out : List ℕ) (at : ℕ) (out′ : List ℕ) (p : Puts (text line) 0 out at out′) where
+module _ (o : Outcome) (line : Line) (h : Holds (firstLineOf o ++ (lineFeed ∷ [])) line) (out : List ℕ) (at : ℕ) (out′ : List ℕ) (p : PutsLine (text line) 0 out at out′) where
   pub first-is : take at out′ ≡ firstLineOf o ++ (lineFeed ∷ [])
   first-is = p .is ∙ h .is
 

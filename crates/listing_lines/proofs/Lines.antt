@@ -19,7 +19,7 @@ use Rattle.store.proofs.Viewing.{plain-length}
 use Rattle.listing_lines.specs.declared.line.Line.{Line}
 use Rattle.listing_lines.specs.declared.Outcome.{Outcome}
 use Rattle.listing_lines.specs.declared.Outcome.the-variants.{Ok, Spent, Refused, Empty}
-use Rattle.listing_lines.specs.Line.{lineBytes, mostDigits, numberBytes, childrenBytes, text, EmptyLine, Extends, Holds}
+use Rattle.listing_lines.specs.Line.{lineBytes, mostDigits, numberBytes, childrenBytes, text, EmptyLine, ExtendsLine, Holds}
 use Rattle.listing_lines.specs.Outcome.{answeredAs, outcomeOf, firstLineOf, lineOf, joined, allLines}
 
 -- ---- one byte more
@@ -65,7 +65,7 @@ module _ (room : ℕ) (before more bytes : List ℕ) (start i : ℕ) (c : Copied
   copied-all l = c .is ∙ ap (λ (x : List ℕ). take start before ++ x) (ap (λ (k : ℕ). take k more) l ∙ take-length more)
 
 -- ---- text after text
-pub extends-trans : {a b c : Line} {x y : List ℕ} {m n : ℕ} → Extends a x m b → Extends b y n c → Extends a (x ++ y) (m + n) c
+pub extends-trans : {a b c : Line} {x y : List ℕ} {m n : ℕ} → ExtendsLine a x m b → ExtendsLine b y n c → ExtendsLine a (x ++ y) (m + n) c
 extends-trans {a} {b} {c} {x} {y} p q = record {
   is = q .is ∙ ap (λ (t : List ℕ). t ++ y) (p .is) ∙ append-assoc (text a) x y;
   longer = let h = p .longer in let k = q .longer in omega arith;
@@ -74,7 +74,7 @@ extends-trans {a} {b} {c} {x} {y} p q = record {
 }
 
 -- text that is the end of an array of 20 bytes
-pub extends-part : {a b : Line} (bytes : List ℕ) (f : ℕ) → length bytes ≡ 20 → Extends a (take (20 - f) (drop f bytes)) (length (take (20 - f) (drop f bytes))) b → Extends a (drop f bytes) 20 b
+pub extends-part : {a b : Line} (bytes : List ℕ) (f : ℕ) → length bytes ≡ 20 → ExtendsLine a (take (20 - f) (drop f bytes)) (length (take (20 - f) (drop f bytes))) b → ExtendsLine a (drop f bytes) 20 b
 extends-part {a} {b} bytes f l p =
     let d : length (drop f bytes) ≡ length bytes - f = length-drop f bytes in
     let e : take (20 - f) (drop f bytes) ≡ drop f bytes = take-all (20 - f) (drop f bytes) (omega arith) in
@@ -82,13 +82,13 @@ extends-part {a} {b} bytes f l p =
     let h = p .long in
     record { is = p .is ∙ ap (λ (t : List ℕ). text a ++ t) e; longer = p .longer; long = omega arith; rest = p .rest }
 
-pub extends-more : {a b : Line} {x : List ℕ} {m : ℕ} (n : ℕ) → m ≤ n → Extends a x m b → Extends a x n b
+pub extends-more : {a b : Line} {x : List ℕ} {m : ℕ} (n : ℕ) → m ≤ n → ExtendsLine a x m b → ExtendsLine a x n b
 extends-more n h p = record { is = p .is; longer = p .longer; long = let l = p .long in omega arith; rest = p .rest }
 
-pub extends-as : {a b : Line} {m : ℕ} (x y : List ℕ) → x ≡ y → Extends a x m b → Extends a y m b
-extends-as {a} {b} {m} x y e p = subst (λ (t : List ℕ). Extends a t m b) e p
+pub extends-as : {a b : Line} {m : ℕ} (x y : List ℕ) → x ≡ y → ExtendsLine a x m b → ExtendsLine a y m b
+extends-as {a} {b} {m} x y e p = subst (λ (t : List ℕ). ExtendsLine a t m b) e p
 
-pub from-empty : {a b : Line} {x : List ℕ} {m : ℕ} → EmptyLine a → Extends a x m b → m ≤ lineBytes → Holds x b
+pub from-empty : {a b : Line} {x : List ℕ} {m : ℕ} → EmptyLine a → ExtendsLine a x m b → m ≤ lineBytes → Holds x b
 from-empty {a} {b} {x} e p l =
     let z = e .long in
     let h = p .long in
@@ -104,7 +104,7 @@ from-empty {a} {b} {x} e p l =
 pub record Listed (base : Line) (children : List ℕ) (r : Line) (place : ℕ) : Type 0 where
   pub within : place ≤ length children
   pub few : length children ≤ mostChildren
-  pub extends : Extends base (childrenPart (take place children)) (place * numberBytes) r
+  pub extends : ExtendsLine base (childrenPart (take place children)) (place * numberBytes) r
 
 children-snoc : (l : List ℕ) (c : ℕ) → childrenPart (l ++ (c ∷ [])) ≡ childrenPart l ++ (space ∷ decimal c)
 unfolding childrenPart
@@ -116,12 +116,12 @@ unfolding childrenPart
 listed-none base children h = record { within = omega arith; few = h; extends = record { is = sym (append-nil (text base)); longer = omega arith; long = omega arith; rest = refl } }
 
 module _ (base : Line) (children : List ℕ) (r : Line) (place : ℕ) (d : Listed base children r place) where
-  pub listed-more : place < length children → (n : ℕ) → n ≡ getD children place 0 → (r′ : Line) → Extends r (space ∷ decimal n) numberBytes r′ → Listed base children r′ (place + 1)
+  pub listed-more : place < length children → (n : ℕ) → n ≡ getD children place 0 → (r′ : Line) → ExtendsLine r (space ∷ decimal n) numberBytes r′ → Listed base children r′ (place + 1)
   listed-more l n e r′ p = record {
     within = omega arith;
     few = d .few;
     extends =
-        let t : Extends base (childrenPart (take place children) ++ (space ∷ decimal n)) (place * numberBytes + numberBytes) r′ = extends-trans (d .extends) p in
+        let t : ExtendsLine base (childrenPart (take place children) ++ (space ∷ decimal n)) (place * numberBytes + numberBytes) r′ = extends-trans (d .extends) p in
         let h = t .long in
         let one : take (place + 1) children ≡ take place children ++ (n ∷ []) = ap (λ (k : ℕ). take k children) (add-one place) ∙ take-suc children place 0 l ∙ ap (λ (x : ℕ). take place children ++ (x ∷ [])) (sym e) in
         record {
@@ -132,7 +132,7 @@ module _ (base : Line) (children : List ℕ) (r : Line) (place : ℕ) (d : Liste
         };
   }
 
-  pub listed-all : place ≡ length children → Extends base (childrenPart children) childrenBytes r
+  pub listed-all : place ≡ length children → ExtendsLine base (childrenPart children) childrenBytes r
   listed-all e =
       let few : length children ≤ mostChildren = d .few in
       let h : r .length ≤ base .length + place * numberBytes = d .extends .long in
@@ -148,25 +148,25 @@ module _ (base : Line) (children : List ℕ) (r : Line) (place : ℕ) (d : Liste
 pub same-outcome : {o o′ : Outcome} {r : Line} → o′ ≡ o → Holds (firstLineOf o ++ (lineFeed ∷ [])) r → Holds (firstLineOf o′ ++ (lineFeed ∷ [])) r
 same-outcome {r = r} e h = subst (λ (o : Outcome). Holds (firstLineOf o ++ (lineFeed ∷ [])) r) (sym e) h
 
-module _ {a b c d : Line} (i : ℕ) (e : EmptyLine a) (q : Extends b (space ∷ decimal i) numberBytes c) (r : Extends c (lineFeed ∷ []) 1 d) where
-  pub ok-line : Extends a okWord 2 b → Holds (firstLineOf (Ok i) ++ (lineFeed ∷ [])) d
+module _ {a b c d : Line} (i : ℕ) (e : EmptyLine a) (q : ExtendsLine b (space ∷ decimal i) numberBytes c) (r : ExtendsLine c (lineFeed ∷ []) 1 d) where
+  pub ok-line : ExtendsLine a okWord 2 b → Holds (firstLineOf (Ok i) ++ (lineFeed ∷ [])) d
   unfolding firstLineOf firstLine answered
   ok-line p = from-empty e (extends-trans (extends-trans p q) r) (lit≤ tt)
 
-  pub spent-line : Extends a spentWord 5 b → Holds (firstLineOf (Spent i) ++ (lineFeed ∷ [])) d
+  pub spent-line : ExtendsLine a spentWord 5 b → Holds (firstLineOf (Spent i) ++ (lineFeed ∷ [])) d
   unfolding firstLineOf firstLine answered
   spent-line p = from-empty e (extends-trans (extends-trans p q) r) (lit≤ tt)
 
-pub empty-line : {a b : Line} → EmptyLine a → Extends a (okWord ++ space ∷ dash ++ lineFeed ∷ []) 5 b → Holds (firstLineOf Empty ++ (lineFeed ∷ [])) b
+pub empty-line : {a b : Line} → EmptyLine a → ExtendsLine a (okWord ++ space ∷ dash ++ lineFeed ∷ []) 5 b → Holds (firstLineOf Empty ++ (lineFeed ∷ [])) b
 unfolding firstLineOf firstLine
 empty-line e p = from-empty e p (lit≤ tt)
 
-pub refused-line : {a b c d f g : Line} (number at : ℕ) → EmptyLine a → Extends a refusedWord 7 b → Extends b (space ∷ decimal number) numberBytes c → Extends c (space ∷ atWord) 3 d → Extends d (space ∷ decimal at) numberBytes f → Extends f (lineFeed ∷ []) 1 g → Holds (firstLineOf (Refused number at) ++ (lineFeed ∷ [])) g
+pub refused-line : {a b c d f g : Line} (number at : ℕ) → EmptyLine a → ExtendsLine a refusedWord 7 b → ExtendsLine b (space ∷ decimal number) numberBytes c → ExtendsLine c (space ∷ atWord) 3 d → ExtendsLine d (space ∷ decimal at) numberBytes f → ExtendsLine f (lineFeed ∷ []) 1 g → Holds (firstLineOf (Refused number at) ++ (lineFeed ∷ [])) g
 unfolding firstLineOf firstLine
 refused-line number at e p q r s t = from-empty e (extends-trans (extends-trans (extends-trans (extends-trans p q) r) s) t) (lit≤ tt)
 
 -- "id, kind, payload in 16 capital hex digits, flags, children; one space between"
-pub node-line : {a b c d f g h : Line} (i k p l : ℕ) (n : Node) → EmptyLine a → Extends a (decimal i) mostDigits b → Extends b (space ∷ decimal k) numberBytes c → Extends c (space ∷ hex p) numberBytes d → Extends d (space ∷ decimal l) numberBytes f → Extends f (childrenPart (n .children)) childrenBytes g → Extends g (lineFeed ∷ []) 1 h → k ≡ n .kind → p ≡ n .payload → l ≡ allFlags n → Holds (nodeLine i n ++ (lineFeed ∷ [])) h
+pub node-line : {a b c d f g h : Line} (i k p l : ℕ) (n : Node) → EmptyLine a → ExtendsLine a (decimal i) mostDigits b → ExtendsLine b (space ∷ decimal k) numberBytes c → ExtendsLine c (space ∷ hex p) numberBytes d → ExtendsLine d (space ∷ decimal l) numberBytes f → ExtendsLine f (childrenPart (n .children)) childrenBytes g → ExtendsLine g (lineFeed ∷ []) 1 h → k ≡ n .kind → p ≡ n .payload → l ≡ allFlags n → Holds (nodeLine i n ++ (lineFeed ∷ [])) h
 unfolding nodeLine
 node-line i k p l n e id kind payload flags children feed ek ep el =
     let kind′ = extends-as _ _ (ap (λ (v : ℕ). space ∷ decimal v) ek) kind in

@@ -5,7 +5,7 @@ use mathlib.Core.List.{List, _++_}
 use lib.ListN.{length, take, drop}
 
 -- text put into an array from a place on, and the place after it; the bytes from there on stay
-pub record Puts (text : List ℕ) (at : ℕ) (out : List ℕ) (r : ℕ) (out′ : List ℕ) : Type 0 where
+pub record PutsLine (text : List ℕ) (at : ℕ) (out : List ℕ) (r : ℕ) (out′ : List ℕ) : Type 0 where
   pub is : take r out′ ≡ take at out ++ text
   pub place : r ≡ at + length text
   pub rest : drop r out′ ≡ drop r out

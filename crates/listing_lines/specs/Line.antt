@@ -32,7 +32,7 @@ pub record EmptyLine (l : Line) : Type 0 where
   pub long : l .length ≡ 0
 
 -- a line with more text, at most so many bytes longer; the bytes past it stay
-pub record Extends (l : Line) (more : List ℕ) (most : ℕ) (r : Line) : Type 0 where
+pub record ExtendsLine (l : Line) (more : List ℕ) (most : ℕ) (r : Line) : Type 0 where
   pub is : text r ≡ text l ++ more
   pub longer : l .length ≤ r .length
   pub long : r .length ≤ l .length + most
@@ -45,6 +45,6 @@ pub record Holds (t : List ℕ) (r : Line) : Type 0 where
   pub rest : drop (r .length) (r .bytes) ≡ drop (r .length) (replicate lineBytes 0)
 
 -- the digits of a number stand at the end of an array
-pub record Spells (digits : List ℕ) (r : Digits) : Type 0 where
+pub record SpellsNumber (digits : List ℕ) (r : Digits) : Type 0 where
   pub is : drop (r .first) (r .bytes) ≡ digits
   pub within : r .first ≤ mostDigits

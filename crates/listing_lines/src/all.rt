@@ -5,16 +5,16 @@ ghost use lib.ListN.{length};
 ghost use Rattle.arena.specs.Nodes.{Nodes};
 ghost use Rattle.listing_lines.specs.Line.{lineBytes, text};
 ghost use Rattle.listing_lines.specs.Outcome.{allLines};
-ghost use Rattle.listing_lines.specs.Filling.{Puts, Fills};
+ghost use Rattle.listing_lines.specs.Filling.{PutsLine, Fills};
 use crate::Outcome;
 use crate::first_line;
 use crate::line::Line;
 use crate::node::node_line_sound;
 
-// Puts text into an array from a place on, and gives the place after it.
+// PutsLine text into an array from a place on, and gives the place after it.
 fn put(out: &mut [u8], at: usize, more: &[u8]) -> usize
     requires { ⌜ at + length (now more) ≤ length (now out) ⌝ }
-    ensures { λ r. ⌜ Puts (now (more .entry)) at (now (out .entry)) r (now (out .exit)) ⌝ }
+    ensures { λ r. ⌜ PutsLine (now (more .entry)) at (now (out .entry)) r (now (out .exit)) ⌝ }
 {
     let mut i: usize = 0;
     while i < more.len() {
@@ -24,10 +24,10 @@ fn put(out: &mut [u8], at: usize, more: &[u8]) -> usize
     at + i
 }
 
-// Puts a line into an array from a place on, and gives the place after it.
+// PutsLine a line into an array from a place on, and gives the place after it.
 pub fn put_line(out: &mut [u8], at: usize, line: Line) -> usize
     requires { ⌜ (line .length ≤ lineBytes) × (at + lineBytes ≤ length (now out)) ⌝ }
-    ensures { λ r. ⌜ Puts (text line) at (now (out .entry)) r (now (out .exit)) ⌝ }
+    ensures { λ r. ⌜ PutsLine (text line) at (now (out .entry)) r (now (out .exit)) ⌝ }
 {
     let bytes = line.bytes;
     let length = line.length;

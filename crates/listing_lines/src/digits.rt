@@ -4,7 +4,7 @@ ghost use mathlib.Core.List.{[], _∷_, _++_};
 ghost use Prim.Native.Nat.{_+_, _≤_, _<_};
 ghost use Rattle.definitions.specs.Listing.{decimal, hex, hexDigit, lineFeed, space};
 ghost use lib.ListN.{drop};
-ghost use Rattle.listing_lines.specs.Line.{lineBytes, mostDigits, numberBytes, Extends, Holds, Spells};
+ghost use Rattle.listing_lines.specs.Line.{lineBytes, mostDigits, numberBytes, ExtendsLine, Holds, SpellsNumber};
 use crate::line::Line;
 use crate::line::new;
 use crate::line::with_bytes;
@@ -42,7 +42,7 @@ fn digit(value: u64) -> u8
 
 // The decimal digits of a number, as few as hold it.
 fn decimal_digits(n: u64) -> Digits
-    ensures { λ r. ⌜ Spells (decimal n) r ⌝ }
+    ensures { λ r. ⌜ SpellsNumber (decimal n) r ⌝ }
 {
     let mut bytes = [0; MOST_DIGITS];
     let mut first = MOST_DIGITS;
@@ -59,7 +59,7 @@ fn decimal_digits(n: u64) -> Digits
 
 // The 16 hex digits of a number.
 fn hex_digits(n: u64) -> Digits
-    ensures { λ r. ⌜ Spells (hex n) r ⌝ }
+    ensures { λ r. ⌜ SpellsNumber (hex n) r ⌝ }
 {
     let mut bytes = [0; MOST_DIGITS];
     let mut first = MOST_DIGITS;
@@ -75,7 +75,7 @@ fn hex_digits(n: u64) -> Digits
 // The line with digits.
 fn with_digits(line: Line, digits: Digits) -> Line
     requires { ⌜ (line .length + mostDigits ≤ lineBytes) × (digits .first ≤ mostDigits) ⌝ }
-    ensures { λ r. ⌜ Extends line (drop (digits .first) (digits .bytes)) mostDigits r ⌝ }
+    ensures { λ r. ⌜ ExtendsLine line (drop (digits .first) (digits .bytes)) mostDigits r ⌝ }
 {
     let bytes = digits.bytes;
     let first = digits.first;
@@ -85,7 +85,7 @@ fn with_digits(line: Line, digits: Digits) -> Line
 // The line with a number.
 pub(crate) fn with_decimal(line: Line, n: u64) -> Line
     requires { ⌜ line .length + mostDigits ≤ lineBytes ⌝ }
-    ensures { λ r. ⌜ Extends line (decimal n) mostDigits r ⌝ }
+    ensures { λ r. ⌜ ExtendsLine line (decimal n) mostDigits r ⌝ }
 {
     with_digits(line, decimal_digits(n))
 }
@@ -93,7 +93,7 @@ pub(crate) fn with_decimal(line: Line, n: u64) -> Line
 // The line with a space and a number.
 pub fn with_number(line: Line, n: u64) -> Line
     requires { ⌜ line .length + numberBytes ≤ lineBytes ⌝ }
-    ensures { λ r. ⌜ Extends line (space ∷ decimal n) numberBytes r ⌝ }
+    ensures { λ r. ⌜ ExtendsLine line (space ∷ decimal n) numberBytes r ⌝ }
 {
     with_decimal(with_bytes(line, b" "), n)
 }
@@ -101,7 +101,7 @@ pub fn with_number(line: Line, n: u64) -> Line
 // The line with a space and a payload.
 pub(crate) fn with_payload(line: Line, n: u64) -> Line
     requires { ⌜ line .length + numberBytes ≤ lineBytes ⌝ }
-    ensures { λ r. ⌜ Extends line (space ∷ hex n) numberBytes r ⌝ }
+    ensures { λ r. ⌜ ExtendsLine line (space ∷ hex n) numberBytes r ⌝ }
 {
     with_digits(with_bytes(line, b" "), hex_digits(n))
 }

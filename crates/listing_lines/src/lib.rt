@@ -22,7 +22,7 @@ ghost use Rattle.definitions.specs.Listing.{lineFeed};
 ghost use Rattle.store.specs.Memory.{memory};
 ghost use Rattle.listing_lines.specs.Line.{Holds};
 ghost use Rattle.listing_lines.specs.Outcome.{firstLineOf};
-ghost use Rattle.listing_lines.specs.Answers.{Lists, Refuses};
+ghost use Rattle.listing_lines.specs.Answers.{Lists, RefusesLine};
 use arena::DagArena;
 use definitions::refusals::BAD_OPERAND;
 use definitions::refusals::NOT_SOUND;
@@ -54,23 +54,23 @@ pub fn first_line(outcome: Outcome) -> Line
 }
 
 // The line of an id, or the number of a refusal.
-pub enum Found {
+pub enum LineFound {
     Line,
     Refused(u64),
 }
 
 // The answer, with the line beside it: an enum holds no arrays. Beside a refusal the line is empty.
 pub struct NodeLine {
-    pub answer: Found,
+    pub answer: LineFound,
     pub line: Line,
 }
 
 fn refused(number: u64) -> NodeLine
-    ensures { λ r. ⌜ Refuses number r ⌝ }
+    ensures { λ r. ⌜ RefusesLine number r ⌝ }
 {
     let line = new();
     NodeLine {
-        answer: Found::Refused(number),
+        answer: LineFound::Refused(number),
         line,
     }
 }
@@ -87,7 +87,7 @@ pub fn node_line(nodes: &[u64], slots: &[u32], arena: DagArena, id: u32) -> Node
     }
     let line = node_line_sound(nodes, arena.count, id as u64);
     NodeLine {
-        answer: Found::Line,
+        answer: LineFound::Line,
         line,
     }
 }

@@ -1,7 +1,7 @@
 // A line of text in an array that no line of the listing fills.
 ghost use Prim.Native.Nat.{_+_, _≤_};
 ghost use lib.ListN.{length};
-ghost use Rattle.listing_lines.specs.Line.{lineBytes, Extends, EmptyLine};
+ghost use Rattle.listing_lines.specs.Line.{lineBytes, ExtendsLine, EmptyLine};
 
 // The longest line of a node has three numbers of at most 20 digits, 16 hex digits, 16 children, and a byte between or after
 // each: 416 bytes.
@@ -25,7 +25,7 @@ pub fn new() -> Line
 // The line with more text.
 pub fn with_bytes(line: Line, more: &[u8]) -> Line
     requires { ⌜ line .length + length (now more) ≤ lineBytes ⌝ }
-    ensures { λ r. ⌜ Extends line (now (more .entry)) (length (now (more .entry))) r ⌝ }
+    ensures { λ r. ⌜ ExtendsLine line (now (more .entry)) (length (now (more .entry))) r ⌝ }
 {
     let mut bytes = line.bytes;
     let start = line.length;

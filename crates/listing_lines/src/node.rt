@@ -5,7 +5,7 @@ ghost use Rattle.definitions.specs.Node as N;
 ghost use Rattle.definitions.specs.Listing.{allFlags, childrenPart};
 ghost use Rattle.store.specs.View.{nodesIn};
 ghost use Rattle.store.specs.Lookup.{Lookup};
-ghost use Rattle.listing_lines.specs.Line.{lineBytes, childrenBytes, Extends, Holds};
+ghost use Rattle.listing_lines.specs.Line.{lineBytes, childrenBytes, ExtendsLine, Holds};
 ghost use Rattle.listing_lines.specs.Outcome.{lineOf};
 use crate::digits::with_decimal;
 use crate::digits::with_number;
@@ -27,7 +27,7 @@ fn all_flags(nodes: &[u64], count: u64, id: u64) -> u64
 // The children of a node, each after a space.
 fn with_children(line: Line, nodes: &[u64], count: u64, id: u64) -> Line
     requires { ⌜ (line .length + childrenBytes ≤ lineBytes) × Lookup (now nodes) count id ⌝ }
-    ensures { λ r. ⌜ Extends line (childrenPart (N.at (nodesIn (now (nodes .entry)) count) id .children)) childrenBytes r ⌝ }
+    ensures { λ r. ⌜ ExtendsLine line (childrenPart (N.at (nodesIn (now (nodes .entry)) count) id .children)) childrenBytes r ⌝ }
 {
     let arity = store::arity(nodes, count, id) as usize;
     let mut longer = line;

@@ -19,12 +19,12 @@ use Rattle.store.specs.View.{plainNode, nodesIn}
 use Rattle.listing_lines.specs.declared.Outcome.{Outcome}
 use Rattle.listing_lines.specs.declared.Outcome.the-variants as O
 use Rattle.listing_lines.specs.Outcome.{firstLineOf}
-use Rattle.listing_reader.specs.declared.Answer.the-variants.{Read, Refused, Full}
+use Rattle.listing_reader.specs.declared.ListingAnswer.the-variants.{Read, Refused, Full}
 use Rattle.listing_reader.specs.declared.node.ListedNode.{ListedNode}
 use Rattle.listing_reader.specs.Numbers.{wordEnd, isDigit}
 use Rattle.listing_reader.specs.First.{SmallOutcome, FirstAt, NoFirst}
 use Rattle.listing_reader.specs.Line.{LineOf, NoLine, ReadsLine}
-use Rattle.listing_reader.specs.Listing.{Begins, AnswerListed, IsListing, Wrong, first, later, missing, OneMore, Reading}
+use Rattle.listing_reader.specs.Listing.{Begins, AnswerListed, IsListing, Wrong, first, later, missing, OneMore, ListingReading}
 use Rattle.listing_reader.proofs.Decimal.{starts-with-digit}
 use Rattle.listing_reader.proofs.Words.{feed-ends}
 use Rattle.listing_reader.proofs.FirstLines.{word-unique, lineBehind, ok-text, spent-text, empty-text, refused-text}
@@ -147,7 +147,7 @@ no-listing (missing o′ count b′ n) o w c b =
 -- ---- the answers
 
 module _ (bytes before after : List ℕ) (long : length after ≡ length before) where
-  pub reading-read : (o : Outcome) (count : ℕ) → IsListing bytes o after count → drop (count * nodeWords) after ≡ drop (count * nodeWords) before → Reading bytes before (Read o count) after
+  pub reading-read : (o : Outcome) (count : ℕ) → IsListing bytes o after count → drop (count * nodeWords) after ≡ drop (count * nodeWords) before → ListingReading bytes before (Read o count) after
   reading-read o count b past = record {
     right = λ p c e. let x : o ≡ p = cc in let y : count ≡ c = cc in subst (λ (k : ℕ). IsListing bytes p after k) y (subst (λ (q : Outcome). IsListing bytes q after count) x b);
     whole = λ p w c l f. let r = read-back (l .begins) (b .begins) in (ap₂ Read (r .0) (r .1 .0), r .1 .1);
@@ -158,7 +158,7 @@ module _ (bytes before after : List ℕ) (long : length after ≡ length before)
     long = long;
   }
 
-  pub reading-refused : (line : ℕ) → Wrong bytes after line → drop ((line - 2) * nodeWords) after ≡ drop ((line - 2) * nodeWords) before → Reading bytes before (Refused line) after
+  pub reading-refused : (line : ℕ) → Wrong bytes after line → drop ((line - 2) * nodeWords) after ≡ drop ((line - 2) * nodeWords) before → ListingReading bytes before (Refused line) after
   reading-refused line w past = record {
     right = λ p c e. absurd (let z : _≡_ {A = ℕ} 0 1 = cc in omega arith);
     whole = λ p words c l f. absurd (no-listing w p words c l);
@@ -169,7 +169,7 @@ module _ (bytes before after : List ℕ) (long : length after ≡ length before)
     long = long;
   }
 
-  pub reading-full : OneMore bytes after (length before / nodeWords) → drop (length before / nodeWords * nodeWords) after ≡ drop (length before / nodeWords * nodeWords) before → Reading bytes before Full after
+  pub reading-full : OneMore bytes after (length before / nodeWords) → drop (length before / nodeWords * nodeWords) after ≡ drop (length before / nodeWords * nodeWords) before → ListingReading bytes before Full after
   reading-full m past = record {
     right = λ p c e. absurd (let z : _≡_ {A = ℕ} 0 1 = cc in omega arith);
     whole = λ p words c l f. absurd (let k : length before / nodeWords < c = more-nodes (l .begins) (m .begins) (line-some (m .line)) .0 in omega arith);
@@ -202,7 +202,7 @@ lines-none before f = record {
 }
 
 module _ {bytes : List ℕ} {o : Outcome} {before after : List ℕ} {at count : ℕ} (d : LinesRead bytes o before after at count) where
-  wrong-next : Wrong bytes after (count + 2) → Reading bytes before (Refused (count + 2)) after
+  wrong-next : Wrong bytes after (count + 2) → ListingReading bytes before (Refused (count + 2)) after
   wrong-next w =
       let z : count ≡ count + 2 - 2 = omega arith in
       reading-refused bytes before after (d .long) (count + 2) w (subst (λ (k : ℕ). drop (k * nodeWords) after ≡ drop (k * nodeWords) before) z (d .past))
@@ -211,27 +211,27 @@ module _ {bytes : List ℕ} {o : Outcome} {before after : List ℕ} {at count : 
     all-begin : Begins bytes o after count []
     all-begin = subst (λ (x : List ℕ). Begins bytes o after count x) (drop-of-length-le bytes l) (d .begins)
 
-    pub lines-over : b ≡ true → Reading bytes before (Read o count) after
+    pub lines-over : b ≡ true → ListingReading bytes before (Read o count) after
     lines-over e = reading-read bytes before after (d .long) o count (record { begins = all-begin; answer = r .yes e }) (d .past)
 
-    pub line-missing : b ≡ false → Reading bytes before (Refused (count + 2)) after
+    pub line-missing : b ≡ false → ListingReading bytes before (Refused (count + 2)) after
     line-missing e = wrong-next (missing o count all-begin (r .no e))
 
   module _ (l : at < length bytes) where
     some-left : drop at bytes ≡ [] → ⊥
     some-left e = let z : _≡_ {A = ℕ} 0 1 = cc (drop-cons bytes at 0 l) in omega arith
 
-    wrong : (count < mostNodes → NoLine (drop at bytes) count) → Reading bytes before (Refused (count + 2)) after
+    wrong : (count < mostNodes → NoLine (drop at bytes) count) → ListingReading bytes before (Refused (count + 2)) after
     wrong h = wrong-next (later o count (drop at bytes) (d .begins) some-left h)
 
-    pub too-many : count ≡ mostNodes → Reading bytes before (Refused (count + 2)) after
+    pub too-many : count ≡ mostNodes → ListingReading bytes before (Refused (count + 2)) after
     too-many e = wrong (λ m. absurd (omega arith))
 
     module _ {q : ListedNode} (r : ReadsLine bytes at count q) where
-      pub wrong-line : q .found ≡ false → Reading bytes before (Refused (count + 2)) after
+      pub wrong-line : q .found ≡ false → ListingReading bytes before (Refused (count + 2)) after
       wrong-line e = wrong (λ m. r .nothing e (omega arith))
 
-      pub no-place : q .found ≡ true → (count ≡ mostNodes → ⊥) → length after / nodeWords ≤ count → Reading bytes before Full after
+      pub no-place : q .found ≡ true → (count ≡ mostNodes → ⊥) → length after / nodeWords ≤ count → ListingReading bytes before Full after
       no-place e n m =
           let f : count * nodeWords ≤ length after = d .begins .formed .fits in
           let g : length after ≡ length before = d .long in
@@ -278,5 +278,5 @@ module _ {bytes : List ℕ} {o : Outcome} {before after : List ℕ} {at count : 
   lines-next {q} r e n m p = subst (λ (x : List ℕ). LinesRead bytes o before x (q .next) (count + 1)) (sym p) (lines-one r e n m)
 
 -- no first line
-pub no-first : (bytes before : List ℕ) → NoFirst bytes → Reading bytes before (Refused 1) before
+pub no-first : (bytes before : List ℕ) → NoFirst bytes → ListingReading bytes before (Refused 1) before
 no-first bytes before h = reading-refused bytes before before refl 1 (first h) refl

@@ -14,11 +14,11 @@ use Rattle.store.specs.Memory.{Memory, model}
 use Rattle.listing_lines.specs.declared.Outcome.{Outcome}
 use Rattle.listing_lines.specs.Outcome.{outcomeOf}
 use Rattle.listing_lines.proofs.Lines.{first-line-is}
-use Rattle.listing_reader.specs.declared.Answer.{Answer}
-use Rattle.listing_reader.specs.declared.Answer.the-variants.{Read}
+use Rattle.listing_reader.specs.declared.ListingAnswer.{ListingAnswer}
+use Rattle.listing_reader.specs.declared.ListingAnswer.the-variants.{Read}
 use Rattle.listing_reader.specs.Numbers.{wordEnd}
 use Rattle.listing_reader.specs.First.{SmallOutcome}
-use Rattle.listing_reader.specs.Listing.{AnswerListed, IsListing, Reading}
+use Rattle.listing_reader.specs.Listing.{AnswerListed, IsListing, ListingReading}
 use Rattle.listing_reader.proofs.SheetAnswers.{answer-listed}
 
 module _ (ran : Ran) (words slots : List ℕ) (arena : DagArena) (sound : Sound words slots arena) (wide : (i : ℕ) → getD words i 0 < wordEnd) (same : nodesIn words (arena .count) ≡ ran .left .nodes) (small : SmallOutcome (outcomeOf (ran .refusal) (ran .answers))) (listed : AnswerListed (outcomeOf (ran .refusal) (ran .answers)) (arena .count)) where
@@ -36,7 +36,7 @@ module _ (ran : Ran) (words slots : List ℕ) (arena : DagArena) (sound : Sound 
   }
 
   -- so it is read back: its first line, its count of nodes, and every word of them
-  pub read-back : {before after : List ℕ} {r : Answer} → Reading (listing ran) before r after → arena .count * nodeWords ≤ length before → (r ≡ Read (outcomeOf (ran .refusal) (ran .answers)) (arena .count)) × (take (arena .count * nodeWords) after ≡ take (arena .count * nodeWords) words)
+  pub read-back : {before after : List ℕ} {r : ListingAnswer} → ListingReading (listing ran) before r after → arena .count * nodeWords ≤ length before → (r ≡ Read (outcomeOf (ran .refusal) (ran .answers)) (arena .count)) × (take (arena .count * nodeWords) after ≡ take (arena .count * nodeWords) words)
   read-back d fits = d .whole (outcomeOf (ran .refusal) (ran .answers)) words (arena .count) listing-is fits
 
 -- A sheet on a sound store answers one of the nodes that it leaves, so that its listing is read back.
@@ -48,6 +48,6 @@ module _ (m : Memory) (good : model .Sound m) (bytes : List ℕ) where
   said = outcomeOf (result .refusal) (result .answers)
 
   pub sheet-read-back : (words slots : List ℕ) (arena : DagArena) → Sound words slots arena → ((i : ℕ) → getD words i 0 < wordEnd) → nodesIn words (arena .count) ≡ result .left .nodes → SmallOutcome said
-      → {before after : List ℕ} {r : Answer} → Reading (listing result) before r after → arena .count * nodeWords ≤ length before
+      → {before after : List ℕ} {r : ListingAnswer} → ListingReading (listing result) before r after → arena .count * nodeWords ≤ length before
       → (r ≡ Read said (arena .count)) × (take (arena .count * nodeWords) after ≡ take (arena .count * nodeWords) words)
   sheet-read-back words slots arena sound wide same small d fits = read-back result words slots arena sound wide same small (answer-listed m bytes words (arena .count) good same) d fits

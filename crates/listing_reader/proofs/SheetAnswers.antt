@@ -22,7 +22,7 @@ use Rattle.definitions.specs.Chain.{Remains}
 use Rattle.definitions.specs.Machine.{Call, store, simplify, prune, pruneBySetting, Answer, stored, simplified, pruned, refused, Outcome, outcome, Request, requested, allBelow, storedAs, storeCall, walkedAs, simplifyCall, prunedAs, pruneChain, pruneAt, pruneCall, State, call, answers, run}
 use Rattle.definitions.specs.Sheet.{Ran, sheet}
 use Rattle.definitions.specs.Listing.{lastOf}
-use Rattle.definitions.specs.SheetCalls.{sheetCalls, Ends, whole, bySheet, byCall, AsCalls}
+use Rattle.definitions.specs.SheetCalls.{sheetCalls, SheetEnds, whole, bySheet, byCall, AsCalls}
 use Rattle.definitions.proofs.Stable.{Lower}
 use Rattle.definitions.proofs.Intern.{Sound, Result}
 use Rattle.definitions.proofs.Patterns.{and-true}
@@ -158,7 +158,7 @@ calls-listed l s (c ∷ cs) h =
 as-calls-listed : (l : Lent) (s : State) (cs : List Call) (r : Ran) → Sound (s .nodes) → AsCalls l [] s cs r → AnswerListed (outcomeOf (r .refusal) (r .answers)) (length (r .left .nodes))
 as-calls-listed l s cs r h d = go (r .refusal) (d .last) (d .ends) (d .same-answers)
   where
-    go : (o : Option (ℕ × ℕ)) (last : List Answer) → Ends (r .answers) o last → answers l s cs ≡ r .answers ++ last → AnswerListed (outcomeOf o (r .answers)) (length (r .left .nodes))
+    go : (o : Option (ℕ × ℕ)) (last : List Answer) → SheetEnds (r .answers) o last → answers l s cs ≡ r .answers ++ last → AnswerListed (outcomeOf o (r .answers)) (length (r .left .nodes))
     go none [] whole e =
         subst (λ (x : State). AnswerListed (outcomeOf none (r .answers)) (length (x .nodes))) (sym (d .same-state))
         (subst (λ (al : List Answer). AnswerListed (outcomeOf none al) (length (run l s cs .nodes))) (e ∙ append-nil (r .answers)) (calls-listed l s cs h))

@@ -12,8 +12,8 @@ use Rattle.store.specs.View.{nodesIn}
 use Rattle.listing_lines.specs.declared.Outcome.{Outcome}
 use Rattle.listing_lines.specs.declared.Outcome.the-variants.{Ok, Empty, Spent, Refused as RefusedAt}
 use Rattle.listing_lines.specs.Outcome.{firstLineOf}
-use Rattle.listing_reader.specs.declared.Answer.{Answer}
-use Rattle.listing_reader.specs.declared.Answer.the-variants.{Read, Refused, Full}
+use Rattle.listing_reader.specs.declared.ListingAnswer.{ListingAnswer}
+use Rattle.listing_reader.specs.declared.ListingAnswer.the-variants.{Read, Refused, Full}
 use Rattle.listing_reader.specs.Numbers.{wordEnd}
 use Rattle.listing_reader.specs.First.{SmallOutcome, NoFirst}
 use Rattle.listing_reader.specs.Line.{LineOf, NoLine}
@@ -57,7 +57,7 @@ pub record OneMore (bytes words : List ℕ) (count : ℕ) : Type 0 where
   pub line : LineOf rest count node after
 
 -- how many nodes are written
-abbrev pub written : ℕ → Answer → ℕ
+abbrev pub written : ℕ → ListingAnswer → ℕ
 written lent (Read o count) = count
 written lent (Refused line) = line - 2
 written lent Full = lent
@@ -66,7 +66,7 @@ written lent Full = lent
 -- nodes, if there is place for them (`whole`), and else answered with `Full` (`short`). Bytes that are no listing in the sense of
 -- `IsListing` are refused with the number of the first line that is wrong (`refused`), unless more nodes stand before it than there is
 -- place for (`full`): never, if 65,536 nodes have place. Words past the nodes stay (`past`).
-pub record Reading (bytes before : List ℕ) (r : Answer) (after : List ℕ) : Type 0 where
+pub record ListingReading (bytes before : List ℕ) (r : ListingAnswer) (after : List ℕ) : Type 0 where
   pub right : (o : Outcome) (count : ℕ) → r ≡ Read o count → IsListing bytes o after count
   pub whole : (o : Outcome) (words : List ℕ) (count : ℕ) → IsListing bytes o words count → count * nodeWords ≤ length before → (r ≡ Read o count) × (take (count * nodeWords) after ≡ take (count * nodeWords) words)
   pub short : (o : Outcome) (words : List ℕ) (count : ℕ) → IsListing bytes o words count → length before < count * nodeWords → r ≡ Full

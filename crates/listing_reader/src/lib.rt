@@ -1,4 +1,4 @@
-// Reading a listing's bytes back into nodes (01, "sheets and the listing"). Nodes are written as a store keeps them, ten
+// ListingReading a listing's bytes back into nodes (01, "sheets and the listing"). Nodes are written as a store keeps them, ten
 // words each, with their hashes and coefficients.
 mod first;
 mod node;
@@ -6,7 +6,7 @@ mod number;
 mod word;
 
 ghost use Rattle.definitions.specs.Says.{Says};
-ghost use Rattle.listing_reader.specs.Listing.{AnswerListed, Reading};
+ghost use Rattle.listing_reader.specs.Listing.{AnswerListed, ListingReading};
 ghost use Rattle.listing_reader.specs.First.{FirstAt};
 use arena::MOST_NODES;
 use arena::NODE_WORDS;
@@ -23,7 +23,7 @@ const FIRST_NODE_LINE: u64 = 2;
 
 // What reading a listing answers: its first line and how many nodes follow it, the number of the first line that is wrong,
 // or that the lent words are too few for the nodes.
-pub enum Answer {
+pub enum ListingAnswer {
     Read { outcome: Outcome, count: u64 },
     Refused(u64),
     Full,
@@ -43,22 +43,22 @@ fn is_answer_listed(outcome: Outcome, count: u64) -> bool
 }
 
 // The lines of nodes from a place on, written into the lent words.
-fn node_lines(bytes: &[u8], start: usize, outcome: Outcome, nodes: &mut [u64]) -> Answer
+fn node_lines(bytes: &[u8], start: usize, outcome: Outcome, nodes: &mut [u64]) -> ListingAnswer
     requires { ⌜ FirstAt (now bytes) outcome start ⌝ }
-    ensures { λ r. ⌜ Reading (now (bytes .entry)) (now (nodes .entry)) r (now (nodes .exit)) ⌝ }
+    ensures { λ r. ⌜ ListingReading (now (bytes .entry)) (now (nodes .entry)) r (now (nodes .exit)) ⌝ }
 {
     let mut at = start;
     let mut count: u64 = 0;
     while at < bytes.len() {
         if count == MOST_NODES {
-            return Answer::Refused(count + FIRST_NODE_LINE);
+            return ListingAnswer::Refused(count + FIRST_NODE_LINE);
         }
         let line = node_line(bytes, at, count);
         if !line.found {
-            return Answer::Refused(count + FIRST_NODE_LINE);
+            return ListingAnswer::Refused(count + FIRST_NODE_LINE);
         }
         if nodes.len() / NODE_WORDS <= count as usize {
-            return Answer::Full;
+            return ListingAnswer::Full;
         }
         let node = line.node;
         store_node(nodes, count, node);
@@ -66,18 +66,18 @@ fn node_lines(bytes: &[u8], start: usize, outcome: Outcome, nodes: &mut [u64]) -
         count += 1;
     }
     if !is_answer_listed(outcome, count) {
-        return Answer::Refused(count + FIRST_NODE_LINE);
+        return ListingAnswer::Refused(count + FIRST_NODE_LINE);
     }
-    Answer::Read { outcome, count }
+    ListingAnswer::Read { outcome, count }
 }
 
 // Reads a listing into the lent words.
-pub fn read(bytes: &[u8], nodes: &mut [u64]) -> Answer
-    ensures { λ r. ⌜ Reading (now (bytes .entry)) (now (nodes .entry)) r (now (nodes .exit)) ⌝ }
+pub fn read(bytes: &[u8], nodes: &mut [u64]) -> ListingAnswer
+    ensures { λ r. ⌜ ListingReading (now (bytes .entry)) (now (nodes .entry)) r (now (nodes .exit)) ⌝ }
 {
     let first = first_line(bytes);
     let First::Found { outcome, next } = first else {
-        return Answer::Refused(FIRST_LINE);
+        return ListingAnswer::Refused(FIRST_LINE);
     };
     node_lines(bytes, next, outcome, nodes)
 }

@@ -8,7 +8,7 @@ use arena::NODE_WORDS;
 use arena::PAYLOAD;
 use libc::STDOUT_FILENO;
 use listing_lines::Outcome;
-use listing_reader::Answer;
+use listing_reader::ListingAnswer;
 
 // Words for four nodes.
 const MOST_WORDS: usize = 4 * NODE_WORDS;
@@ -70,7 +70,7 @@ fn show(bytes: &[u8]) {
     let mut nodes = [7u64; MOST_WORDS];
     let answer = listing_reader::read(bytes, &mut nodes);
     match answer {
-        Answer::Read { outcome, count } => {
+        ListingAnswer::Read { outcome, count } => {
             print_outcome(outcome);
             io::write_all(STDOUT_FILENO, b", nodes");
             print_number(count);
@@ -80,12 +80,12 @@ fn show(bytes: &[u8]) {
             print_node(&nodes, 2 * NODE_WORDS);
             print_node(&nodes, 3 * NODE_WORDS);
         }
-        Answer::Refused(line) => {
+        ListingAnswer::Refused(line) => {
             io::write_all(STDOUT_FILENO, b"line");
             print_number(line);
             io::write_all(STDOUT_FILENO, b"\n");
         }
-        Answer::Full => {
+        ListingAnswer::Full => {
             io::write_all(STDOUT_FILENO, b"full\n");
         }
     }

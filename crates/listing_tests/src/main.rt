@@ -4,9 +4,9 @@ use arena::DagArena;
 use arena::NODE_WORDS;
 use builder::FreshStore;
 use libc::STDOUT_FILENO;
-use listing_lines::Found;
 use listing_lines::LINE_BYTES;
 use listing_lines::Line;
+use listing_lines::LineFound;
 use listing_lines::Outcome;
 use listing_lines::first_line;
 
@@ -51,11 +51,11 @@ fn print_node(nodes: &[u64], slots: &[u32], arena: DagArena, id: u32) {
     let asked = listing_lines::node_line(nodes, slots, arena, id);
     let answer = asked.answer;
     match answer {
-        Found::Line => {
+        LineFound::Line => {
             let line = asked.line;
             print_line(line);
         }
-        Found::Refused(number) => {
+        LineFound::Refused(number) => {
             io::print_decimal(STDOUT_FILENO, number);
             io::write_all(STDOUT_FILENO, b"\n");
         }

@@ -8,7 +8,7 @@ use borrow.Author.Count.{below-more}
 use Rattle.definitions.specs.Names.{mostNames}
 use Rattle.definitions.specs.Says.{Says}
 use Rattle.names.specs.Entry.{entryAt, SoundEntry, IsEntry}
-use Rattle.names.specs.Sound.{Sound, EntriesSound, NoNameTwice, lentEntries}
+use Rattle.names.specs.Sound.{SoundNames, EntriesSound, NoNameTwice, lentEntries}
 use Rattle.definitions.proofs.Deciding.{says-no, says-map}
 
 module _ (bytes : List ℕ) (i : ℕ) (e : List ℕ) (r : Bool) (at : IsEntry bytes i e) (s : Says r (SoundEntry e)) where
@@ -20,14 +20,14 @@ module _ (bytes : List ℕ) (i : ℕ) (e : List ℕ) (r : Bool) (at : IsEntry by
 
 -- the parts of a sound list, tested one after the other
 module _ (bytes : List ℕ) (count : ℕ) where
-  pub many-no : mostNames < count → Says false (Sound bytes count)
+  pub many-no : mostNames < count → Says false (SoundNames bytes count)
   many-no l = says-no (λ s. let m = s .many in omega arith)
 
-  pub lent-no : lentEntries bytes < count → Says false (Sound bytes count)
+  pub lent-no : lentEntries bytes < count → Says false (SoundNames bytes count)
   lent-no l = says-no (λ s. let m = s .lent in omega arith)
 
-  pub entries-no : (r : Bool) → Says r (EntriesSound bytes count) → r ≡ false → Says false (Sound bytes count)
+  pub entries-no : (r : Bool) → Says r (EntriesSound bytes count) → r ≡ false → Says false (SoundNames bytes count)
   entries-no r s f = says-no (λ x. s .no f (x .entries))
 
-  pub all-parts : (r : Bool) → count ≤ mostNames → count ≤ lentEntries bytes → EntriesSound bytes count → Says r (NoNameTwice bytes count) → Says r (Sound bytes count)
+  pub all-parts : (r : Bool) → count ≤ mostNames → count ≤ lentEntries bytes → EntriesSound bytes count → Says r (NoNameTwice bytes count) → Says r (SoundNames bytes count)
   all-parts r many lent entries s = says-map r (λ once. record { many = many; lent = lent; entries = entries; once = once }) (λ x. x .once) s

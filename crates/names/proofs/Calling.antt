@@ -11,13 +11,13 @@ use native.Mathlib.Decide.{decLe}
 use borrow.Author.Tests.{lt-ltb, le-ltb, le-leb, lt-leb}
 use Rattle.definitions.specs.Refusals.{badNameLength, notSound, noNamePlace}
 use Rattle.definitions.specs.Names.{NameCall, internName, lookupName, nameOf, NameAnswer, numbered, unknown, named, refused, NameResult, answers, nameCall, numberFrom, lengthAllowed, mostNames, shortestName, longestName, entryBytes}
-use Rattle.names.specs.declared.Answer.the-variants.{Unknown, Named, Refused}
+use Rattle.names.specs.declared.NameReply.the-variants.{Unknown, Named, Refused}
 use Rattle.names.specs.declared.NameBytes.{NameBytes}
-use Rattle.names.specs.declared.Found.{Found}
-use Rattle.names.specs.declared.Found.the-variants.{At, Nothing}
+use Rattle.names.specs.declared.EntryFound.{EntryFound}
+use Rattle.names.specs.declared.EntryFound.the-variants.{At, Nothing}
 use Rattle.names.specs.Entry.{nameIn, entryOf, putEntry, SoundEntry, IsEntry, IsEntryOf, IsByte}
-use Rattle.names.specs.Sound.{Sound, namesOf, nameAt, lentEntries}
-use Rattle.names.specs.Calls.{Allowed, Finds, FoundAt, plainly, namesLeftBy, bytesBeside, nameBytesOf, NameCalled, CallClauses}
+use Rattle.names.specs.Sound.{SoundNames, namesOf, nameAt, lentEntries}
+use Rattle.names.specs.Calls.{Allowed, FindsEntry, FoundAt, plainly, namesLeftBy, bytesBeside, nameBytesOf, NameCalled, CallClauses}
 use Rattle.names.specs.Memory.{nameMemory}
 use Rattle.names.proofs.Entries.{entry-of-length, sound-entry, name-length}
 use Rattle.names.proofs.Finding.{NotBelow}
@@ -25,7 +25,7 @@ use Rattle.names.proofs.Listing.{number-found, number-none, names-lengt
 use Rattle.names.proofs.Storing.{holds, held, names-more, sound-more, put-length, put-past}
 
 -- a list that is not sound
-pub called-unsound : (bytes : List ℕ) (count : ℕ) (call : NameCall) → (Sound bytes count → ⊥) → CallClauses bytes count call (refused notSound) bytes count
+pub called-unsound : (bytes : List ℕ) (count : ℕ) (call : NameCall) → (SoundNames bytes count → ⊥) → CallClauses bytes count call (refused notSound) bytes count
 called-unsound bytes count call n = record {
   unsound = λ _. refl;
   answered = λ s. absurd (n s);
@@ -36,7 +36,7 @@ called-unsound bytes count call n = record {
   refusal = λ r e. (refl, refl);
 }
 
-module _ (bytes : List ℕ) (count : ℕ) (sound : Sound bytes count) where
+module _ (bytes : List ℕ) (count : ℕ) (sound : SoundNames bytes count) where
   -- a call that leaves the names as they are
   pub called-same : (call : NameCall) (answer : NameAnswer) → plainly bytes count call ≡ answers answer (namesOf bytes count) → CallClauses bytes count call answer bytes count
   called-same call answer e = record {
@@ -125,43 +125,43 @@ module _ (bytes : List ℕ) (count : ℕ) (sound : Sound bytes count) where
   name-known n l = called-same (nameOf n) (named (nameAt bytes n)) (rw (names-length bytes count, lt-ltb n count l, names-at bytes count n l) refl)
 
 -- what a search for a name's entry found, by its answer
-module _ (bytes : List ℕ) (count : ℕ) (name key : List ℕ) (r : Found) (of : IsEntryOf name key) (h : Finds bytes count key r) where
+module _ (bytes : List ℕ) (count : ℕ) (name key : List ℕ) (r : EntryFound) (of : IsEntryOf name key) (h : FindsEntry bytes count key r) where
   pub is-found : (i : ℕ) → r ≡ At i → FoundAt bytes count (entryOf name) i
-  unfolding Finds
-  is-found i e = subst (λ (k : List ℕ). FoundAt bytes count k i) (of .is) (subst (Finds bytes count key) e h)
+  unfolding FindsEntry
+  is-found i e = subst (λ (k : List ℕ). FoundAt bytes count k i) (of .is) (subst (FindsEntry bytes count key) e h)
 
   pub is-nothing : r ≡ Nothing → NotBelow bytes (entryOf name) count
-  unfolding Finds
-  is-nothing e = subst (λ (k : List ℕ). NotBelow bytes k count) (of .is) (subst (Finds bytes count key) e h)
+  unfolding FindsEntry
+  is-nothing e = subst (λ (k : List ℕ). NotBelow bytes k count) (of .is) (subst (FindsEntry bytes count key) e h)
 
 -- a new name's entry was written
-pub intern-put : (bytes : List ℕ) (count : ℕ) → Sound bytes count → (name key after : List ℕ) → Allowed (length name) → IsEntryOf name key → NotBelow bytes (entryOf name) count → count < mostNames → count < lentEntries bytes → after ≡ putEntry bytes count key → CallClauses bytes count (internName name) (numbered count) after (count + 1)
+pub intern-put : (bytes : List ℕ) (count : ℕ) → SoundNames bytes count → (name key after : List ℕ) → Allowed (length name) → IsEntryOf name key → NotBelow bytes (entryOf name) count → count < mostNames → count < lentEntries bytes → after ≡ putEntry bytes count key → CallClauses bytes count (internName name) (numbered count) after (count + 1)
 intern-put bytes count sound name key after allowed of n many lent e =
     subst (λ (l : List ℕ). CallClauses bytes count (internName name) (numbered count) l (count + 1))
     (sym (e ∙ ap (putEntry bytes count) (of .is)))
     (intern-new bytes count sound name allowed n many lent)
 
 -- the answers to a call for a name
-pub name-called-unsound : (bytes : List ℕ) (count number : ℕ) → (Sound bytes count → ⊥) → NameCalled bytes count number (record { answer = Refused notSound; bytes = replicate longestName 0 })
+pub name-called-unsound : (bytes : List ℕ) (count number : ℕ) → (SoundNames bytes count → ⊥) → NameCalled bytes count number (record { answer = Refused notSound; bytes = replicate longestName 0 })
 name-called-unsound bytes count number n = record { equation = by }
   where
-    by : (d : Dec (Sound bytes count)) → record { answer = Refused notSound; bytes = replicate longestName 0 } ≡ nameBytesOf (namesLeftBy (nameOf number) (nameMemory bytes count) d .answer)
+    by : (d : Dec (SoundNames bytes count)) → record { answer = Refused notSound; bytes = replicate longestName 0 } ≡ nameBytesOf (namesLeftBy (nameOf number) (nameMemory bytes count) d .answer)
     by (yes s) = absurd (n s)
     by (no _) = refl
 
 -- an answer of the plain registry, with its bytes
-name-called-as : (bytes : List ℕ) (count number : ℕ) (r : NameBytes) (a : NameAnswer) → Sound bytes count → CallClauses bytes count (nameOf number) a bytes count → r ≡ nameBytesOf a
+name-called-as : (bytes : List ℕ) (count number : ℕ) (r : NameBytes) (a : NameAnswer) → SoundNames bytes count → CallClauses bytes count (nameOf number) a bytes count → r ≡ nameBytesOf a
     → NameCalled bytes count number r
 name-called-as bytes count number r a s c e = record { equation = by }
   where
-    by : (d : Dec (Sound bytes count)) → r ≡ nameBytesOf (namesLeftBy (nameOf number) (nameMemory bytes count) d .answer)
+    by : (d : Dec (SoundNames bytes count)) → r ≡ nameBytesOf (namesLeftBy (nameOf number) (nameMemory bytes count) d .answer)
     by (yes _) = e ∙ ap nameBytesOf (c .answered s)
     by (no n) = absurd (n s)
 
-pub name-called-unknown : (bytes : List ℕ) (count number : ℕ) → Sound bytes count → count ≤ number → NameCalled bytes count number (record { answer = Unknown; bytes = replicate longestName 0 })
+pub name-called-unknown : (bytes : List ℕ) (count number : ℕ) → SoundNames bytes count → count ≤ number → NameCalled bytes count number (record { answer = Unknown; bytes = replicate longestName 0 })
 name-called-unknown bytes count number s l = name-called-as bytes count number _ unknown s (name-unknown bytes count s number l) refl
 
-pub name-called-known : (bytes : List ℕ) (count number : ℕ) → Sound bytes count → number < count → (e held : List ℕ) (n : ℕ) → IsEntry bytes number e → IsByte (getD e 0 0) n → held ≡ drop 1 e → NameCalled bytes count number (record { answer = Named n; bytes = held })
+pub name-called-known : (bytes : List ℕ) (count number : ℕ) → SoundNames bytes count → number < count → (e held : List ℕ) (n : ℕ) → IsEntry bytes number e → IsByte (getD e 0 0) n → held ≡ drop 1 e → NameCalled bytes count number (record { answer = Named n; bytes = held })
 name-called-known bytes count number s l e held n at size out =
     let sound : SoundEntry e = subst SoundEntry (sym (at .is)) (s .entries number l) in
     let long : n ≡ length (nameAt bytes number) = size .is ∙ sym (name-length e (at .size) (sound .longest)) ∙ ap (λ (x : List ℕ). length (nameIn x)) (at .is) in

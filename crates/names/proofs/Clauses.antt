@@ -9,13 +9,13 @@ use native.Mathlib.Decide.{ℕ-discrete, decLt, decLe}
 use borrow.Author.Count.{below-more}
 use Rattle.definitions.specs.Refusals.{notSound}
 use Rattle.definitions.specs.Names.{NameCall, internName, lookupName, nameOf, NameAnswer, numbered, unknown, named, refused, longestName, shortestName, entryBytes, mostNames}
-use Rattle.names.specs.declared.Answer.{Answer}
-use Rattle.names.specs.declared.Answer.the-variants.{Numbered, Unknown, Named, Refused}
+use Rattle.names.specs.declared.NameReply.{NameReply}
+use Rattle.names.specs.declared.NameReply.the-variants.{Numbered, Unknown, Named, Refused}
 use Rattle.names.specs.declared.NameBytes.{NameBytes}
 use Rattle.names.specs.Entry.{entryAt, entryOf, putEntry}
-use Rattle.names.specs.Sound.{Sound, nameAt, lentEntries}
+use Rattle.names.specs.Sound.{SoundNames, nameAt, lentEntries}
 use Rattle.names.specs.Memory.{nameMemory, NamesLeft, namesLeft}
-use Rattle.names.specs.Calls.{answerOf, Allowed, FoundAt, plainly, namesLeftBy, Called, bytesBeside, Fits, givenAs, nameBytesOf, NameCalled, CallClauses, EquationGivesClauses, NameEquationGivesClauses}
+use Rattle.names.specs.Calls.{answerOf, Allowed, FoundAt, plainly, namesLeftBy, NameListCalled, bytesBeside, LengthFits, givenAs, nameBytesOf, NameCalled, CallClauses, EquationGivesClauses, NameEquationGivesClauses}
 use Rattle.names.proofs.Entries.{entry-length, name-length}
 use Rattle.names.proofs.Finding.{NotBelow}
 use Rattle.names.proofs.Calling.{called-unsound, intern-known, intern-new, intern-full, intern-length, lookup-known, lookup-unknown, lookup-length, name-known, name-unknown}
@@ -51,7 +51,7 @@ allowed size = by (decLe shortestName size) (decLe size longestName)
     by (yes p) (no q) = no (λ a. q (a .longest))
     by (no p) q = no (λ a. p (a .shortest))
 
-module _ (bytes : List ℕ) (count : ℕ) (s : Sound bytes count) where
+module _ (bytes : List ℕ) (count : ℕ) (s : SoundNames bytes count) where
   intern-by : (name : List ℕ) → Dec (Allowed (length name)) → Done bytes count (internName name)
   intern-by name (no other) = done (intern-length bytes count s name other)
   intern-by name (yes a) = search bytes (entryOf name) count (λ i f. done (intern-known bytes count s name a i f)) (λ none. room none (decLt count mostNames) (decLt count (lentEntries bytes)))
@@ -83,14 +83,14 @@ module _ (bytes : List ℕ) (count : ℕ) (s : Sound bytes count) where
 
 -- ---- the equation gives the clauses
 
-module _ (bytes : List ℕ) (count : ℕ) (c : NameCall) (a : NameAnswer) (bytes′ : List ℕ) (count′ : ℕ) (k : Called bytes count c a bytes′ count′) where
+module _ (bytes : List ℕ) (count : ℕ) (c : NameCall) (a : NameAnswer) (bytes′ : List ℕ) (count′ : ℕ) (k : NameListCalled bytes count c a bytes′ count′) where
   clauses-as : (x : NamesLeft) → namesLeft a (nameMemory bytes′ count′) ≡ x → CallClauses bytes count c (x .answer) (x .memory .bytes) (x .memory .count) → CallClauses bytes count c a bytes′ count′
   clauses-as x e = subst (λ (y : NamesLeft). CallClauses bytes count c (y .answer) (y .memory .bytes) (y .memory .count)) (sym e)
 
-  of-sound : Sound bytes count → CallClauses bytes count c a bytes′ count′
+  of-sound : SoundNames bytes count → CallClauses bytes count c a bytes′ count′
   of-sound s = clauses-as _ (k .equation (yes s)) (plain-clauses bytes count s c)
 
-  of-other : (Sound bytes count → ⊥) → CallClauses bytes count c a bytes′ count′
+  of-other : (SoundNames bytes count → ⊥) → CallClauses bytes count c a bytes′ count′
   of-other n = clauses-as _ (k .equation (no n)) (called-unsound bytes count c n)
 
 pub equation-gives-clauses : EquationGivesClauses
@@ -111,7 +111,7 @@ equation-gives-clauses bytes count c a bytes′ count′ k =
     }
 
 -- as many bytes are lent after a call
-pub clauses-long : (bytes : List ℕ) (count : ℕ) (c : NameCall) (a : NameAnswer) (bytes′ : List ℕ) (count′ : ℕ) → Sound bytes count → CallClauses bytes count c a bytes′ count′ → length bytes′ ≡ length bytes
+pub clauses-long : (bytes : List ℕ) (count : ℕ) (c : NameCall) (a : NameAnswer) (bytes′ : List ℕ) (count′ : ℕ) → SoundNames bytes count → CallClauses bytes count c a bytes′ count′ → length bytes′ ≡ length bytes
 clauses-long bytes count c a bytes′ count′ s k =
     let lent = k .sound s .lent in
     let same = k .same-lent in
@@ -126,7 +126,7 @@ given-back unknown = refl
 given-back (named name) = ap named (take-at name _ (length name) refl)
 given-back (refused r) = refl
 
-fits-stable : (x : Answer) → ((Fits x → ⊥) → ⊥) → Fits x
+fits-stable : (x : NameReply) → ((LengthFits x → ⊥) → ⊥) → LengthFits x
 fits-stable (Numbered n) h = tt
 fits-stable Unknown h = tt
 fits-stable (Named n) h = by (decLe n longestName)
@@ -138,7 +138,7 @@ fits-stable (Refused r) h = tt
 
 module _ (bytes : List ℕ) (count number : ℕ) where
   -- on a sound list the names stay, and the name of a number has at most 32 bytes
-  module _ (s : Sound bytes count) where
+  module _ (s : SoundNames bytes count) where
     stay : nameMemory bytes count ≡ namesLeftBy (nameOf number) (nameMemory bytes count) (yes s) .memory
     stay = by (decLt number count)
       where
@@ -146,19 +146,19 @@ module _ (bytes : List ℕ) (count number : ℕ) where
         by (yes l) = ap (λ (x : NamesLeft). x .memory) (clauses-give-equation bytes count (nameOf number) _ bytes count (name-known bytes count s number l) .equation (yes s))
         by (no l) = ap (λ (x : NamesLeft). x .memory) (clauses-give-equation bytes count (nameOf number) _ bytes count (name-unknown bytes count s number (omega arith)) .equation (yes s))
 
-    short : Fits (givenAs (plainly bytes count (nameOf number) .answer))
+    short : LengthFits (givenAs (plainly bytes count (nameOf number) .answer))
     short = by (decLt number count)
       where
-        by : Dec (number < count) → Fits (givenAs (plainly bytes count (nameOf number) .answer))
+        by : Dec (number < count) → LengthFits (givenAs (plainly bytes count (nameOf number) .answer))
         by (yes l) =
             let m = s .lent in
             let e = s .entries number l .longest in
-            subst (λ (x : NameAnswer). Fits (givenAs x)) (name-known bytes count s number l .answered s)
+            subst (λ (x : NameAnswer). LengthFits (givenAs x)) (name-known bytes count s number l .answered s)
             (omega (arith, name-length (entryAt bytes number) (entry-length bytes number (omega arith)) e))
-        by (no l) = subst (λ (x : NameAnswer). Fits (givenAs x)) (name-unknown bytes count s number (omega arith) .answered s) tt
+        by (no l) = subst (λ (x : NameAnswer). LengthFits (givenAs x)) (name-unknown bytes count s number (omega arith) .answered s) tt
 
   module _ (r : NameBytes) (k : NameCalled bytes count number r) where
-    called-by : (d : Dec (Sound bytes count)) → namesLeft (answerOf (r .answer) (r .bytes)) (nameMemory bytes count) ≡ namesLeftBy (nameOf number) (nameMemory bytes count) d
+    called-by : (d : Dec (SoundNames bytes count)) → namesLeft (answerOf (r .answer) (r .bytes)) (nameMemory bytes count) ≡ namesLeftBy (nameOf number) (nameMemory bytes count) d
     called-by (yes s) =
         ap (λ (x : NameBytes). namesLeft (answerOf (x .answer) (x .bytes)) (nameMemory bytes count)) (k .equation (yes s))
         ∙ ap (λ (x : NameAnswer). namesLeft x (nameMemory bytes count)) (given-back (plainly bytes count (nameOf number) .answer))
@@ -168,11 +168,11 @@ module _ (bytes : List ℕ) (count number : ℕ) where
     beside-as : (x : NameAnswer) → r ≡ nameBytesOf x → r .bytes ≡ bytesBeside (answerOf (r .answer) (r .bytes))
     beside-as x e = subst (λ (y : NameBytes). y .bytes ≡ bytesBeside (answerOf (y .answer) (y .bytes))) (sym e) (ap bytesBeside (sym (given-back x)))
 
-    fits-by : Fits (r .answer)
-    fits-by = fits-stable (r .answer) (λ none. unfit none (λ s. none (subst (λ (y : NameBytes). Fits (y .answer)) (sym (k .equation (yes s))) (short s))))
+    fits-by : LengthFits (r .answer)
+    fits-by = fits-stable (r .answer) (λ none. unfit none (λ s. none (subst (λ (y : NameBytes). LengthFits (y .answer)) (sym (k .equation (yes s))) (short s))))
       where
-        unfit : (Fits (r .answer) → ⊥) → (Sound bytes count → ⊥) → ⊥
-        unfit none n = none (subst (λ (y : NameBytes). Fits (y .answer)) (sym (k .equation (no n))) tt)
+        unfit : (LengthFits (r .answer) → ⊥) → (SoundNames bytes count → ⊥) → ⊥
+        unfit none n = none (subst (λ (y : NameBytes). LengthFits (y .answer)) (sym (k .equation (no n))) tt)
 
 pub name-equation-gives-clauses : NameEquationGivesClauses
 name-equation-gives-clauses bytes count number r k = record {

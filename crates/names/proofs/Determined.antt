@@ -11,8 +11,8 @@ use native.Mathlib.Omega.{arith}
 use Rattle.definitions.specs.Refusals.{notSound}
 use Rattle.definitions.specs.Names.{NameCall, NameAnswer, numbered, unknown, named, refused, entryBytes}
 use Rattle.names.specs.Entry.{entryAt, entryOf}
-use Rattle.names.specs.Sound.{Sound, namesOf, nameAt}
-use Rattle.names.specs.Calls.{namesLeftBy, Called, CallClauses, ClausesGiveEquation, NamesOneWay}
+use Rattle.names.specs.Sound.{SoundNames, namesOf, nameAt}
+use Rattle.names.specs.Calls.{namesLeftBy, NameListCalled, CallClauses, ClausesGiveEquation, NamesOneWay}
 use Rattle.names.specs.Memory.{NameMemory, nameMemory, namesBytes, namesAfter, NamesLeft, namesLeft}
 use Rattle.names.proofs.Entries.{entry-length, sound-entry}
 use Rattle.names.proofs.Listing.{names-length}
@@ -25,7 +25,7 @@ bytes-append [] name = append-nil (entryOf name)
 bytes-append (n ∷ names) name = ap (λ (l : List ℕ). entryOf n ++ l) (bytes-append names name) ∙ sym (append-assoc (entryOf n) (namesBytes names) (entryOf name))
 
 -- the bytes in use
-module _ (bytes : List ℕ) (count : ℕ) (s : Sound bytes count) where
+module _ (bytes : List ℕ) (count : ℕ) (s : SoundNames bytes count) where
   used : (n : ℕ) → n ≤ count → take (n * entryBytes) bytes ≡ namesBytes (namesOf bytes n)
   unfolding namesBytes namesOf
   used zero l = refl
@@ -41,7 +41,7 @@ module _ (bytes : List ℕ) (count : ℕ) (s : Sound bytes count) where
   bytes-are = sym (take-append-drop (count * entryBytes) bytes) ∙ ap (λ (l : List ℕ). l ++ drop (count * entryBytes) bytes) (used count (omega arith))
 
 -- a sound memory is the one that its names give over any with its bytes past those in use
-pub names-are : (m m′ : NameMemory) → Sound (m′ .bytes) (m′ .count) → drop (m′ .count * entryBytes) (m′ .bytes) ≡ drop (m′ .count * entryBytes) (m .bytes)
+pub names-are : (m m′ : NameMemory) → SoundNames (m′ .bytes) (m′ .count) → drop (m′ .count * entryBytes) (m′ .bytes) ≡ drop (m′ .count * entryBytes) (m .bytes)
     → m′ ≡ namesAfter m (namesOf (m′ .bytes) (m′ .count))
 names-are m m′ s past =
     let names = namesOf (m′ .bytes) (m′ .count) in
@@ -53,7 +53,7 @@ names-are m m′ s past =
 -- ---- the equation
 
 module _ (bytes : List ℕ) (count : ℕ) (c : NameCall) (a : NameAnswer) (bytes′ : List ℕ) (count′ : ℕ) (k : CallClauses bytes count c a bytes′ count′) where
-  left-by : (d : Dec (Sound bytes count)) → namesLeft a (nameMemory bytes′ count′) ≡ namesLeftBy c (nameMemory bytes count) d
+  left-by : (d : Dec (SoundNames bytes count)) → namesLeft a (nameMemory bytes′ count′) ≡ namesLeftBy c (nameMemory bytes count) d
   left-by (yes h) = ap₂ namesLeft (k .answered h) (names-are (nameMemory bytes count) (nameMemory bytes′ count′) (k .sound h) (k .past) ∙ ap (namesAfter (nameMemory bytes count)) (k .names h))
   left-by (no n) =
       let answer = k .unsound n in
@@ -88,8 +88,8 @@ back unknown = refl
 back (named name) = refl
 back (refused r) = refl
 
-module _ (c : NameCall) (m m′ m″ : NameMemory) (a b : NameAnswer) (k : Called (m .bytes) (m .count) c a (m′ .bytes) (m′ .count)) (l : Called (m .bytes) (m .count) c b (m″ .bytes) (m″ .count)) where
-  same : Dec (Sound (m .bytes) (m .count)) → namesLeft a m′ ≡ namesLeft b m″
+module _ (c : NameCall) (m m′ m″ : NameMemory) (a b : NameAnswer) (k : NameListCalled (m .bytes) (m .count) c a (m′ .bytes) (m′ .count)) (l : NameListCalled (m .bytes) (m .count) c b (m″ .bytes) (m″ .count)) where
+  same : Dec (SoundNames (m .bytes) (m .count)) → namesLeft a m′ ≡ namesLeft b m″
   same d = k .equation d ∙ sym (l .equation d)
 
   -- a list of numbers that is read off both

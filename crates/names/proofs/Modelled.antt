@@ -6,12 +6,12 @@ use native.Mathlib.Omega.{arith}
 use Rattle.definitions.specs.Refusals.{notSound}
 use Rattle.definitions.specs.Names.{NameCall, NameAnswer}
 use Rattle.definitions.specs.Beside.{NamesCalled, FreshNames}
-use Rattle.names.specs.Sound.{Sound, namesOf}
-use Rattle.names.specs.Calls.{Called}
+use Rattle.names.specs.Sound.{SoundNames, namesOf}
+use Rattle.names.specs.Calls.{NameListCalled}
 use Rattle.names.specs.Memory.{nameMemory, nameModel}
 use Rattle.names.proofs.Clauses.{equation-gives-clauses}
 
-pub names-called : (c : NameCall) (bytes : List ℕ) (count : ℕ) (a : NameAnswer) (bytes′ : List ℕ) (count′ : ℕ) → Called bytes count c a bytes′ count′
+pub names-called : (c : NameCall) (bytes : List ℕ) (count : ℕ) (a : NameAnswer) (bytes′ : List ℕ) (count′ : ℕ) → NameListCalled bytes count c a bytes′ count′
     → NamesCalled nameModel c (nameMemory bytes count) a (nameMemory bytes′ count′)
 names-called c bytes count a bytes′ count′ h =
     let clauses = equation-gives-clauses bytes count c a bytes′ count′ h in

@@ -10,7 +10,7 @@ use native.Mathlib.Decide.{decLt}
 use borrow.Author.Count.{below-more}
 use Rattle.definitions.specs.Names.{entryBytes, mostNames}
 use Rattle.names.specs.Entry.{entryAt, nameIn, entryOf, putEntry, SoundEntry}
-use Rattle.names.specs.Sound.{Sound, namesOf, nameAt, lentEntries}
+use Rattle.names.specs.Sound.{SoundNames, namesOf, nameAt, lentEntries}
 use Rattle.names.specs.Calls.{Allowed}
 use Rattle.names.proofs.Entries.{entry-length, sound-entry, name-of-entry, entry-of-sound, entry-of-length}
 use Rattle.names.proofs.Finding.{NotBelow}
@@ -53,7 +53,7 @@ module _ (bytes : List ℕ) (count : ℕ) (key : List ℕ) (fits : count * entry
       drop-at (front ++ key) (drop (count * entryBytes + entryBytes) bytes) ((count + 1) * entryBytes) (rw length-append (omega (arith, front-length)))
       ∙ ap (λ (n : ℕ). drop n bytes) (let e : count * entryBytes + entryBytes ≡ (count + 1) * entryBytes = omega arith in e)
 
-module _ (bytes : List ℕ) (count : ℕ) (name : List ℕ) (sound : Sound bytes count) (allowed : Allowed (length name)) where
+module _ (bytes : List ℕ) (count : ℕ) (name : List ℕ) (sound : SoundNames bytes count) (allowed : Allowed (length name)) where
   -- an entry is that of a name exactly if it holds the name
   pub holds : (i : ℕ) → i < count → nameAt bytes i ≡ name → entryAt bytes i ≡ entryOf name
   holds i l e =
@@ -82,7 +82,7 @@ module _ (bytes : List ℕ) (count : ℕ) (name : List ℕ) (sound : Sound bytes
     unfolding after namesOf
     names-more = rw (add-one count, names-agree after bytes count old, new) refl
 
-    pub sound-more : Sound (putEntry bytes count (entryOf name)) (count + 1)
+    pub sound-more : SoundNames (putEntry bytes count (entryOf name)) (count + 1)
     unfolding after
     sound-more = record {
       many = omega arith;

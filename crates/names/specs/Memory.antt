@@ -5,7 +5,7 @@ use lib.ListN.{length, drop}
 use Rattle.definitions.specs.Names.{NameAnswer, entryBytes}
 use Rattle.definitions.specs.Beside.{NameModel}
 use Rattle.names.specs.Entry.{entryOf}
-use Rattle.names.specs.Sound.{Sound, namesOf, lentEntries}
+use Rattle.names.specs.Sound.{SoundNames, namesOf, lentEntries}
 
 -- the lent bytes, with the count
 pub record NameMemory : Type 0 where
@@ -19,7 +19,7 @@ nameMemory bytes count = record { bytes = bytes; count = count }
 abbrev pub nameModel : NameModel
 nameModel = record {
   Memory = NameMemory;
-  Sound = λ m. Sound (m .bytes) (m .count);
+  Sound = λ m. SoundNames (m .bytes) (m .count);
   view = λ m. namesOf (m .bytes) (m .count);
   lent = λ m. lentEntries (m .bytes);
 }

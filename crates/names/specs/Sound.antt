@@ -26,7 +26,7 @@ abbrev pub NoNameTwice : List ℕ → ℕ → Type 0
 NoNameTwice bytes count = (i j : ℕ) → i < count → j < count → nameAt bytes i ≡ nameAt bytes j → i ≡ j
 
 -- refusal 20 of a name list: "not sound as above, or a name count over the lent entries or over 4,096"
-pub record Sound (bytes : List ℕ) (count : ℕ) : Type 0 where
+pub record SoundNames (bytes : List ℕ) (count : ℕ) : Type 0 where
   pub many : count ≤ mostNames
   pub lent : count ≤ lentEntries bytes
   pub entries : EntriesSound bytes count

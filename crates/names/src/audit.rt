@@ -5,7 +5,7 @@ ghost use Prim.Native.Nat.{_*_, _≤_};
 ghost use lib.ListN.{length};
 ghost use Rattle.definitions.specs.Names.{entryBytes, mostNames};
 ghost use Rattle.definitions.specs.Says.{Says};
-ghost use Rattle.names.specs.Sound.{Sound, EntriesSound, NoNameTwice};
+ghost use Rattle.names.specs.Sound.{SoundNames, EntriesSound, NoNameTwice};
 ghost use Rattle.names.specs.Buckets.{Chained, StandsBefore};
 
 pub(crate) const MOST_NAMES: usize = 4096;
@@ -74,7 +74,7 @@ fn no_name_twice(entries: &[u8], count: usize) -> bool
 
 // Whether a name list is sound. No memory is lent for this: the buckets take 16 KB of the stack.
 pub(crate) fn audit(entries: &[u8], count: usize) -> bool
-    ensures { λ r. ⌜ Says r (Sound (now (entries .entry)) count) ⌝ }
+    ensures { λ r. ⌜ Says r (SoundNames (now (entries .entry)) count) ⌝ }
 {
     if MOST_NAMES < count {
         return false;

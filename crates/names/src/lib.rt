@@ -8,14 +8,14 @@ ghost use Prim.Native.Nat.{_*_, _≤_};
 ghost use lib.ListN.{length};
 ghost use Rattle.definitions.specs.Names.{entryBytes, internName, lookupName};
 ghost use Rattle.definitions.specs.Says.{Says};
-ghost use Rattle.names.specs.Sound.{Sound};
-ghost use Rattle.names.specs.Calls.{answerOf, Allowed, Finds, Called, NameCalled};
+ghost use Rattle.names.specs.Sound.{SoundNames};
+ghost use Rattle.names.specs.Calls.{answerOf, Allowed, FindsEntry, NameListCalled, NameCalled};
 use definitions::refusals::BAD_NAME_LENGTH;
 use definitions::refusals::NO_NAME_PLACE;
 use definitions::refusals::NOT_SOUND;
 
 // What a call answers: a name's number, none such, the length of a name that stands beside it, or a refusal's number.
-pub enum Answer {
+pub enum NameReply {
     Numbered(u32),
     Unknown,
     Named(usize),
@@ -24,68 +24,68 @@ pub enum Answer {
 
 // An answer, and how many names there are then.
 pub struct Interned {
-    pub answer: Answer,
+    pub answer: NameReply,
     pub count: usize,
 }
 
 // An answer, and beside it the bytes of a name that it gives the length of.
 pub struct NameBytes {
-    pub answer: Answer,
+    pub answer: NameReply,
     pub bytes: [u8; entry::LONGEST_NAME],
 }
 
 // Where a name stands.
-enum Found {
+enum EntryFound {
     At(usize),
     Nothing,
 }
 
 // Whether a name list is sound.
 pub fn is_sound(entries: &[u8], count: usize) -> bool
-    ensures { λ r. ⌜ Says r (Sound (now (entries .entry)) count) ⌝ }
+    ensures { λ r. ⌜ Says r (SoundNames (now (entries .entry)) count) ⌝ }
 {
     audit::audit(entries, count)
 }
 
 // The number of the entry `key`.
-fn find(entries: &[u8], count: usize, key: &[u8]) -> Found
+fn find(entries: &[u8], count: usize, key: &[u8]) -> EntryFound
     requires { ⌜ (count * entryBytes ≤ length (now entries)) × (length (now key) ≡ entryBytes) ⌝ }
-    ensures { λ r. ⌜ Finds (now (entries .entry)) count (now (key .entry)) r ⌝ }
+    ensures { λ r. ⌜ FindsEntry (now (entries .entry)) count (now (key .entry)) r ⌝ }
 {
     let mut i: usize = 0;
     while i < count {
         if entry::same(entry::at(entries, i), key) {
-            return Found::At(i);
+            return EntryFound::At(i);
         }
         i += 1;
     }
-    Found::Nothing
+    EntryFound::Nothing
 }
 
 // The number of a name whose length is allowed, found or new.
 pub fn intern_allowed(entries: &mut [u8], count: usize, name: &[u8]) -> Interned
-    requires { ⌜ Sound (now entries) count × Allowed (length (now name)) ⌝ }
-    ensures { λ r. ⌜ Called (now (entries .entry)) count (internName (now (name .entry))) (answerOf (r .answer) []) (now (entries .exit))
+    requires { ⌜ SoundNames (now entries) count × Allowed (length (now name)) ⌝ }
+    ensures { λ r. ⌜ NameListCalled (now (entries .entry)) count (internName (now (name .entry))) (answerOf (r .answer) []) (now (entries .exit))
         (r .count) ⌝ }
 {
     let key = entry::of_name(name);
     let found = find(entries, count, &key);
-    if let Found::At(i) = found {
+    if let EntryFound::At(i) = found {
         let known = i as u32;
         return Interned {
-            answer: Answer::Numbered(known),
+            answer: NameReply::Numbered(known),
             count,
         };
     }
     if audit::MOST_NAMES <= count {
         return Interned {
-            answer: Answer::Refused(NO_NAME_PLACE),
+            answer: NameReply::Refused(NO_NAME_PLACE),
             count,
         };
     }
     if entries.len() / entry::ENTRY_BYTES <= count {
         return Interned {
-            answer: Answer::Refused(NO_NAME_PLACE),
+            answer: NameReply::Refused(NO_NAME_PLACE),
             count,
         };
     }
@@ -93,7 +93,7 @@ pub fn intern_allowed(entries: &mut [u8], count: usize, name: &[u8]) -> Interned
     let number = count as u32;
     let next = count + 1;
     Interned {
-        answer: Answer::Numbered(number),
+        answer: NameReply::Numbered(number),
         count: next,
     }
 }
@@ -109,18 +109,18 @@ fn length_allowed(length: usize) -> bool
 
 // The number of a name, which becomes known if it is not.
 pub fn intern(entries: &mut [u8], count: usize, name: &[u8]) -> Interned
-    ensures { λ r. ⌜ Called (now (entries .entry)) count (internName (now (name .entry))) (answerOf (r .answer) []) (now (entries .exit))
+    ensures { λ r. ⌜ NameListCalled (now (entries .entry)) count (internName (now (name .entry))) (answerOf (r .answer) []) (now (entries .exit))
         (r .count) ⌝ }
 {
     if !audit::audit(entries, count) {
         return Interned {
-            answer: Answer::Refused(NOT_SOUND),
+            answer: NameReply::Refused(NOT_SOUND),
             count,
         };
     }
     if !length_allowed(name.len()) {
         return Interned {
-            answer: Answer::Refused(BAD_NAME_LENGTH),
+            answer: NameReply::Refused(BAD_NAME_LENGTH),
             count,
         };
     }
@@ -128,20 +128,20 @@ pub fn intern(entries: &mut [u8], count: usize, name: &[u8]) -> Interned
 }
 
 // The number of a name, if it is known.
-pub fn lookup(entries: &[u8], count: usize, name: &[u8]) -> Answer
-    ensures { λ r. ⌜ Called (now (entries .entry)) count (lookupName (now (name .entry))) (answerOf r []) (now (entries .entry)) count ⌝ }
+pub fn lookup(entries: &[u8], count: usize, name: &[u8]) -> NameReply
+    ensures { λ r. ⌜ NameListCalled (now (entries .entry)) count (lookupName (now (name .entry))) (answerOf r []) (now (entries .entry)) count ⌝ }
 {
     if !audit::audit(entries, count) {
-        return Answer::Refused(NOT_SOUND);
+        return NameReply::Refused(NOT_SOUND);
     }
     if !length_allowed(name.len()) {
-        return Answer::Refused(BAD_NAME_LENGTH);
+        return NameReply::Refused(BAD_NAME_LENGTH);
     }
     let key = entry::of_name(name);
     let place = find(entries, count, &key);
     match place {
-        Found::At(i) => Answer::Numbered(i as u32),
-        Found::Nothing => Answer::Unknown,
+        EntryFound::At(i) => NameReply::Numbered(i as u32),
+        EntryFound::Nothing => NameReply::Unknown,
     }
 }
 
@@ -151,14 +151,14 @@ pub fn name(entries: &[u8], count: usize, number: u32) -> NameBytes
 {
     if !audit::audit(entries, count) {
         return NameBytes {
-            answer: Answer::Refused(NOT_SOUND),
+            answer: NameReply::Refused(NOT_SOUND),
             bytes: [0u8; entry::LONGEST_NAME],
         };
     }
     let n = number as usize;
     if count <= n {
         return NameBytes {
-            answer: Answer::Unknown,
+            answer: NameReply::Unknown,
             bytes: [0u8; entry::LONGEST_NAME],
         };
     }
@@ -166,7 +166,7 @@ pub fn name(entries: &[u8], count: usize, number: u32) -> NameBytes
     let length = entry::name_length(held);
     let bytes = entry::name_bytes(held);
     NameBytes {
-        answer: Answer::Named(length),
+        answer: NameReply::Named(length),
         bytes,
     }
 }

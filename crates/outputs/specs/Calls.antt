@@ -61,7 +61,7 @@ AnswersPrune (M.simplified id spent steps) = ⊥
 AnswersPrune (M.pruned id kept dropped) = Unit {0}
 AnswersPrune (M.refused number) = Unit {0}
 
-pub record Left (answer : M.Answer) (r : ℕ) (left : M.Answer) (before after : List ℕ) : Type 0 where
+pub record LeftBehind (answer : M.Answer) (r : ℕ) (left : M.Answer) (before after : List ℕ) : Type 0 where
   pub number : r ≡ numberOf answer
   pub answered : isRefused answer ≡ false → left ≡ answer
   pub refused : isRefused answer ≡ true → after ≡ before

@@ -5,8 +5,8 @@ use mathlib.Core.List.{List, [], _∷_, _++_}
 use lib.Dec.{eqb}
 use Rattle.listing_lines.specs.declared.Outcome.{Outcome}
 use Rattle.listing_lines.specs.declared.Outcome.the-variants.{Ok, Empty, Spent, Refused}
-use Rattle.listing_reader.specs.declared.Answer.{Answer}
-use Rattle.listing_reader.specs.declared.Answer.the-variants.{Read, Refused as RefusedLine, Full}
+use Rattle.listing_reader.specs.declared.ListingAnswer.{ListingAnswer}
+use Rattle.listing_reader.specs.declared.ListingAnswer.the-variants.{Read, Refused as RefusedLine, Full}
 use Rattle.outputs.specs.Forms.{okForm, emptyForm, spentForm, refusedForm}
 
 -- ---- the first line
@@ -33,12 +33,12 @@ abbrev pub tooFewWords : ℕ
 tooFewWords = 2
 
 -- the answer that the number returned and the numbers behind pointers say
-abbrev pub readAnswer : ℕ → ℕ → ℕ → ℕ → ℕ → ℕ → ℕ → Answer
+abbrev pub readAnswer : ℕ → ℕ → ℕ → ℕ → ℕ → ℕ → ℕ → ListingAnswer
 readAnswer r count form id number at line =
     cond (eqb r 0) (Read (firstLineOutcome form id number at) count) (cond (eqb r wrongLine) (RefusedLine line) Full)
 
 -- the number returned and the count, form, id, number, record and line that an answer leaves; what it does not speak of stays
-abbrev pub readOutputs : Answer → ℕ → ℕ → ℕ → ℕ → ℕ → ℕ → List ℕ
+abbrev pub readOutputs : ListingAnswer → ℕ → ℕ → ℕ → ℕ → ℕ → ℕ → List ℕ
 readOutputs (Read o held) count form id number at line = 0 ∷ held ∷ (firstLineOutputs o id number at ++ line ∷ [])
 readOutputs (RefusedLine wrong) count form id number at line = wrongLine ∷ count ∷ form ∷ id ∷ number ∷ at ∷ wrong ∷ []
 readOutputs Full count form id number at line = tooFewWords ∷ count ∷ form ∷ id ∷ number ∷ at ∷ line ∷ []

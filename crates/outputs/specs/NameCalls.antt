@@ -4,8 +4,8 @@ use mathlib.Core.Path.{_≡_}
 use mathlib.Core.List.{List, _∷_}
 use lib.ListN.{take}
 use Rattle.definitions.specs.Names.{NameAnswer, numbered, unknown, named, refused, longestName}
-use Rattle.names.specs.declared.Answer.{Answer}
-use Rattle.names.specs.declared.Answer.the-variants.{Numbered, Unknown, Named, Refused}
+use Rattle.names.specs.declared.NameReply.{NameReply}
+use Rattle.names.specs.declared.NameReply.the-variants.{Numbered, Unknown, Named, Refused}
 use Rattle.names.specs.Calls.{bytesBeside}
 
 abbrev pub nameUnlessRefused : ℕ → NameAnswer → NameAnswer
@@ -31,7 +31,7 @@ abbrev pub Padded : ℕ → ℕ → ℕ → List ℕ → Type 0
 Padded r known size bytes = r ≡ 0 → 0 < known → (size ≤ longestName) × (bytes ≡ bytesBeside (named (take size bytes)))
 
 -- the number returned and the `known`, length and bytes that an answer with bytes beside it leaves; what it does not speak of stays
-abbrev pub nameOutputs : Answer → List ℕ → ℕ → ℕ → List ℕ → List ℕ
+abbrev pub nameOutputs : NameReply → List ℕ → ℕ → ℕ → List ℕ → List ℕ
 nameOutputs (Numbered n) held known size bytes = 0 ∷ known ∷ size ∷ bytes
 nameOutputs Unknown held known size bytes = 0 ∷ 0 ∷ size ∷ bytes
 nameOutputs (Named n) held known size bytes = 0 ∷ 1 ∷ n ∷ held

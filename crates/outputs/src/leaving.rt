@@ -5,7 +5,7 @@ ghost use Prim.Native.Nat.{_≤_};
 ghost use Rattle.definitions.specs.Machine as M;
 ghost use Rattle.store.specs.Memory as Store;
 ghost use Rattle.store_calls.specs.Calls.{answerOf};
-ghost use Rattle.outputs.specs.Calls.{arenaOf, isSpent, AnswersNode, AnswersWalk, AnswersPrune, Left, SpentLeft};
+ghost use Rattle.outputs.specs.Calls.{arenaOf, isSpent, AnswersNode, AnswersWalk, AnswersPrune, LeftBehind, SpentLeft};
 use arena::DagArena;
 use store::Built;
 use store_calls::Answer;
@@ -32,7 +32,7 @@ pub fn leave_arena(arena: DagArena, count: &mut u64, size: &mut usize)
 pub fn leave_stored(performed: Performed, count: &mut u64, size: &mut usize, id: &mut u64) -> u64
     requires { ⌜ AnswersNode (answerOf (performed .answer)) ⌝ }
     ensures { λ _. ⌜ arenaOf (now (count .exit)) (now (size .exit)) ≡ performed .arena ⌝ }
-    ensures { λ r. ⌜ Left (answerOf (performed .answer)) r (M.stored (now (id .exit))) (now (id .entry) ∷ []) (now (id .exit) ∷ []) ⌝ }
+    ensures { λ r. ⌜ LeftBehind (answerOf (performed .answer)) r (M.stored (now (id .exit))) (now (id .entry) ∷ []) (now (id .exit) ∷ []) ⌝ }
 {
     let arena = performed.arena;
     leave_arena(arena, count, size);
@@ -51,7 +51,7 @@ pub fn leave_stored(performed: Performed, count: &mut u64, size: &mut usize, id:
 // The same of a node made without a call.
 pub fn leave_built(built: Built, count: &mut u64, size: &mut usize, id: &mut u64) -> u64
     ensures { λ _. ⌜ arenaOf (now (count .exit)) (now (size .exit)) ≡ built .arena ⌝ }
-    ensures { λ r. ⌜ Left (Store.answerOf (built .answer)) r (M.stored (now (id .exit))) (now (id .entry) ∷ []) (now (id .exit) ∷ []) ⌝ }
+    ensures { λ r. ⌜ LeftBehind (Store.answerOf (built .answer)) r (M.stored (now (id .exit))) (now (id .entry) ∷ []) (now (id .exit) ∷ []) ⌝ }
 {
     leave_stored(of_built(built), count, size, id)
 }
@@ -74,7 +74,7 @@ pub fn leave_simplified(
 ) -> u64
     requires { ⌜ AnswersWalk (answerOf (performed .answer)) ⌝ }
     ensures { λ _. ⌜ arenaOf (now (count .exit)) (now (size .exit)) ≡ performed .arena ⌝ }
-    ensures { λ r. ⌜ Left (answerOf (performed .answer)) r (M.simplified (now (id .exit)) (isSpent (now (spent .exit)))
+    ensures { λ r. ⌜ LeftBehind (answerOf (performed .answer)) r (M.simplified (now (id .exit)) (isSpent (now (spent .exit)))
         (now (steps .exit))) (now (id .entry) ∷ now (spent .entry) ∷ now (steps .entry) ∷ [])
         (now (id .exit) ∷ now (spent .exit) ∷ now (steps .exit) ∷ []) ⌝ }
     ensures { λ _. ⌜ SpentLeft (answerOf (performed .answer)) (now (spent .exit)) ⌝ }
@@ -106,7 +106,7 @@ pub fn leave_pruned(
 ) -> u64
     requires { ⌜ AnswersPrune (answerOf (performed .answer)) ⌝ }
     ensures { λ _. ⌜ arenaOf (now (count .exit)) (now (size .exit)) ≡ performed .arena ⌝ }
-    ensures { λ r. ⌜ Left (answerOf (performed .answer)) r (M.pruned (now (id .exit)) (now (kept .exit)) (now (dropped .exit)))
+    ensures { λ r. ⌜ LeftBehind (answerOf (performed .answer)) r (M.pruned (now (id .exit)) (now (kept .exit)) (now (dropped .exit)))
         (now (id .entry) ∷ now (kept .entry) ∷ now (dropped .entry) ∷ []) (now (id .exit) ∷ now (kept .exit) ∷ now (dropped .exit) ∷ []) ⌝ }
 {
     let arena = performed.arena;

@@ -8,7 +8,7 @@ use crate::forms::REFUSED;
 use crate::forms::SPENT;
 use crate::leaving::ANSWERED;
 use listing_lines::Outcome;
-use listing_reader::Answer;
+use listing_reader::ListingAnswer;
 
 // What reading a listing returns where it is not answered.
 pub const WRONG_LINE: u64 = 1;
@@ -51,7 +51,7 @@ fn leave_first_line(
 
 // What reading a listing answers: the count of nodes and the first line, or the number of a wrong line.
 pub fn leave_read(
-    answer: Answer,
+    answer: ListingAnswer,
     count: &mut u64,
     form: &mut u64,
     id: &mut u64,
@@ -64,7 +64,7 @@ pub fn leave_read(
         (now («record» .entry)) (now (line .entry)) ⌝ }
 {
     match answer {
-        Answer::Read {
+        ListingAnswer::Read {
             outcome,
             count: held,
         } => {
@@ -72,10 +72,10 @@ pub fn leave_read(
             leave_first_line(outcome, form, id, number, record);
             ANSWERED
         }
-        Answer::Refused(wrong) => {
+        ListingAnswer::Refused(wrong) => {
             *line = wrong;
             WRONG_LINE
         }
-        Answer::Full => TOO_FEW_WORDS,
+        ListingAnswer::Full => TOO_FEW_WORDS,
     }
 }

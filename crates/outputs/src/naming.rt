@@ -3,8 +3,8 @@ ghost use mathlib.Core.Path.{_≡_};
 ghost use mathlib.Core.List.{[], _∷_};
 ghost use Rattle.outputs.specs.NameCalls.{nameOutputs};
 use crate::leaving::ANSWERED;
-use names::Answer;
 use names::NameBytes;
+use names::NameReply;
 
 // 01: "Names of 1 to 32 bytes".
 pub const LONGEST_NAME: usize = 32;
@@ -21,18 +21,18 @@ pub fn leave_name(
 {
     let answer = found.answer;
     match answer {
-        Answer::Numbered(_) => ANSWERED,
-        Answer::Unknown => {
+        NameReply::Numbered(_) => ANSWERED,
+        NameReply::Unknown => {
             *known = 0;
             ANSWERED
         }
-        Answer::Named(size) => {
+        NameReply::Named(size) => {
             *known = 1;
             *length = size;
             let held = found.bytes;
             *bytes = held;
             ANSWERED
         }
-        Answer::Refused(refusal) => refusal,
+        NameReply::Refused(refusal) => refusal,
     }
 }

@@ -15,8 +15,8 @@ use Rattle.store.specs.View.{nodesIn, lent, Sound, Builds, plainBuilt, Kept}
 use Rattle.store.specs.View as View
 use Rattle.store.specs.Lookup.{Fits}
 use Rattle.store.specs.declared.Built.{Built}
-use Rattle.store.specs.declared.Answer.{Answer}
-use Rattle.store.specs.declared.Answer.the-variants as A
+use Rattle.store.specs.declared.NodeAnswer.{NodeAnswer}
+use Rattle.store.specs.declared.NodeAnswer.the-variants as A
 use Rattle.store.proofs.Keeping.{kept-refl, kept-trans}
 use Rattle.patterns.specs.Carrying.{TwoOperands, Operand, ReplacementLow, besideConstant, carried, BuildsBy}
 use Rattle.patterns.specs.Deciding.{ResultLow, plainResult}
@@ -34,7 +34,7 @@ use Rattle.patterns.specs.declared.Matched.the-variants as M
 
 -- ---- an answer of the store, as one of try_apply
 module _ {w slots : List ℕ} {s : DagArena} {m : Mode} {k : ℕ} {c : List ℕ} {w′ slots′ : List ℕ} (f : Fired) where
-  applies-answer : (a : Answer) (t : DagArena) → some (plainBuilt a (nodesIn w′ (t .count))) ≡ applyAs m (lent w slots) (nodesIn w (s .count)) k c
+  applies-answer : (a : NodeAnswer) (t : DagArena) → some (plainBuilt a (nodesIn w′ (t .count))) ≡ applyAs m (lent w slots) (nodesIn w (s .count)) k c
       → firedOf f ≡ firing m (lent w slots) (nodesIn w (s .count)) k c → Kept w slots s w′ slots′ t → View.Low a (t .count) → Applies m k c w slots s w′ slots′ (applied a t f)
   applies-answer (A.Id i) t is fires kept low =
       record { is = is; fired = fires; kept = kept; low = low; same = λ e. absurd (let z : _≡_ {A = ℕ} 0 1 = cc in omega arith) }
@@ -53,7 +53,7 @@ module _ {w slots : List ℕ} {s : DagArena} where
     -- stopped at the first node
     pub then-stopped : (f : List N.Node → ℕ → I.Built) (k : ℕ) → q .answer ≡ A.Refused k → Builds w slots s (I.then m f) w₁ slots₁ (record { answer = A.Refused k; arena = q .arena })
     then-stopped f k e = record {
-      answer = subst (λ (x : I.Built). I.stopped (nodesIn w₁ (q .arena .count)) k ≡ I.then x f) (ap (λ (x : Answer). plainBuilt x (nodesIn w₁ (q .arena .count))) (sym e) ∙ first .answer) refl;
+      answer = subst (λ (x : I.Built). I.stopped (nodesIn w₁ (q .arena .count)) k ≡ I.then x f) (ap (λ (x : NodeAnswer). plainBuilt x (nodesIn w₁ (q .arena .count))) (sym e) ∙ first .answer) refl;
       kept = first .kept;
       low = tt;
     }
@@ -63,13 +63,13 @@ module _ {w slots : List ℕ} {s : DagArena} where
     then-built F i e {w₂} {slots₂} {r} second = record {
       answer =
           second .answer ∙ ap (λ (x : I.Lent). F x (nodesIn w₁ (q .arena .count)) i) same-lent
-          ∙ ap (λ (x : I.Built). I.then x (F (lent w slots))) (ap (λ (x : Answer). plainBuilt x (nodesIn w₁ (q .arena .count))) (sym e) ∙ first .answer);
+          ∙ ap (λ (x : I.Built). I.then x (F (lent w slots))) (ap (λ (x : NodeAnswer). plainBuilt x (nodesIn w₁ (q .arena .count))) (sym e) ∙ first .answer);
       kept = kept-trans w slots s w₁ slots₁ (q .arena) w₂ slots₂ (r .arena) (first .kept) (second .kept);
       low = second .low;
     }
 
     pub low-id : (i : ℕ) → q .answer ≡ A.Id i → i < q .arena .count
-    low-id i e = subst (λ (x : Answer). View.Low x (q .arena .count)) e (first .low)
+    low-id i e = subst (λ (x : NodeAnswer). View.Low x (q .arena .count)) e (first .low)
 
     -- the operands of the second node are those of the grown store
     pub constant-left : {k other : ℕ} (i : ℕ) → q .answer ≡ A.Id i → Operand (s .count) k other → TwoOperands (q .arena .count) k i other

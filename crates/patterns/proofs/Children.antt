@@ -15,7 +15,7 @@ use Rattle.definitions.specs.Patterns.{constantValue, onlyChild, negDouble, pai
 use Rattle.store.specs.View.{nodesIn}
 use Rattle.store.specs.Lookup.{Lookup}
 use Rattle.store.proofs.Reading.{child-low}
-use Rattle.patterns.specs.Reading.{Split, plainSplit, splitBy, split, Splits, OtherLow}
+use Rattle.patterns.specs.Reading.{Split, plainSplit, splitBy, split, SplitsConstant, OtherLow}
 use Rattle.patterns.specs.Deciding.{Decides}
 use Rattle.patterns.specs.declared.PatternResult.the-variants.{Fits, Declined}
 use Rattle.patterns.specs.declared.Replacement.the-variants.{Id}
@@ -90,7 +90,7 @@ module _ {w : List ℕ} {count a : ℕ} (h : Lookup w count a) where
   -- ---- the constant among the two children of a node of kind t
   module _ (t : ℕ) {j : ℕ} (k : j ≡ at (nodesIn w count) a .kind) where
     abbrev Splitting : ConstantChild → Type 0
-    Splitting r = Splits (nodesIn w count) count t a r
+    Splitting r = SplitsConstant (nodesIn w count) count t a r
 
     pub no-kind : (j ≡ t → ⊥) → Splitting F.Missing
     no-kind e = record { is = ap (split (nodesIn w count)) (other-kind (n .kind) t j (pair (n .children)) none k e); low = tt }

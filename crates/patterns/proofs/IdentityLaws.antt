@@ -10,7 +10,7 @@ use Rattle.definitions.specs.Node.{Node, node, at, constantKind}
 use Rattle.definitions.specs.Intern.{Lent, Built, intern}
 use Rattle.definitions.specs.Patterns.{constantValue, isZero, isOne, isFinite, isPositive, zero64, one64, internConstant, addZero, subIdentity, mulIdentity, divIdentity, powIdentity}
 use Rattle.store.specs.View.{nodesIn}
-use Rattle.patterns.specs.Carrying.{Number}
+use Rattle.patterns.specs.Carrying.{NumberBits}
 use Rattle.patterns.specs.Deciding.{Both, Decides}
 use Rattle.patterns.specs.declared.PatternResult.the-variants.{Fits, Declined}
 use Rattle.patterns.specs.declared.Replacement.the-variants.{Id, Constant}
@@ -27,11 +27,11 @@ one-built : (l : Lent) (ns : List Node) → intern l ns (node constantKind oneBi
 unfolding internConstant toBits
 one-built l ns = refl
 
-zero-number : Number 0
+zero-number : NumberBits 0
 unfolding nanBits
 zero-number = refl
 
-one-number : Number oneBits
+one-number : NumberBits oneBits
 unfolding nanBits
 one-number = refl
 

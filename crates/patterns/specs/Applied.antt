@@ -13,8 +13,8 @@ use Rattle.definitions.specs.Firing.{Pattern, applyAs, firing}
 use Rattle.store.specs.View.{nodesIn, lent, Kept}
 use Rattle.store.specs.Lookup.{Lookup}
 use Rattle.store.specs.declared.Built.{Built}
-use Rattle.store.specs.declared.Answer.{Answer}
-use Rattle.store.specs.declared.Answer.the-variants as A
+use Rattle.store.specs.declared.NodeAnswer.{NodeAnswer}
+use Rattle.store.specs.declared.NodeAnswer.the-variants as A
 use Rattle.patterns.specs.Fired.{firedOf}
 use Rattle.patterns.specs.declared.firing.Fired.{Fired}
 use Rattle.patterns.specs.declared.firing.Fired.the-variants.{Nothing}
@@ -28,7 +28,7 @@ pub record Operands (count : ℕ) (children : List ℕ) : Type 0 where
   pub low : (j : ℕ) → j < length children → getD children j 0 < count
 
 -- the same, for reading
-pub record Ready (w : List ℕ) (count : ℕ) (children : List ℕ) : Type 0 where
+pub record Applicable (w : List ℕ) (count : ℕ) (children : List ℕ) : Type 0 where
   pub few : length children ≤ mostChildren
   pub lookup : (j : ℕ) → j < length children → Lookup w count (getD children j 0)
 
@@ -58,7 +58,7 @@ pub record Applies (m : Mode) (k : ℕ) (c : List ℕ) (w slots : List ℕ) (s :
   pub same : r .matched ≡ Declined → (w′ ≡ w) × (slots′ ≡ slots) × (r .arena ≡ s)
 
 -- what the store built for a pattern, as an answer
-abbrev pub applied : Answer → DagArena → Fired → Applied
+abbrev pub applied : NodeAnswer → DagArena → Fired → Applied
 applied (A.Id i) s f = record { matched = Id i; arena = s; fired = f }
 applied (A.Refused k) s f = record { matched = Refused k; arena = s; fired = Nothing }
 

@@ -49,12 +49,12 @@ pub record TwoOperands (count kind lhs rhs : ℕ) : Type 0 where
   pub listing : listed kind 0 2 ≡ true
 
 -- the bits of a constant that may be built
-abbrev pub Number : ℕ → Type 0
-Number b = nanBits binary64 b ≡ false
+abbrev pub NumberBits : ℕ → Type 0
+NumberBits b = nanBits binary64 b ≡ false
 
 -- the ids of a replacement are those of the store, and its constant is no NaN
 abbrev pub ReplacementLow : ℕ → Replacement → Type 0
 ReplacementLow count (Id i) = i < count
-ReplacementLow count (Constant b) = Number b
-ReplacementLow count (ConstantLeft k b other) = Operand count k other × Number b
-ReplacementLow count (ConstantRight k b other) = Operand count k other × Number b
+ReplacementLow count (Constant b) = NumberBits b
+ReplacementLow count (ConstantLeft k b other) = Operand count k other × NumberBits b
+ReplacementLow count (ConstantRight k b other) = Operand count k other × NumberBits b

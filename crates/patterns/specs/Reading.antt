@@ -43,6 +43,6 @@ OtherLow count (F.Right b o) = o < count
 OtherLow count F.Missing = Unit {0}
 
 -- the constant among the children of a node of a kind that has two; the other child is a node of the store
-pub record Splits (ns : List Node) (count kind id : ℕ) (r : ConstantChild) : Type 0 where
+pub record SplitsConstant (ns : List Node) (count kind id : ℕ) (r : ConstantChild) : Type 0 where
   pub is : plainSplit r ≡ split ns (pairOf kind (at ns id))
   pub low : OtherLow count r

@@ -3,7 +3,7 @@ ghost use mathlib.Core.Path.{_≡_};
 ghost use mathlib.Core.List.{[], _∷_};
 ghost use Rattle.store.specs.View.{Sound};
 ghost use Rattle.patterns.specs.Applied.{appliedOf};
-ghost use Rattle.patterns.specs.Carrying.{BuildsBy, constantOf, operatorOf, besideConstant, carried, Number, ReplacementLow, Operand, TwoOperands};
+ghost use Rattle.patterns.specs.Carrying.{BuildsBy, constantOf, operatorOf, besideConstant, carried, NumberBits, ReplacementLow, Operand, TwoOperands};
 use crate::Applied;
 use crate::Matched;
 use crate::Replacement;
@@ -11,11 +11,11 @@ use crate::firing::Fired;
 use arena::DagArena;
 use arena::REORDERABLE;
 use arena::kind::CONSTANT;
-use store::Answer;
 use store::Built;
+use store::NodeAnswer;
 
 fn intern_constant(nodes: &mut [u64], slots: &mut [u32], arena: DagArena, bits: u64) -> Built
-    requires { ⌜ Number bits × Sound (now nodes) (now slots) arena ⌝ }
+    requires { ⌜ NumberBits bits × Sound (now nodes) (now slots) arena ⌝ }
     ensures { λ r. ⌜ BuildsBy (constantOf bits) (now (nodes .entry)) (now (slots .entry)) arena (now (nodes .exit)) (now (slots .exit)) r ⌝ }
 {
     store::intern(nodes, slots, arena, CONSTANT, bits, 0, &[])
@@ -49,7 +49,7 @@ fn beside_constant(
     other: u64,
     left: bool,
 ) -> Built
-    requires { ⌜ Operand (arena .count) kind other × Number bits × Sound (now nodes) (now slots) arena ⌝ }
+    requires { ⌜ Operand (arena .count) kind other × NumberBits bits × Sound (now nodes) (now slots) arena ⌝ }
     ensures { λ r. ⌜ BuildsBy (besideConstant left kind bits other) (now (nodes .entry)) (now (slots .entry)) arena (now (nodes .exit))
         (now (slots .exit)) r ⌝ }
 {
@@ -57,15 +57,15 @@ fn beside_constant(
     let grown = constant.arena;
     let answer = constant.answer;
     match answer {
-        Answer::Id(id) => {
+        NodeAnswer::Id(id) => {
             if left {
                 intern_operator(nodes, slots, grown, kind, id, other)
             } else {
                 intern_operator(nodes, slots, grown, kind, other, id)
             }
         }
-        Answer::Refused(refusal) => Built {
-            answer: Answer::Refused(refusal),
+        NodeAnswer::Refused(refusal) => Built {
+            answer: NodeAnswer::Refused(refusal),
             arena: grown,
         },
     }
@@ -84,7 +84,7 @@ pub(crate) fn carry_out(
 {
     match replacement {
         Replacement::Id(id) => Built {
-            answer: Answer::Id(id),
+            answer: NodeAnswer::Id(id),
             arena,
         },
         Replacement::Constant(bits) => intern_constant(nodes, slots, arena, bits),
@@ -116,12 +116,12 @@ pub(crate) fn answered(built: Built, fired: Fired) -> Applied
     let answer = built.answer;
     let arena = built.arena;
     match answer {
-        Answer::Id(id) => Applied {
+        NodeAnswer::Id(id) => Applied {
             matched: Matched::Id(id),
             arena,
             fired,
         },
-        Answer::Refused(refusal) => Applied {
+        NodeAnswer::Refused(refusal) => Applied {
             matched: Matched::Refused(refusal),
             arena,
             fired: Fired::Nothing,

@@ -16,7 +16,7 @@ ghost use Rattle.definitions.specs.Walk.{standard};
 ghost use Rattle.store.specs.View.{Sound};
 ghost use Rattle.patterns.specs.Deciding.{Both, declines};
 ghost use Rattle.patterns.specs.Fired.{Fires};
-ghost use Rattle.patterns.specs.Applied.{Operands, Ready, Applies};
+ghost use Rattle.patterns.specs.Applied.{Operands, Applicable, Applies};
 use arena::DagArena;
 use arena::kind::ADD;
 use arena::kind::MOD;
@@ -101,7 +101,7 @@ fn operator_pattern(
 
 // The first pattern that fits a kind over its children. Only operators have patterns.
 fn pattern(nodes: &[u64], count: u64, mode: Mode, kind: u64, children: &[u32]) -> Decision
-    requires { ⌜ Ready (now nodes) count (now children) ⌝ }
+    requires { ⌜ Applicable (now nodes) count (now children) ⌝ }
     ensures { λ r. ⌜ Fires (modeOf mode) (now (nodes .entry)) count kind (now (children .entry)) r ⌝ }
 {
     match kind {

@@ -4,7 +4,7 @@ ghost use Rattle.definitions.specs.Node as N;
 ghost use Rattle.definitions.specs.Patterns as P;
 ghost use Rattle.store.specs.View.{nodesIn};
 ghost use Rattle.store.specs.Lookup.{Lookup};
-ghost use Rattle.patterns.specs.Reading.{Splits};
+ghost use Rattle.patterns.specs.Reading.{SplitsConstant};
 ghost use Rattle.patterns.specs.Deciding.{Both, Decides, leftOf, rightOf};
 use crate::PatternResult;
 use crate::Replacement;
@@ -25,7 +25,7 @@ enum ConstantChild {
 // The constant among the children of a node of a kind that has two.
 fn constant_child(nodes: &[u64], count: u64, kind: u64, id: u64) -> ConstantChild
     requires { ⌜ Lookup (now nodes) count id ⌝ }
-    ensures { λ r. ⌜ Splits (nodesIn (now (nodes .entry)) count) count kind id r ⌝ }
+    ensures { λ r. ⌜ SplitsConstant (nodesIn (now (nodes .entry)) count) count kind id r ⌝ }
 {
     if store::kind(nodes, count, id) != kind {
         return ConstantChild::Missing;

@@ -10,10 +10,10 @@ use Rattle.store.specs.View.{nodesIn, lent, Sound}
 use Rattle.store.specs.Memory.{Memory, memory, Leaves}
 use Rattle.store.proofs.Leaving.{after, leaves-kept, leaves-unsound}
 use Rattle.pruner.specs.Answers.{meaning, thresholdOf, PrunesCall, PrunesAudited, unsound, sound}
-use Rattle.pruner.specs.declared.Answer.{Answer}
+use Rattle.pruner.specs.declared.PruneAnswer.{PruneAnswer}
 use Rattle.pruner.specs.declared.threshold.Threshold.{Threshold}
 
-module _ (words slots : List ℕ) (s : DagArena) (good : Sound words slots s) (root : ℕ) (answer : Answer) (m′ : Memory) where
+module _ (words slots : List ℕ) (s : DagArena) (good : Sound words slots s) (root : ℕ) (answer : PruneAnswer) (m′ : Memory) where
   abbrev outcome : T.Threshold → M.After
   outcome t = M.onNodes (M.state (nodesIn words (s .count))) (M.pruneCall (lent words slots) (nodesIn words (s .count)) root t)
 
@@ -34,12 +34,12 @@ module _ (words slots : List ℕ) (s : DagArena) (good : Sound words slots s) (r
 
 -- ---- on any store
 
-pub audited-by-bits : (words slots : List ℕ) (s : DagArena) (root : ℕ) (answer : Answer) (m′ : Memory) (bits : ℕ) (threshold : Threshold) → thresholdOf threshold ≡ T.given bits
+pub audited-by-bits : (words slots : List ℕ) (s : DagArena) (root : ℕ) (answer : PruneAnswer) (m′ : Memory) (bits : ℕ) (threshold : Threshold) → thresholdOf threshold ≡ T.given bits
     → PrunesAudited (memory words slots s) root threshold answer m′ → Leaves (M.prune root bits) (memory words slots s) (meaning answer) m′
 audited-by-bits words slots s root answer m′ bits threshold e (unsound n) = leaves-unsound (M.prune root bits) (memory words slots s) n
 audited-by-bits words slots s root answer m′ bits threshold e (sound h p) = by-bits words slots s h root answer m′ bits threshold e p
 
-pub audited-by-setting : (words slots : List ℕ) (s : DagArena) (root : ℕ) (answer : Answer) (m′ : Memory) (setting : ℕ) (threshold : Threshold)
+pub audited-by-setting : (words slots : List ℕ) (s : DagArena) (root : ℕ) (answer : PruneAnswer) (m′ : Memory) (setting : ℕ) (threshold : Threshold)
     → thresholdOf threshold ≡ Settings.setting setting
     → PrunesAudited (memory words slots s) root threshold answer m′ → Leaves (M.pruneBySetting root setting) (memory words slots s) (meaning answer) m′
 audited-by-setting words slots s root answer m′ setting threshold e (unsound n) = leaves-unsound (M.pruneBySetting root setting) (memory words slots s) n

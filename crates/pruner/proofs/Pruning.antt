@@ -22,21 +22,21 @@ use Rattle.definitions.proofs.Stable.{Lower}
 use Rattle.definitions.proofs.Prune.{filter-length}
 use Rattle.arena.specs.declared.DagArena.{DagArena}
 use Rattle.store.specs.declared.Built.{Built}
-use Rattle.store.specs.declared.Answer as Store
-use Rattle.store.specs.declared.Answer.the-variants as Stores
+use Rattle.store.specs.declared.NodeAnswer as Store
+use Rattle.store.specs.declared.NodeAnswer.the-variants as Stores
 use Rattle.store.specs.View.{nodesIn, lent, Sound, plainBuilt}
 use Rattle.store.specs.Memory.{Memory, memory, keepsInterned}
 use Rattle.store.proofs.Keeping.{kept-refl}
 use Rattle.store.proofs.Viewing.{plain-length}
-use Rattle.chains.specs.Terms.{Flattens, Holds}
+use Rattle.chains.specs.Terms.{Flattens, HoldsTerms}
 use Rattle.sums.specs.Sums.{part, Summable, Sums}
 use Rattle.pruner.specs.Answers.{meaning, thresholdOf, Prunes, PrunesChain, PrunesRoot, PrunesCall}
 use Rattle.pruner.specs.declared.threshold.Threshold.{Threshold}
 use Rattle.pruner.specs.declared.threshold.Threshold.the-variants.{Bits, Untouched, Refusing}
 use Rattle.chains.specs.declared.chain.Flattened.{Flattened}
 use Rattle.chains.specs.declared.chain.Flattened.the-variants.{Terms, TooMany}
-use Rattle.pruner.specs.declared.Answer.{Answer}
-use Rattle.pruner.specs.declared.Answer.the-variants.{Pruned, Refused}
+use Rattle.pruner.specs.declared.PruneAnswer.{PruneAnswer}
+use Rattle.pruner.specs.declared.PruneAnswer.the-variants.{Pruned, Refused}
 use Rattle.chains.proofs.Below.{below-of, lower-filter}
 use Rattle.chains.proofs.Chains.{chain-low}
 use Rattle.chains.proofs.Reading.{readable, layered}
@@ -50,11 +50,11 @@ for-place number (inr e) = ap (λ (x : ℕ). keepsInterned x) e
 
 -- ---- a flattening's answer by its case
 pub holds-of : (terms : List ℕ) (keep : ℕ → Bool) (answer : Flattened) (array : List ℕ) (from found kept : ℕ) → Flattens terms keep answer array → answer ≡ Terms from found kept
-    → Holds terms keep (Terms from found kept) array
-holds-of terms keep answer array from found kept f e = subst (λ (x : Flattened). Holds terms keep x array) e (f .holds)
+    → HoldsTerms terms keep (Terms from found kept) array
+holds-of terms keep answer array from found kept f e = subst (λ (x : Flattened). HoldsTerms terms keep x array) e (f .holds)
 
 pub too-many-of : (terms : List ℕ) (keep : ℕ → Bool) (answer : Flattened) (array : List ℕ) → Flattens terms keep answer array → answer ≡ TooMany → mostTerms < length terms
-too-many-of terms keep answer array f e = subst (λ (x : Flattened). Holds terms keep x array) e (f .holds)
+too-many-of terms keep answer array f e = subst (λ (x : Flattened). HoldsTerms terms keep x array) e (f .holds)
 
 module _ (words slots : List ℕ) (s : DagArena) (sound : Sound words slots s) where
   abbrev m : Memory
@@ -67,7 +67,7 @@ module _ (words slots : List ℕ) (s : DagArena) (sound : Sound words slots s) w
   ns = nodesIn words (s .count)
 
   -- memory as it was, with any answer
-  pub same : (plain : M.Outcome) (answer : Answer) → outcome (meaning answer) (nodesIn words (s .count)) ≡ plain → Prunes (memory words slots s) plain answer (memory words slots s)
+  pub same : (plain : M.Outcome) (answer : PruneAnswer) → outcome (meaning answer) (nodesIn words (s .count)) ≡ plain → Prunes (memory words slots s) plain answer (memory words slots s)
   same plain answer e = record { plainly = e; kept = kept-refl words slots s sound; unchanged = λ number q u. refl }
 
   -- ---- the root
@@ -85,7 +85,7 @@ module _ (words slots : List ℕ) (s : DagArena) (sound : Sound words slots s) w
     unfolding pruneCall
     at-known t = sym (ap (λ (b : Bool). cond b (pruneAt l ns root t) (outcome (M.refused badOperand) ns)) known)
 
-    pub at-root : (threshold : Threshold) (bits : ℕ) → threshold ≡ Bits bits → (answer : Answer) (m′ : Memory)
+    pub at-root : (threshold : Threshold) (bits : ℕ) → threshold ≡ Bits bits → (answer : PruneAnswer) (m′ : Memory)
         → PrunesRoot (memory words slots s) root bits answer m′
         → PrunesCall (memory words slots s) root threshold answer m′
     at-root threshold bits e answer m′ p =
@@ -123,7 +123,7 @@ module _ (words slots : List ℕ) (s : DagArena) (sound : Sound words slots s) w
       unfolding pruneAt
       no-chain other = same _ (Pruned root 1 0) (sym (ap (λ (b : Bool). cond b (pruneChain l ns t ts) (outcome (M.pruned root 1 0) ns)) (ne-eqb (at ns root .kind) addKind other)))
 
-      pub at-chain : at (nodesIn words (s .count)) root .kind ≡ addKind → (answer : Answer) (m′ : Memory)
+      pub at-chain : at (nodesIn words (s .count)) root .kind ≡ addKind → (answer : PruneAnswer) (m′ : Memory)
           → PrunesChain (memory words slots s) root threshold answer m′
           → PrunesRoot (memory words slots s) root threshold answer m′
       unfolding pruneAt
@@ -138,7 +138,7 @@ module _ (words slots : List ℕ) (s : DagArena) (sound : Sound words slots s) w
       unfolding pruneChain
       too-many h = same _ (Refused tooManyTerms) (sym (ap (λ (b : Bool). cond b (outcome (M.refused tooManyTerms) ns) (prunedAs (length ks) (length ts - length ks) (sumOfKept l ns ks))) (lt-ltb mostTerms (length ts) h)))
 
-      module _ (from found kept : ℕ) (array : List ℕ) (holds : Holds (chain (nodesIn words (s .count)) root) (keeps (nodesIn words (s .count)) (ofBits binary64 threshold)) (Terms from found kept) array) where
+      module _ (from found kept : ℕ) (array : List ℕ) (holds : HoldsTerms (chain (nodesIn words (s .count)) root) (keeps (nodesIn words (s .count)) (ofBits binary64 threshold)) (Terms from found kept) array) where
         pub few : kept ≤ found
         few = omega (arith, holds .0, holds .2, filter-length (keeps ns t) ts)
 
@@ -167,8 +167,8 @@ module _ (words slots : List ℕ) (s : DagArena) (sound : Sound words slots s) w
           abbrev ns′ : List Node
           ns′ = nodesIn words′ (r .arena .count)
 
-          said : (answer : Store.Answer) → r .answer ≡ answer → plainBuilt answer ns′ ≡ sumOfKept l ns (part array from kept)
-          said answer e = ap (λ (x : Store.Answer). plainBuilt x ns′) (sym e) ∙ b .answer
+          said : (answer : Store.NodeAnswer) → r .answer ≡ answer → plainBuilt answer ns′ ≡ sumOfKept l ns (part array from kept)
+          said answer e = ap (λ (x : Store.NodeAnswer). plainBuilt x ns′) (sym e) ∙ b .answer
 
           pub answered : (id : ℕ) → r .answer ≡ Stores.Id id
               → PrunesChain (memory words slots s) root threshold (Pruned id kept (found - kept)) (memory words′ slots′ (r .arena))

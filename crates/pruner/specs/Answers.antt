@@ -12,13 +12,13 @@ use Rattle.definitions.specs.Machine as M
 use Rattle.store.specs.View.{nodesIn, lent, Kept}
 use Rattle.definitions.specs.Refusals.{notSound}
 use Rattle.store.specs.Memory.{Memory, model, keepsInterned}
-use Rattle.pruner.specs.declared.Answer.{Answer}
-use Rattle.pruner.specs.declared.Answer.the-variants.{Pruned, Refused}
+use Rattle.pruner.specs.declared.PruneAnswer.{PruneAnswer}
+use Rattle.pruner.specs.declared.PruneAnswer.the-variants.{Pruned, Refused}
 use Rattle.pruner.specs.declared.threshold.Threshold.{Threshold}
 use Rattle.pruner.specs.declared.threshold.Threshold.the-variants.{Bits, Untouched, Refusing}
 
 -- an answered prune with its two counts, or a refusal by its number
-abbrev pub meaning : Answer → M.Answer
+abbrev pub meaning : PruneAnswer → M.Answer
 meaning (Pruned id kept dropped) = M.pruned id kept dropped
 meaning (Refused number) = M.refused number
 
@@ -38,22 +38,22 @@ abbrev pub lentIn : Memory → Lent
 lentIn m = lent (m .words) (m .slots)
 
 -- A prune on a sound store: the plain machine's answer and nodes. A refusal, other than 21 and 22, "changes nothing".
-pub record Prunes (m : Memory) (plain : M.Outcome) (answer : Answer) (m′ : Memory) : Type 0 where
+pub record Prunes (m : Memory) (plain : M.Outcome) (answer : PruneAnswer) (m′ : Memory) : Type 0 where
   pub plainly : M.outcome (meaning answer) (nodesOf m′) ≡ plain
   pub kept : Kept (m .words) (m .slots) (m .arena) (m′ .words) (m′ .slots) (m′ .arena)
   pub unchanged : (number : ℕ) → meaning answer ≡ M.refused number → not (keepsInterned number) ≡ true → m′ ≡ m
 
 -- The plain machine's prune of a chain, of a root and of a call's arguments.
-abbrev pub PrunesChain : Memory → ℕ → ℕ → Answer → Memory → Type 0
+abbrev pub PrunesChain : Memory → ℕ → ℕ → PruneAnswer → Memory → Type 0
 PrunesChain m root threshold = Prunes m (M.pruneChain (lentIn m) (nodesOf m) (ofBits binary64 threshold) (chain (nodesOf m) root))
 
-abbrev pub PrunesRoot : Memory → ℕ → ℕ → Answer → Memory → Type 0
+abbrev pub PrunesRoot : Memory → ℕ → ℕ → PruneAnswer → Memory → Type 0
 PrunesRoot m root threshold = Prunes m (M.pruneAt (lentIn m) (nodesOf m) root (T.bits threshold))
 
-abbrev pub PrunesCall : Memory → ℕ → Threshold → Answer → Memory → Type 0
+abbrev pub PrunesCall : Memory → ℕ → Threshold → PruneAnswer → Memory → Type 0
 PrunesCall m root threshold = Prunes m (M.pruneCall (lentIn m) (nodesOf m) root (thresholdOf threshold))
 
 -- A prune on any store, which is audited: 20 and nothing changed where it is not sound.
-pub data PrunesAudited (m : Memory) (root : ℕ) (threshold : Threshold) : Answer → Memory → Type 0 where
+pub data PrunesAudited (m : Memory) (root : ℕ) (threshold : Threshold) : PruneAnswer → Memory → Type 0 where
   unsound : (model .Sound m → ⊥) → PrunesAudited m root threshold (Refused notSound) m
-  sound : {answer : Answer} {m′ : Memory} → model .Sound m → PrunesCall m root threshold answer m′ → PrunesAudited m root threshold answer m′
+  sound : {answer : PruneAnswer} {m′ : Memory} → model .Sound m → PrunesCall m root threshold answer m′ → PrunesAudited m root threshold answer m′

@@ -15,7 +15,7 @@ use definitions::refusals::NOT_SOUND;
 use definitions::refusals::TOO_MANY_TERMS;
 use threshold::Threshold;
 
-pub enum Answer {
+pub enum PruneAnswer {
     // The id that stands for the pruned chain, and the numbers of terms kept and dropped.
     Pruned { id: u64, kept: u64, dropped: u64 },
     // The number of a refusal.
@@ -23,8 +23,8 @@ pub enum Answer {
 }
 
 // An answer, and the store's count and size after it.
-pub struct Outcome {
-    pub answer: Answer,
+pub struct PruneOutcome {
+    pub answer: PruneAnswer,
     pub arena: DagArena,
 }
 
@@ -35,7 +35,7 @@ fn prune_chain(
     arena: DagArena,
     root: u64,
     threshold: u64,
-) -> Outcome
+) -> PruneOutcome
     requires { ⌜ (root < arena .count) × Sound (now nodes) (now slots) arena ⌝ }
     ensures { λ r. ⌜ PrunesChain (memory (now (nodes .entry)) (now (slots .entry)) arena) root threshold (r .answer)
         (memory (now (nodes .exit)) (now (slots .exit)) (r .arena)) ⌝ }
@@ -43,8 +43,8 @@ fn prune_chain(
     let mut terms = [0u32; MOST_TERMS];
     let count = arena.count;
     match chains::flatten(nodes, count, root, threshold, &mut terms) {
-        Flattened::TooMany => Outcome {
-            answer: Answer::Refused(TOO_MANY_TERMS),
+        Flattened::TooMany => PruneOutcome {
+            answer: PruneAnswer::Refused(TOO_MANY_TERMS),
             arena,
         },
         Flattened::Terms { from, found, kept } => {
@@ -52,12 +52,12 @@ fn prune_chain(
             let after = built.arena;
             let answer = built.answer;
             match answer {
-                store::Answer::Refused(number) => Outcome {
-                    answer: Answer::Refused(number),
+                store::NodeAnswer::Refused(number) => PruneOutcome {
+                    answer: PruneAnswer::Refused(number),
                     arena: after,
                 },
-                store::Answer::Id(id) => Outcome {
-                    answer: Answer::Pruned {
+                store::NodeAnswer::Id(id) => PruneOutcome {
+                    answer: PruneAnswer::Pruned {
                         id,
                         kept: kept as u64,
                         dropped: (found - kept) as u64,
@@ -76,7 +76,7 @@ fn prune_additive_chain(
     arena: DagArena,
     root: u64,
     threshold: u64,
-) -> Outcome
+) -> PruneOutcome
     requires { ⌜ (root < arena .count) × Sound (now nodes) (now slots) arena ⌝ }
     ensures { λ r. ⌜ PrunesRoot (memory (now (nodes .entry)) (now (slots .entry)) arena) root threshold (r .answer)
         (memory (now (nodes .exit)) (now (slots .exit)) (r .arena)) ⌝ }
@@ -84,8 +84,8 @@ fn prune_additive_chain(
     if store::kind(nodes, arena.count, root) == ADD {
         return prune_chain(nodes, slots, arena, root, threshold);
     }
-    Outcome {
-        answer: Answer::Pruned {
+    PruneOutcome {
+        answer: PruneAnswer::Pruned {
             id: root,
             kept: 1,
             dropped: 0,
@@ -101,30 +101,30 @@ fn prune_call(
     arena: DagArena,
     root: u32,
     threshold: Threshold,
-) -> Outcome
+) -> PruneOutcome
     requires { ⌜ Sound (now nodes) (now slots) arena ⌝ }
     ensures { λ r. ⌜ PrunesCall (memory (now (nodes .entry)) (now (slots .entry)) arena) root threshold (r .answer)
         (memory (now (nodes .exit)) (now (slots .exit)) (r .arena)) ⌝ }
 {
     let id = root as u64;
     if arena.count <= id {
-        return Outcome {
-            answer: Answer::Refused(BAD_OPERAND),
+        return PruneOutcome {
+            answer: PruneAnswer::Refused(BAD_OPERAND),
             arena,
         };
     }
     match threshold {
         Threshold::Bits(bits) => prune_additive_chain(nodes, slots, arena, id, bits),
-        Threshold::Untouched => Outcome {
-            answer: Answer::Pruned {
+        Threshold::Untouched => PruneOutcome {
+            answer: PruneAnswer::Pruned {
                 id,
                 kept: 1,
                 dropped: 0,
             },
             arena,
         },
-        Threshold::Refusing(number) => Outcome {
-            answer: Answer::Refused(number),
+        Threshold::Refusing(number) => PruneOutcome {
+            answer: PruneAnswer::Refused(number),
             arena,
         },
     }
@@ -137,7 +137,7 @@ pub fn prune_sound(
     arena: DagArena,
     root: u32,
     threshold: u64,
-) -> Outcome
+) -> PruneOutcome
     requires { ⌜ Sound (now nodes) (now slots) arena ⌝ }
     ensures { λ r. ⌜ Leaves (M.prune root threshold) (memory (now (nodes .entry)) (now (slots .entry)) arena) (meaning (r .answer))
         (memory (now (nodes .exit)) (now (slots .exit)) (r .arena)) ⌝ }
@@ -152,7 +152,7 @@ pub fn prune_by_setting_sound(
     arena: DagArena,
     root: u32,
     setting: u32,
-) -> Outcome
+) -> PruneOutcome
     requires { ⌜ Sound (now nodes) (now slots) arena ⌝ }
     ensures { λ r. ⌜ Leaves (M.pruneBySetting root setting) (memory (now (nodes .entry)) (now (slots .entry)) arena) (meaning (r .answer))
         (memory (now (nodes .exit)) (now (slots .exit)) (r .arena)) ⌝ }
@@ -167,13 +167,13 @@ fn prune_audited(
     arena: DagArena,
     root: u32,
     threshold: Threshold,
-) -> Outcome
+) -> PruneOutcome
     ensures { λ r. ⌜ PrunesAudited (memory (now (nodes .entry)) (now (slots .entry)) arena) root threshold (r .answer)
         (memory (now (nodes .exit)) (now (slots .exit)) (r .arena)) ⌝ }
 {
     if !store::audit(nodes, slots, arena) {
-        return Outcome {
-            answer: Answer::Refused(NOT_SOUND),
+        return PruneOutcome {
+            answer: PruneAnswer::Refused(NOT_SOUND),
             arena,
         };
     }
@@ -187,7 +187,7 @@ pub fn prune(
     arena: DagArena,
     root: u32,
     threshold: u64,
-) -> Outcome
+) -> PruneOutcome
     ensures { λ r. ⌜ Leaves (M.prune root threshold) (memory (now (nodes .entry)) (now (slots .entry)) arena) (meaning (r .answer))
         (memory (now (nodes .exit)) (now (slots .exit)) (r .arena)) ⌝ }
 {
@@ -201,7 +201,7 @@ pub fn prune_by_setting(
     arena: DagArena,
     root: u32,
     setting: u32,
-) -> Outcome
+) -> PruneOutcome
     ensures { λ r. ⌜ Leaves (M.pruneBySetting root setting) (memory (now (nodes .entry)) (now (slots .entry)) arena) (meaning (r .answer))
         (memory (now (nodes .exit)) (now (slots .exit)) (r .arena)) ⌝ }
 {

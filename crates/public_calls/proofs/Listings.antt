@@ -9,11 +9,11 @@ use Rattle.arena.specs.declared.node.DagNode.{DagNode}
 use Rattle.arena.specs.Layout.{nodeWords, mostNodes}
 use Rattle.arena.specs.Node.{nodeAt}
 use Rattle.listing_lines.specs.declared.Outcome.{Outcome}
-use Rattle.listing_reader.specs.declared.Answer.{Answer}
-use Rattle.listing_reader.specs.declared.Answer.the-variants.{Read, Refused, Full}
+use Rattle.listing_reader.specs.declared.ListingAnswer.{ListingAnswer}
+use Rattle.listing_reader.specs.declared.ListingAnswer.the-variants.{Read, Refused, Full}
 use Rattle.listing_reader.specs.First.{NoFirst}
 use Rattle.listing_reader.specs.Line.{LineOf, NoLine}
-use Rattle.listing_reader.specs.Listing.{Begins, AnswerListed, IsListing, Wrong, first, later, missing, OneMore, written, Reading}
+use Rattle.listing_reader.specs.Listing.{Begins, AnswerListed, IsListing, Wrong, first, later, missing, OneMore, written, ListingReading}
 use Rattle.listing_reader.proofs.Memory.{linesFrom, line-some, same-words}
 use Rattle.public_calls.specs.Listings.{ReaderRefuses, ReadersRefuse, ReadsListingOneWay}
 use Rattle.public_calls.proofs.Beginnings.{StartOf, one-outcome, starts, next-line}
@@ -45,18 +45,18 @@ readers-refuse bytes before after r h = record {
 -- ---- where a reading ends
 
 -- why it goes no further, after so many nodes, with `rest` before it and places for `lent` nodes
-data Ending (o : Outcome) (count : ℕ) (rest : List ℕ) (lent : ℕ) : Answer → Type 0 where
+data Ending (o : Outcome) (count : ℕ) (rest : List ℕ) (lent : ℕ) : ListingAnswer → Type 0 where
   whole : rest ≡ [] → AnswerListed o count → Ending o count rest lent (Read o count)
   wrong : (rest ≡ [] → ⊥) → (count < mostNodes → NoLine rest count) → Ending o count rest lent (Refused (count + 2))
   cutShort : rest ≡ [] → (AnswerListed o count → ⊥) → Ending o count rest lent (Refused (count + 2))
   noPlace : count ≡ lent → count < mostNodes → (n : DagNode) (more : List ℕ) → LineOf rest count n more → Ending o count rest lent Full
 
 -- a reading, by its end
-data Told (bytes after : List ℕ) (lent : ℕ) (r : Answer) : Type 0 where
+data Told (bytes after : List ℕ) (lent : ℕ) (r : ListingAnswer) : Type 0 where
   noFirst : NoFirst bytes → r ≡ Refused 1 → Told bytes after lent r
   lines : (o : Outcome) (count : ℕ) (rest : List ℕ) → Begins bytes o after count rest → count ≤ lent → Ending o count rest lent r → Told bytes after lent r
 
-module _ (bytes before after : List ℕ) (r : Answer) (h : Reading bytes before r after) where
+module _ (bytes before after : List ℕ) (r : ListingAnswer) (h : ListingReading bytes before r after) where
   abbrev places : ℕ
   places = length before / nodeWords
 
@@ -72,7 +72,7 @@ module _ (bytes before after : List ℕ) (r : Answer) (h : Reading bytes before 
   by-wrong line (later o count rest b n l) = lines o count rest b (room b) (wrong n l)
   by-wrong line (missing o count b n) = lines o count [] b (room b) (cutShort refl n)
 
-  by-answer : (a : Answer) → r ≡ a → Told bytes after places a
+  by-answer : (a : ListingAnswer) → r ≡ a → Told bytes after places a
   by-answer (Read o count) e = let l = h .right o count e in lines o count [] (l .begins) (room (l .begins)) (whole refl (l .answer))
   by-answer (Refused line) e = by-wrong line (h .refused line e)
   by-answer Full e =
@@ -83,14 +83,14 @@ module _ (bytes before after : List ℕ) (r : Answer) (h : Reading bytes before 
   told = by-answer r refl
 
 -- where a reading ends, no line with a place for its node stands
-no-next : {o : Outcome} {count : ℕ} {rest : List ℕ} {lent : ℕ} {r : Answer} → Ending o count rest lent r → (n : DagNode) (more : List ℕ) → LineOf rest count n more → count < lent → count < mostNodes → ⊥
+no-next : {o : Outcome} {count : ℕ} {rest : List ℕ} {lent : ℕ} {r : ListingAnswer} → Ending o count rest lent r → (n : DagNode) (more : List ℕ) → LineOf rest count n more → count < lent → count < mostNodes → ⊥
 no-next (whole e a) n more l p q = line-some l e
 no-next (wrong u f) n more l p q = f q n more l
 no-next (cutShort e u) n more l p q = line-some l e
 no-next (noPlace e m k other t) n more l p q = omega arith
 
 -- one end has one answer
-one-answer : {o : Outcome} {count : ℕ} {rest : List ℕ} {lent : ℕ} {r r′ : Answer} → Ending o count rest lent r → Ending o count rest lent r′ → r ≡ r′
+one-answer : {o : Outcome} {count : ℕ} {rest : List ℕ} {lent : ℕ} {r r′ : ListingAnswer} → Ending o count rest lent r → Ending o count rest lent r′ → r ≡ r′
 one-answer (whole e a) (whole f b) = refl
 one-answer (whole e a) (wrong n f) = absurd (n e)
 one-answer (whole e a) (cutShort f n) = absurd (n a)
@@ -109,7 +109,7 @@ one-answer (noPlace e m k more t) (cutShort f n) = absurd (line-some t f)
 one-answer (noPlace e m k more t) (noPlace f n j other u) = refl
 
 -- as many nodes are written
-nodes-written : {o : Outcome} {count : ℕ} {rest : List ℕ} {lent : ℕ} {r : Answer} → Ending o count rest lent r → written lent r ≡ count
+nodes-written : {o : Outcome} {count : ℕ} {rest : List ℕ} {lent : ℕ} {r : ListingAnswer} → Ending o count rest lent r → written lent r ≡ count
 nodes-written (whole e a) = refl
 nodes-written (wrong n f) = omega arith
 nodes-written (cutShort e n) = omega arith
@@ -117,16 +117,16 @@ nodes-written (noPlace e m k more t) = sym e
 
 -- ---- two readings of the same bytes
 
-module _ (bytes before after after′ : List ℕ) (r r′ : Answer) (h : Reading bytes before r after) (h′ : Reading bytes before r′ after′) where
+module _ (bytes before after after′ : List ℕ) (r r′ : ListingAnswer) (h : ListingReading bytes before r after) (h′ : ListingReading bytes before r′ after′) where
   abbrev lent : ℕ
   lent = length before / nodeWords
 
   -- without a first line nothing is written
-  untouched : (a : List ℕ) (x : Answer) → Reading bytes before x a → x ≡ Refused 1 → a ≡ before
-  untouched a x k e = subst (λ (y : Answer). drop (written lent y * nodeWords) a ≡ drop (written lent y * nodeWords) before) e (k .past)
+  untouched : (a : List ℕ) (x : ListingAnswer) → ListingReading bytes before x a → x ≡ Refused 1 → a ≡ before
+  untouched a x k e = subst (λ (y : ListingAnswer). drop (written lent y * nodeWords) a ≡ drop (written lent y * nodeWords) before) e (k .past)
 
   -- neither goes further than the other
-  not-further : {o o′ : Outcome} {c c′ : ℕ} {rest rest′ : List ℕ} {w w′ : List ℕ} {x : Answer} → Begins bytes o w c rest → Begins bytes o′ w′ c′ rest′ → c′ ≤ lent → Ending o c rest lent x → c′ ≤ c
+  not-further : {o o′ : Outcome} {c c′ : ℕ} {rest rest′ : List ℕ} {w w′ : List ℕ} {x : ListingAnswer} → Begins bytes o w c rest → Begins bytes o′ w′ c′ rest′ → c′ ≤ lent → Ending o c rest lent x → c′ ≤ c
   not-further {c = c} {c′} b b′ l e = by (decLt c c′)
     where
       by : Dec (c < c′) → c′ ≤ c

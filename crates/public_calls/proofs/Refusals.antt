@@ -13,14 +13,14 @@ use Rattle.definitions.specs.Machine.{freshRefused}
 use Rattle.store.specs.Sound.{Sound}
 use Rattle.store.specs.View.{lent}
 use Rattle.builder.specs.declared.reading.NodeRead.{NodeRead}
-use Rattle.builder.specs.declared.reading.Found as Found
-use Rattle.builder.specs.declared.reading.Found.the-variants as found
-use Rattle.builder.specs.Reads.{Reads, refusedRead, foundRead}
+use Rattle.builder.specs.declared.reading.NodeFound as Found
+use Rattle.builder.specs.declared.reading.NodeFound.the-variants as found
+use Rattle.builder.specs.Reads.{ReadsNode, refusedRead, foundRead}
 use Rattle.builder.specs.declared.opening.FreshStore.{FreshStore}
 use Rattle.builder.specs.Opens.{Opens, freshAnswer}
 use Rattle.text.specs.Memory.{lentController}
 use Rattle.history.proofs.Keeping.{called}
-use Rattle.writer.specs.declared.Answer.the-variants.{Refused}
+use Rattle.writer.specs.declared.WriteAnswer.the-variants.{Refused}
 use Rattle.writer.specs.Writing as Writing
 use Rattle.refusals_listed.specs.Listed.{among}
 use Rattle.refusals_listed.proofs.Called.{calls-answer-listed, among-more, not-not}
@@ -38,7 +38,7 @@ opens-listed words slots slots′ r h = subst (OpenedOr (noSlotPlace ∷ [])) (s
 
 -- ---- a node read back
 
-module _ (words slots : List ℕ) (arena : DagArena) (id : ℕ) (r : NodeRead) (h : Reads words slots arena id r) where
+module _ (words slots : List ℕ) (arena : DagArena) (id : ℕ) (r : NodeRead) (h : ReadsNode words slots arena id r) where
   abbrev ks : List ℕ
   ks = notSound ∷ badOperand ∷ []
 
@@ -50,11 +50,11 @@ module _ (words slots : List ℕ) (arena : DagArena) (id : ℕ) (r : NodeRead) (
       by (yes l) = subst (λ (x : NodeRead). NodeOr (badOperand ∷ []) (x .answer)) (sym (h .found s l)) tt
       by (no n) = subst (λ (x : NodeRead). NodeOr (badOperand ∷ []) (x .answer)) (sym (h .unknown s (omega arith))) tt
 
-  never-20 : (a : Found.Found) → NodeOr (badOperand ∷ []) a → a ≡ found.Refused notSound → ⊥
+  never-20 : (a : Found.NodeFound) → NodeOr (badOperand ∷ []) a → a ≡ found.Refused notSound → ⊥
   never-20 found.Node k e = let z : _≡_ {A = ℕ} 0 1 = cc in omega arith
   never-20 (found.Refused number) k e = let q : number ≡ notSound = cc in subst (λ (n : ℕ). T (among n (badOperand ∷ []))) q k
 
-  read-listed : (a : Found.Found) → r .answer ≡ a → NodeOr ks a
+  read-listed : (a : Found.NodeFound) → r .answer ≡ a → NodeOr ks a
   read-listed found.Node e = tt
   read-listed (found.Refused number) e = not-not (among number ks) (λ out.
       let unsound : Sound words slots arena → ⊥ = λ s. out (among-more number notSound (badOperand ∷ []) (subst (NodeOr (badOperand ∷ [])) e (sound-read s))) in

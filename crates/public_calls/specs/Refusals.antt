@@ -9,16 +9,16 @@ use Rattle.definitions.specs.Refusals.{notSound, badOperand, noText, textTooLon
 use Rattle.definitions.specs.Controller.{ControllerCall, ControllerAnswer}
 use Rattle.store.specs.Sound.{Sound}
 use Rattle.builder.specs.declared.reading.NodeRead.{NodeRead}
-use Rattle.builder.specs.declared.reading.Found as Found
-use Rattle.builder.specs.declared.reading.Found.the-variants as found
-use Rattle.builder.specs.Reads.{Reads}
+use Rattle.builder.specs.declared.reading.NodeFound as Found
+use Rattle.builder.specs.declared.reading.NodeFound.the-variants as found
+use Rattle.builder.specs.Reads.{ReadsNode}
 use Rattle.builder.specs.declared.opening.FreshStore.{FreshStore}
 use Rattle.builder.specs.declared.opening.FreshStore.the-variants.{Store, Refused as NotOpened}
 use Rattle.builder.specs.Opens.{Opens}
 use Rattle.text.specs.Memory.{ControllerMemory, lentController, BothSound}
 use Rattle.calls.specs.Memory.{CallLeaves}
-use Rattle.writer.specs.declared.Answer.{Answer}
-use Rattle.writer.specs.declared.Answer.the-variants.{Length, Refused}
+use Rattle.writer.specs.declared.WriteAnswer.{WriteAnswer}
+use Rattle.writer.specs.declared.WriteAnswer.the-variants.{Length, Refused}
 use Rattle.writer.specs.Writing.{Writes}
 use Rattle.refusals_listed.specs.Listed.{among}
 use Rattle.refusals_listed.specs.Called.{AnswersOn}
@@ -40,7 +40,7 @@ OpensListed = (words slots slots′ : List ℕ) (r : FreshStore) → Opens words
 
 -- ---- a node read back
 
-abbrev pub NodeOr : List ℕ → Found.Found → Type 0
+abbrev pub NodeOr : List ℕ → Found.NodeFound → Type 0
 NodeOr numbers found.Node = Unit {0}
 NodeOr numbers (found.Refused number) = T (among number numbers)
 
@@ -52,19 +52,19 @@ pub record ReadsNodeListed (words slots : List ℕ) (arena : DagArena) (r : Node
 
 abbrev pub NodesReadListed : Type 0
 NodesReadListed = (words slots : List ℕ) (arena : DagArena) (id : ℕ) (r : NodeRead)
-    → Reads words slots arena id r → ReadsNodeListed words slots arena r
+    → ReadsNode words slots arena id r → ReadsNodeListed words slots arena r
 
 -- ---- a node's text
 
-abbrev pub TextOr : List ℕ → Answer → Type 0
+abbrev pub TextOr : List ℕ → WriteAnswer → Type 0
 TextOr numbers (Length size) = Unit {0}
 TextOr numbers (Refused number) = T (among number numbers)
 
 -- 02 (d): 13 and 14 "in this order after 4"
-pub record WritesListed (m : ControllerMemory) (r : Answer) : Type 0 where
+pub record WritesListed (m : ControllerMemory) (r : WriteAnswer) : Type 0 where
   pub listed : TextOr (notSound ∷ badOperand ∷ noText ∷ textTooLong ∷ []) r
   pub unsound : (BothSound m → ⊥) → r ≡ Refused notSound
   pub sound : BothSound m → r ≡ Refused notSound → ⊥
 
 abbrev pub WritesAnswerListed : Type 0
-WritesAnswerListed = (m : ControllerMemory) (id : ℕ) (buffer buffer′ : List ℕ) (r : Answer) → Writes m id buffer r buffer′ → WritesListed m r
+WritesAnswerListed = (m : ControllerMemory) (id : ℕ) (buffer buffer′ : List ℕ) (r : WriteAnswer) → Writes m id buffer r buffer′ → WritesListed m r

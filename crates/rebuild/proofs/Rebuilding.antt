@@ -21,8 +21,8 @@ use Rattle.definitions.proofs.StrictMarks.{unmarked-set}
 use Rattle.store.specs.View.{nodesIn, lent, Builds, listed, plainBuilt, Low}
 use Rattle.store.specs.Lookup.{Lookup, Marked, Fits}
 use Rattle.store.specs.declared.Built.{Built}
-use Rattle.store.specs.declared.Answer.{Answer}
-use Rattle.store.specs.declared.Answer.the-variants.{Id, Refused}
+use Rattle.store.specs.declared.NodeAnswer.{NodeAnswer}
+use Rattle.store.specs.declared.NodeAnswer.the-variants.{Id, Refused}
 use Rattle.store.proofs.Reading as R
 use Rattle.store.proofs.Keeping.{kept-refl, kept-trans}
 use Rattle.patterns.specs.Applied as A
@@ -187,8 +187,8 @@ module _ (m : Memory) (id : ℕ) (c : List ℕ) (b : Rebuildable m id c) where
     abbrev builds : Builds (m .words) (m .slots) (m .arena) (rebuildAs mode (lentOf m) (nodesOf m) id c) words′ slots′ (record { answer = r .answer; arena = r .arena })
     builds = rebuilds .builds
 
-    answered-as : (x : Answer) → r .answer ≡ x → plainBuilt x (nodesOf between) ≡ rebuildAs mode (lentOf m) (nodesOf m) id c
-    answered-as x e = ap (λ (y : Answer). plainBuilt y (nodesOf between)) (sym e) ∙ builds .answer
+    answered-as : (x : NodeAnswer) → r .answer ≡ x → plainBuilt x (nodesOf between) ≡ rebuildAs mode (lentOf m) (nodesOf m) id c
+    answered-as x e = ap (λ (y : NodeAnswer). plainBuilt y (nodesOf between)) (sym e) ∙ builds .answer
 
     pub stops : (number : ℕ) → r .answer ≡ Refused number → Finishes mode m id c (Refused number) (r .fired) (memory words′ slots′ (r .arena))
     stops number e = record {
@@ -200,7 +200,7 @@ module _ (m : Memory) (id : ℕ) (c : List ℕ) (b : Rebuildable m id c) where
 
     module _ (i : ℕ) (e : r .answer ≡ Id i) where
       result-low : i < r .arena .count
-      result-low = subst (λ (x : Answer). Low x (r .arena .count)) e (builds .low)
+      result-low = subst (λ (x : NodeAnswer). Low x (r .arena .count)) e (builds .low)
 
       -- the node that is marked is the result
       pub may-mark : (j : ℕ) → j ≡ i → Lookup words′ (r .arena .count) j

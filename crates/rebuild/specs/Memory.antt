@@ -6,8 +6,8 @@ use Rattle.store.specs.View as View
 use Rattle.store.specs.View.{nodesIn, lent, Kept}
 pub use Rattle.store.specs.Memory.{Memory, memory}
 
-abbrev pub Sound : Memory → Type 0
-Sound m = View.Sound (m .words) (m .slots) (m .arena)
+abbrev pub SoundMemory : Memory → Type 0
+SoundMemory m = View.Sound (m .words) (m .slots) (m .arena)
 
 abbrev pub nodesOf : Memory → List Node
 nodesOf m = nodesIn (m .words) (m .arena .count)

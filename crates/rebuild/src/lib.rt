@@ -14,8 +14,8 @@ use arena::kind::MUL;
 use definitions::mode::Mode;
 use patterns::Matched;
 use patterns::firing::Fired;
-use store::Answer;
 use store::Built;
+use store::NodeAnswer;
 
 // 01: "`add` and `mul` give flags 3, other constructors 0".
 const OTHER_FLAGS: u64 = 0;
@@ -25,7 +25,7 @@ const CONSTRUCTED_ARITY: u64 = 2;
 
 // The result or the refusal that stopped it, the store after it, and the pattern that fired.
 pub struct Finished {
-    pub answer: Answer,
+    pub answer: NodeAnswer,
     pub arena: DagArena,
     pub fired: Fired,
 }
@@ -62,7 +62,7 @@ fn rebuild(
     let count = arena.count;
     if store::has_children(nodes, count, id, children) {
         return Built {
-            answer: Answer::Id(id),
+            answer: NodeAnswer::Id(id),
             arena,
         };
     }
@@ -103,12 +103,12 @@ fn rebuild_or_match(
             }
         }
         Matched::Id(result) => Finished {
-            answer: Answer::Id(result),
+            answer: NodeAnswer::Id(result),
             arena: after,
             fired,
         },
         Matched::Refused(number) => Finished {
-            answer: Answer::Refused(number),
+            answer: NodeAnswer::Refused(number),
             arena: after,
             fired,
         },
@@ -144,15 +144,15 @@ pub fn finish(
     let answer = rebuilt.answer;
     let fired = rebuilt.fired;
     match answer {
-        Answer::Refused(number) => Finished {
-            answer: Answer::Refused(number),
+        NodeAnswer::Refused(number) => Finished {
+            answer: NodeAnswer::Refused(number),
             arena: after,
             fired,
         },
-        Answer::Id(result) => {
+        NodeAnswer::Id(result) => {
             mark(nodes, after.count, mode, result);
             Finished {
-                answer: Answer::Id(result),
+                answer: NodeAnswer::Id(result),
                 arena: after,
                 fired,
             }

@@ -6,7 +6,7 @@ use crate::printing::refused;
 use crate::printing::text;
 use arena::DagArena;
 use arena::MOST_CHILDREN;
-use builder::Found;
+use builder::NodeFound;
 use libc::STDOUT_FILENO;
 
 // The hexadecimal digits of a payload.
@@ -35,8 +35,8 @@ fn node(nodes: &[u64], slots: &[u32], arena: DagArena, id: u32) {
     text(b"\n   ");
     number(id as u64);
     match found {
-        Found::Refused(refusal) => refused(refusal),
-        Found::Node => {
+        NodeFound::Refused(refusal) => refused(refusal),
+        NodeFound::Node => {
             number(node.kind);
             text(b" ");
             io::print_hex(STDOUT_FILENO, node.payload, PAYLOAD_DIGITS);

@@ -29,7 +29,7 @@ use Rattle.store_calls.specs.declared.answers.Answer.{Answer}
 use Rattle.store_calls.specs.Calls.{answerOf}
 use Rattle.sheet.specs.declared.running.Noted.{Noted}
 use Rattle.sheet.specs.declared.running.Noted.the-variants.{Answered, Refused}
-use Rattle.sheet.specs.declared.running.Progress.{Progress}
+use Rattle.sheet.specs.declared.running.SheetProgress.{SheetProgress}
 use Rattle.sheet.specs.declared.running.Turn.the-variants.{More, Refused as RefusedTurn}
 use Rattle.sheet.specs.Running.{notedAs, PerformsBody, idOf, finishedAs, Doing, RunsRecords, Turned}
 
@@ -122,7 +122,7 @@ finish plain m m′ o al r st e f v k = record {
   stays = k;
 }
 
-pub doing-start : (s : List ℕ) (m : Memory) (p : Progress) (ids : List ℕ) → model .Sound m → length ids ≡ mostRecords → p .done ≡ 0 → Doing s (Sheet.records mostRecords (model .lent m) [] (model .view m) (drop (p .at) s)) m p m ids
+pub doing-start : (s : List ℕ) (m : Memory) (p : SheetProgress) (ids : List ℕ) → model .Sound m → length ids ≡ mostRecords → p .done ≡ 0 → Doing s (Sheet.records mostRecords (model .lent m) [] (model .view m) (drop (p .at) s)) m p m ids
 doing-start s m p ids h w z = record {
   answers = [];
   long = sym z;
@@ -134,7 +134,7 @@ doing-start s m p ids h w z = record {
   stays = stays-refl m h;
 }
 
-module _ (s : List ℕ) (plain : Sheet.Ran) (m : Memory) (p : Progress) (m′ : Memory) (ids : List ℕ) (d : Doing s plain m p m′ ids) where
+module _ (s : List ℕ) (plain : Sheet.Ran) (m : Memory) (p : SheetProgress) (m′ : Memory) (ids : List ℕ) (d : Doing s plain m p m′ ids) where
   abbrev al : List M.Answer
   al = d .answers
 
@@ -215,7 +215,7 @@ module _ (s : List ℕ) (plain : Sheet.Ran) (m : Memory) (p : Progress) (m′ : 
                 (subst (λ (y : Memory). Stays m y) (sym (same .1)) (d .stays))
             go (some c) e = passed-refused number c e (after c a (Refused number) noted (q .whole c e))
 
-        module _ (id : ℕ) (spent : Bool) (p′ : Progress) (done′ : p′ .done ≡ p .done + 1) (at′ : p′ .at ≡ r .next .at) (id′ : p′ .id ≡ id) (spent′ : p′ .spent ≡ spent) where
+        module _ (id : ℕ) (spent : Bool) (p′ : SheetProgress) (done′ : p′ .done ≡ p .done + 1) (at′ : p′ .at ≡ r .next .at) (id′ : p′ .id ≡ id) (spent′ : p′ .spent ≡ spent) where
           noted-more : (a : M.Answer) → Sheet.answerId a ≡ id → (i : ℕ) → i < p .done + 1 → getD (set ids (p .done) id) i 0 ≡ Sheet.answerId (getD (al ++ a ∷ []) i (M.refused 0))
           noted-more a e i h = go (decLt i (p .done))
             where
@@ -271,9 +271,9 @@ module _ (s : List ℕ) (plain : Sheet.Ran) (m : Memory) (p : Progress) (m′ : 
 -- ---- a turn's two ways
 
 module _ (s : List ℕ) (plain : Sheet.Ran) (m : Memory) (done : ℕ) (words slots ids : List ℕ) where
-  pub turned-more : (p : Progress) → p .done ≡ done + 1 → Doing s plain m p (memory words slots (p .arena)) ids → Turned s plain m done (More p) words slots ids
+  pub turned-more : (p : SheetProgress) → p .done ≡ done + 1 → Doing s plain m p (memory words slots (p .arena)) ids → Turned s plain m done (More p) words slots ids
   turned-more p e d = record {
-    more = λ q f. let same : p ≡ q = cc in subst (λ (x : Progress). (x .done ≡ done + 1) × Doing s plain m x (memory words slots (x .arena)) ids) same (e, d);
+    more = λ q f. let same : p ≡ q = cc in subst (λ (x : SheetProgress). (x .done ≡ done + 1) × Doing s plain m x (memory words slots (x .arena)) ids) same (e, d);
     refused = λ number arena f. absurd (let z : _≡_ {A = ℕ} 0 1 = cc in omega arith);
   }
 

@@ -25,7 +25,7 @@ use Rattle.sheet.specs.declared.performing.Request.{Request}
 use Rattle.sheet.specs.declared.performing.Request.the-variants.{Call as Asked, Malformed}
 use Rattle.sheet.specs.declared.running.Noted.{Noted}
 use Rattle.sheet.specs.declared.running.Noted.the-variants.{Answered, Refused}
-use Rattle.sheet.specs.declared.running.Progress.{Progress}
+use Rattle.sheet.specs.declared.running.SheetProgress.{SheetProgress}
 use Rattle.sheet.specs.declared.running.Turn.{Turn}
 use Rattle.sheet.specs.declared.running.Turn.the-variants.{More, Refused as RefusedTurn}
 
@@ -80,7 +80,7 @@ abbrev pub finishedAs : ℕ → ℕ → Bool → Outcome
 finishedAs done id spent = cond (eqb done 0) Empty (cond spent (Spent id) (Ok id))
 
 -- So far `answers` were given from memory `m` on, their ids are noted, and what is left of the sheet `s` gives `plain`.
-pub record Doing (s : List ℕ) (plain : Sheet.Ran) (m : Memory) (p : Progress) (m′ : Memory) (ids : List ℕ) : Type 0 where
+pub record Doing (s : List ℕ) (plain : Sheet.Ran) (m : Memory) (p : SheetProgress) (m′ : Memory) (ids : List ℕ) : Type 0 where
   pub answers : List M.Answer
   pub long : length answers ≡ p .done
   pub few : p .done ≤ mostRecords
@@ -98,9 +98,9 @@ pub record RunsRecords (plain : Sheet.Ran) (m : Memory) (o : Outcome) (m′ : Me
 
 -- one more record, or the end of the sheet by a refusal
 pub record Turned (s : List ℕ) (plain : Sheet.Ran) (m : Memory) (done : ℕ) (t : Turn) (words slots ids : List ℕ) : Type 0 where
-  pub more : (p : Progress) → t ≡ More p → (p .done ≡ done + 1) × Doing s plain m p (memory words slots (p .arena)) ids
+  pub more : (p : SheetProgress) → t ≡ More p → (p .done ≡ done + 1) × Doing s plain m p (memory words slots (p .arena)) ids
   pub refused : (number : ℕ) (arena : DagArena) → t ≡ RefusedTurn number arena → RunsRecords plain m (RefusedAt number done) (memory words slots arena)
 
 -- a turn, whatever was done before it
-pub record NextRecord (s : List ℕ) (p : Progress) (words slots ids : List ℕ) (t : Turn) (words′ slots′ ids′ : List ℕ) : Type 0 where
+pub record NextRecord (s : List ℕ) (p : SheetProgress) (words slots ids : List ℕ) (t : Turn) (words′ slots′ ids′ : List ℕ) : Type 0 where
   pub turned : (plain : Sheet.Ran) (m : Memory) → Doing s plain m p (memory words slots (p .arena)) ids → Turned s plain m (p .done) t words′ slots′ ids′

@@ -20,7 +20,7 @@ use store_calls::Answer;
 
 // How far a sheet is done: the number of records, where the next one starts, the last answer's id and whether its budget ran out,
 // and the counts of the store.
-pub(crate) struct Progress {
+pub(crate) struct SheetProgress {
     pub done: usize,
     pub at: usize,
     pub id: u64,
@@ -30,7 +30,7 @@ pub(crate) struct Progress {
 
 // One more record done, or the number of the refusal that cuts the sheet short.
 pub(crate) enum Turn {
-    More(Progress),
+    More(SheetProgress),
     Refused { number: u64, arena: DagArena },
 }
 
@@ -63,7 +63,7 @@ fn step(
     nodes: &mut [u64],
     slots: &mut [u32],
     ids: &mut [u64; MOST_RECORDS],
-    progress: Progress,
+    progress: SheetProgress,
 ) -> Turn
     requires { ⌜ (progress .at < length (now sheet)) × (length (now ids) ≡ mostRecords) × (progress .done ≤ mostRecords) × Sound (now nodes)
         (now slots) (progress .arena) ⌝ }
@@ -93,7 +93,7 @@ fn step(
         },
         Noted::Answered { id, spent } => {
             ids[done] = id;
-            Turn::More(Progress {
+            Turn::More(SheetProgress {
                 done: done + 1,
                 at: next.at,
                 id,
@@ -105,7 +105,7 @@ fn step(
 }
 
 // What a sheet without a refusal says.
-fn finished(progress: Progress) -> Outcome
+fn finished(progress: SheetProgress) -> Outcome
     ensures { λ r. ⌜ r ≡ finishedAs (progress .done) (progress .id) (progress .spent) ⌝ }
 {
     if progress.done == 0 {
@@ -131,7 +131,7 @@ pub(crate) fn run_records(
         (memory (now (nodes .entry)) (now (slots .entry)) arena) (r .outcome) (memory (now (nodes .exit)) (now (slots .exit)) (r .arena)) ⌝ }
 {
     let mut ids = [0; MOST_RECORDS];
-    let mut progress = Progress {
+    let mut progress = SheetProgress {
         done: 0,
         at: start,
         id: 0,

@@ -9,10 +9,10 @@ use Rattle.arena.specs.Layout.{mostChildren, arenaOf}
 use Rattle.arena.specs.Node.{nodeAt, one}
 use Rattle.arena.specs.Nodes.{WellFormed}
 use Rattle.arena.proofs.Finding.{find-one}
-use Rattle.dedup.specs.declared.Answer.the-variants.{Old}
+use Rattle.dedup.specs.declared.Insertion.the-variants.{Old}
 use Rattle.dedup.specs.Intern.{answered}
 use Rattle.dedup.proofs.Answers.{old-answer}
-use Rattle.store.specs.declared.Answer.the-variants.{Id}
+use Rattle.store.specs.declared.NodeAnswer.the-variants.{Id}
 use Rattle.store.specs.Sound.{Sound}
 use Rattle.store.specs.View.{plainNode}
 use Rattle.store.specs.Interning.{Interns, builtOf}

@@ -18,8 +18,8 @@ use Rattle.arena.specs.Node.{put}
 use Rattle.arena.specs.Nodes.{WellFormed}
 use Rattle.arena.proofs.Putting.{put-past, put-old, put-new}
 use Rattle.arena.proofs.Finding.{found-at}
-use Rattle.dedup.specs.declared.Answer as DA
-use Rattle.dedup.specs.declared.Answer.the-variants as DV
+use Rattle.dedup.specs.declared.Insertion as DA
+use Rattle.dedup.specs.declared.Insertion.the-variants as DV
 use Rattle.dedup.specs.Table.{Table, hashAt}
 use Rattle.dedup.specs.Intern as D
 use Rattle.dedup.specs.Intern.{Interned, answered, newAnswer, internAnswer, wordsAfter}
@@ -29,8 +29,8 @@ use Rattle.definitions.specs.Refusals.{noNodePlace, noSlotPlace}
 use Rattle.definitions.specs.Intern as I
 use Rattle.definitions.specs.Intern.{capacity, noPlace, foundOrNew, addNew}
 use Rattle.store.specs.declared.Built.{Built}
-use Rattle.store.specs.declared.Answer.{Answer}
-use Rattle.store.specs.declared.Answer.the-variants.{Id, Refused}
+use Rattle.store.specs.declared.NodeAnswer.{NodeAnswer}
+use Rattle.store.specs.declared.NodeAnswer.the-variants.{Id, Refused}
 use Rattle.store.specs.Sound.{Sound}
 use Rattle.store.specs.View.{plainNode, nodesIn, lent, Grown, plainBuilt, Low}
 use Rattle.store.specs.Memory.{memory}
@@ -39,7 +39,7 @@ use Rattle.store.proofs.Viewing.{neat-of, find-is, plain-length, plain-
 use Rattle.store.proofs.Sizes.{full-nodes, full-not, full-slots, full-double, grown-refl, grown-once}
 
 -- the table's answer as the store's
-abbrev pub viewed : DA.Answer → Answer
+abbrev pub viewed : DA.Insertion → NodeAnswer
 viewed (DV.Old i) = Id i
 viewed (DV.New i) = Id i
 viewed (DV.Refused number) = Refused number
@@ -79,25 +79,25 @@ module _ (w slots : List ℕ) (s : DagArena) (key : DagNode) (four : length (key
       ∙ plain-more (put w c key) c
       ∙ (rw (plain-same w (put w c key) c (put-old w c key fits four), put-new w c key fits four) refl)
 
-  module _ (t : Interned) (w′ slots′ : List ℕ) (i : D.Interns w slots s key t w′ slots′) (lw : length w′ ≡ length w) (ls : length slots′ ≡ length slots) where
+  module _ (t : Interned) (w′ slots′ : List ℕ) (i : D.Inserts w slots s key t w′ slots′) (lw : length w′ ≡ length w) (ls : length slots′ ≡ length slots) where
     abbrev Goal : Type 0
     Goal = Interns w slots s (plainNode key) w′ slots′ (out t)
 
     sound : Sound w′ slots′ (t .arena)
     sound = record { nodes = i .nodes; table = i .table }
 
-    after : (a : DA.Answer) → t .answer ≡ a → w′ ≡ wordsAfter a w key
-    after a e = i .words-after ∙ ap (λ (x : DA.Answer). wordsAfter x w key) e
+    after : (a : DA.Insertion) → t .answer ≡ a → w′ ≡ wordsAfter a w key
+    after a e = i .words-after ∙ ap (λ (x : DA.Insertion). wordsAfter x w key) e
 
     -- no node more, at the same size, leaves every slot
-    same-slots : (a : DA.Answer) → t ≡ answered a c z → w′ ≡ w → slots′ ≡ slots
+    same-slots : (a : DA.Insertion) → t ≡ answered a c z → w′ ≡ w → slots′ ≡ slots
     same-slots a e q =
         slots-one (hashAt w) c slots slots′ z (h .table)
         (subst (λ (x : List ℕ). Table (hashAt x) c slots′ z) q (subst (λ (x : Interned). Table (hashAt w′) (x .arena .count) slots′ (x .arena .size)) e (i .table)))
         (subst (λ (x : Interned). drop (x .arena .size) slots′ ≡ drop (x .arena .size) slots) e (i .slots-past))
 
     -- the same nodes and slots
-    stays : (a : DA.Answer) → t ≡ answered a (s .count) (s .size) → w′ ≡ w → slots′ ≡ slots → plainBuilt (viewed a) (nodesIn w c) ≡ plain → Low (viewed a) c → Goal
+    stays : (a : DA.Insertion) → t ≡ answered a (s .count) (s .size) → w′ ≡ w → slots′ ≡ slots → plainBuilt (viewed a) (nodesIn w c) ≡ plain → Low (viewed a) c → Goal
     stays a e q r p low =
         subst (λ (x : Interned). Interns w slots s (plainNode key) w′ slots′ (out x)) (sym e)
         (record {
@@ -194,5 +194,5 @@ module _ (w slots : List ℕ) (s : DagArena) (key : DagNode) (four : length (key
         go none e q = new e q
 
     -- with the answer taken apart
-    pub seen : (a : DA.Answer) → t .answer ≡ a → Interns w slots s (plainNode key) w′ slots′ (record { answer = viewed a; arena = t .arena })
-    seen a e = subst (λ (x : DA.Answer). Interns w slots s (plainNode key) w′ slots′ (record { answer = viewed x; arena = t .arena })) e refined
+    pub seen : (a : DA.Insertion) → t .answer ≡ a → Interns w slots s (plainNode key) w′ slots′ (record { answer = viewed a; arena = t .arena })
+    seen a e = subst (λ (x : DA.Insertion). Interns w slots s (plainNode key) w′ slots′ (record { answer = viewed x; arena = t .arena })) e refined

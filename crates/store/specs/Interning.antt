@@ -7,13 +7,13 @@ use Rattle.arena.specs.Layout.{arenaOf}
 use Rattle.definitions.specs.Node as N
 use Rattle.definitions.specs.Intern as I
 use Rattle.store.specs.declared.Built.{Built}
-use Rattle.store.specs.declared.Answer.{Answer}
-use Rattle.store.specs.declared.Answer.the-variants.{Refused}
+use Rattle.store.specs.declared.NodeAnswer.{NodeAnswer}
+use Rattle.store.specs.declared.NodeAnswer.the-variants.{Refused}
 use Rattle.store.specs.View.{nodesIn, lent, Builds}
 use Rattle.store.specs.Memory.{memory}
 
 -- an answer with the counts after it
-abbrev pub builtOf : Answer → ℕ → ℕ → Built
+abbrev pub builtOf : NodeAnswer → ℕ → ℕ → Built
 builtOf answer count size = record { answer = answer; arena = arenaOf count size }
 
 -- it is the plain machine's, and a refusal changes nothing

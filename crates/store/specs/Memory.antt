@@ -14,8 +14,8 @@ use Rattle.definitions.specs.Node as N
 use Rattle.definitions.specs.Intern.{tableSizeFrom}
 use Rattle.definitions.specs.Machine as M
 use Rattle.definitions.specs.Promise.{Model, Called}
-use Rattle.store.specs.declared.Answer.{Answer}
-use Rattle.store.specs.declared.Answer.the-variants.{Id, Refused}
+use Rattle.store.specs.declared.NodeAnswer.{NodeAnswer}
+use Rattle.store.specs.declared.NodeAnswer.the-variants.{Id, Refused}
 use Rattle.store.specs.Sound.{Sound}
 use Rattle.store.specs.View.{nodesIn, lent, Grown}
 use Rattle.store.specs.Stored.{nodesWords, hashIn}
@@ -56,7 +56,7 @@ model = record {
 }
 
 -- 01's number and values for each answer of a store call
-abbrev pub answerOf : Answer → M.Answer
+abbrev pub answerOf : NodeAnswer → M.Answer
 answerOf (Id id) = M.stored id
 answerOf (Refused number) = M.refused number
 

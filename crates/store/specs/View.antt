@@ -12,8 +12,8 @@ unfoldable pub use Rattle.arena.specs.Kind.{listed}
 use Rattle.definitions.specs.Node as N
 use Rattle.definitions.specs.Intern as I
 use Rattle.store.specs.declared.Built.{Built}
-use Rattle.store.specs.declared.Answer.{Answer}
-use Rattle.store.specs.declared.Answer.the-variants.{Id, Refused}
+use Rattle.store.specs.declared.NodeAnswer.{NodeAnswer}
+use Rattle.store.specs.declared.NodeAnswer.the-variants.{Id, Refused}
 pub use Rattle.store.specs.Sound.{Sound}
 
 -- a node of the memory, plainly: the mark stands apart from flags 1 and 2, and the children are the places in use
@@ -56,12 +56,12 @@ pub record Kept (words slots : List ℕ) (arena : DagArena) (words′ slots′ :
   pub children : (i : ℕ) → i < arena .count → N.at (nodesIn words′ (arena′ .count)) i .children ≡ N.at (nodesIn words (arena .count)) i .children
 
 -- an answer over the memory after it, plainly
-abbrev pub plainBuilt : Answer → List N.Node → I.Built
+abbrev pub plainBuilt : NodeAnswer → List N.Node → I.Built
 plainBuilt (Id i) ns = I.built ns i
 plainBuilt (Refused k) ns = I.stopped ns k
 
 -- an id that is answered is one of the store
-abbrev pub Low : Answer → ℕ → Type 0
+abbrev pub Low : NodeAnswer → ℕ → Type 0
 Low (Id i) count = i < count
 Low (Refused k) count = Unit {0}
 

@@ -13,8 +13,8 @@ ghost use Rattle.store.specs.Sound.{Sound};
 ghost use Rattle.store.specs.View.{nodesIn, lent, Builds};
 ghost use Rattle.store.specs.Lookup.{Fits};
 ghost use Rattle.store.specs.Interning.{Interns, builtOf};
-use crate::Answer;
 use crate::Built;
+use crate::NodeAnswer;
 use arena::DagArena;
 use arena::has_parts;
 use dedup::get_or_insert;
@@ -29,7 +29,7 @@ fn intern_counted(
     payload: u64,
     flags: u64,
     children: &[u32],
-) -> Answer
+) -> NodeAnswer
     requires { ⌜ Fits (now count) kind payload flags (now children) × Sound (now nodes) (now slots) (arenaOf (now count) (now size)) ⌝ }
     ensures { λ r. ⌜ Interns (now (nodes .entry)) (now (slots .entry)) (arenaOf (now (count .entry)) (now (size .entry)))
         (N.node kind payload flags (now (children .entry))) (now (nodes .exit)) (now (slots .exit))
@@ -48,9 +48,9 @@ fn intern_counted(
         children,
     );
     match answer {
-        dedup::Answer::Old(id) => Answer::Id(id),
-        dedup::Answer::New(id) => Answer::Id(id),
-        dedup::Answer::Refused(number) => Answer::Refused(number),
+        dedup::Insertion::Old(id) => NodeAnswer::Id(id),
+        dedup::Insertion::New(id) => NodeAnswer::Id(id),
+        dedup::Insertion::Refused(number) => NodeAnswer::Refused(number),
     }
 }
 
@@ -117,14 +117,14 @@ pub fn intern_likely(
     flags: u64,
     children: &[u32],
     likely: u64,
-) -> Answer
+) -> NodeAnswer
     requires { ⌜ Fits (now count) kind payload flags (now children) × Sound (now nodes) (now slots) (arenaOf (now count) (now size)) ⌝ }
     ensures { λ r. ⌜ Interns (now (nodes .entry)) (now (slots .entry)) (arenaOf (now (count .entry)) (now (size .entry)))
         (N.node kind payload flags (now (children .entry))) (now (nodes .exit)) (now (slots .exit))
         (builtOf r (now (count .exit)) (now (size .exit))) ⌝ }
 {
     if is_node(nodes, *count, likely, kind, payload, flags, children) {
-        return Answer::Id(likely);
+        return NodeAnswer::Id(likely);
     }
     intern_counted(nodes, slots, count, size, kind, payload, flags, children)
 }

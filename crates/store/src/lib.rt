@@ -16,14 +16,14 @@ ghost use Rattle.store.specs.Sound.{Sound};
 use arena::DagArena;
 
 // The id of a node, or the number of a refusal.
-pub enum Answer {
+pub enum NodeAnswer {
     Id(u64),
     Refused(u64),
 }
 
 // An answer, and the counts of the store after it.
 pub struct Built {
-    pub answer: Answer,
+    pub answer: NodeAnswer,
     pub arena: DagArena,
 }
 

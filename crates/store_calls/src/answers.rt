@@ -42,11 +42,11 @@ pub fn of_built(built: Built) -> Performed
     let answer = built.answer;
     let arena = built.arena;
     match answer {
-        store::Answer::Id(id) => Performed {
+        store::NodeAnswer::Id(id) => Performed {
             answer: Answer::Stored(id),
             arena,
         },
-        store::Answer::Refused(number) => Performed {
+        store::NodeAnswer::Refused(number) => Performed {
             answer: Answer::Refused(number),
             arena,
         },
@@ -54,13 +54,13 @@ pub fn of_built(built: Built) -> Performed
 }
 
 // The answer of a walk.
-pub(crate) fn of_walk(outcome: walk::Outcome) -> Performed
+pub(crate) fn of_walk(outcome: walk::WalkOutcome) -> Performed
     ensures { λ r. ⌜ (answerOf (r .answer) ≡ Walk.meaning (outcome .answer)) × (r .arena ≡ outcome .arena) ⌝ }
 {
     let answer = outcome.answer;
     let arena = outcome.arena;
     match answer {
-        walk::Answer::Simplified { id, steps } => Performed {
+        walk::WalkAnswer::Simplified { id, steps } => Performed {
             answer: Answer::Simplified(Walked {
                 id,
                 spent: false,
@@ -68,7 +68,7 @@ pub(crate) fn of_walk(outcome: walk::Outcome) -> Performed
             }),
             arena,
         },
-        walk::Answer::Spent { id, steps } => Performed {
+        walk::WalkAnswer::Spent { id, steps } => Performed {
             answer: Answer::Simplified(Walked {
                 id,
                 spent: true,
@@ -76,7 +76,7 @@ pub(crate) fn of_walk(outcome: walk::Outcome) -> Performed
             }),
             arena,
         },
-        walk::Answer::Refused(number) => Performed {
+        walk::WalkAnswer::Refused(number) => Performed {
             answer: Answer::Refused(number),
             arena,
         },
@@ -84,17 +84,17 @@ pub(crate) fn of_walk(outcome: walk::Outcome) -> Performed
 }
 
 // The answer of a prune.
-pub(crate) fn of_prune(outcome: pruner::Outcome) -> Performed
+pub(crate) fn of_prune(outcome: pruner::PruneOutcome) -> Performed
     ensures { λ r. ⌜ (answerOf (r .answer) ≡ Pruner.meaning (outcome .answer)) × (r .arena ≡ outcome .arena) ⌝ }
 {
     let answer = outcome.answer;
     let arena = outcome.arena;
     match answer {
-        pruner::Answer::Pruned { id, kept, dropped } => Performed {
+        pruner::PruneAnswer::Pruned { id, kept, dropped } => Performed {
             answer: Answer::Pruned(Pruned { id, kept, dropped }),
             arena,
         },
-        pruner::Answer::Refused(number) => Performed {
+        pruner::PruneAnswer::Refused(number) => Performed {
             answer: Answer::Refused(number),
             arena,
         },

@@ -7,13 +7,13 @@ use Rattle.arena.specs.declared.DagArena.{DagArena}
 use Rattle.arena.specs.Layout.{mostNodes}
 use borrow.Author.Tests.{le-leb, lt-leb}
 use Rattle.definitions.specs.Intern as I
-use Rattle.store.specs.declared.Answer.{Answer}
-use Rattle.store.specs.declared.Answer.the-variants.{Id, Refused}
+use Rattle.store.specs.declared.NodeAnswer.{NodeAnswer}
+use Rattle.store.specs.declared.NodeAnswer.the-variants.{Id, Refused}
 use Rattle.store.specs.View.{Low, Builds}
 use Rattle.sums.specs.Number.{numberOf, answerIn, BuildsNumber}
 
 module _ (words slots : List ℕ) (a : DagArena) (plain : I.Built) (words′ slots′ : List ℕ) (a′ : DagArena) where
-  abbrev Answers : Answer → Type 0
+  abbrev Answers : NodeAnswer → Type 0
   Answers answer = Builds words slots a plain words′ slots′ (record { answer = answer; arena = a′ })
 
   -- the answer that a number stands for: an id that is answered is below the count, and the count is 65,536 at most
@@ -21,19 +21,19 @@ module _ (words slots : List ℕ) (a : DagArena) (plain : I.Built) (words′ slo
     pub is-id : number < mostNodes → Answers (Id number)
     is-id below = go (b .answer) (b .is) (b .builds)
       where
-        go : (answer : Answer) → number ≡ numberOf answer → Answers answer → Answers (Id number)
+        go : (answer : NodeAnswer) → number ≡ numberOf answer → Answers answer → Answers (Id number)
         go (Id id) e h = subst (λ (n : ℕ). Answers (Id n)) (sym e) h
         go (Refused k) e h = absurd (omega arith)
 
     pub is-refused : mostNodes ≤ number → Answers (Refused (number - mostNodes))
     is-refused past = go (b .answer) (b .is) (b .builds)
       where
-        go : (answer : Answer) → number ≡ numberOf answer → Answers answer → Answers (Refused (number - mostNodes))
+        go : (answer : NodeAnswer) → number ≡ numberOf answer → Answers answer → Answers (Refused (number - mostNodes))
         go (Id id) e h = absurd (let low : id < a′ .count = h .low in omega (arith, h .kept .whole .nodes .formed .many))
         go (Refused k) e h = let same : k ≡ number - mostNodes = omega arith in subst (λ (n : ℕ). Answers (Refused n)) same h
 
 -- the number of an answer stands for it, where its id is one of the store
-answer-in : (answer : Answer) (count : ℕ) → count ≤ mostNodes → Low answer count → answerIn (numberOf answer) ≡ answer
+answer-in : (answer : NodeAnswer) (count : ℕ) → count ≤ mostNodes → Low answer count → answerIn (numberOf answer) ≡ answer
 unfolding answerIn
 answer-in (Id id) count most low = rw (lt-leb mostNodes id (let l : id < count = low in omega arith)) refl
 answer-in (Refused k) count most low = let e : mostNodes + k - mostNodes ≡ k = omega arith in rw (le-leb mostNodes (mostNodes + k) (omega arith), e) refl
@@ -45,7 +45,7 @@ builds-in words slots a plain words′ slots′ number a′ b =
 
 -- a number that answers one call answers another that leaves the same memory with the same answer
 module _ (words slots : List ℕ) (a : DagArena) (plain : I.Built) (words₀ slots₀ : List ℕ) (a₀ : DagArena) (plain₀ : I.Built) (words′ slots′ : List ℕ) (a′ : DagArena) (number : ℕ) (b : BuildsNumber words slots a plain words′ slots′ number a′) where
-  pub number-stays : ((answer : Answer) → Answers words slots a plain words′ slots′ a′ answer → Answers words₀ slots₀ a₀ plain₀ words′ slots′ a′ answer)
+  pub number-stays : ((answer : NodeAnswer) → Answers words slots a plain words′ slots′ a′ answer → Answers words₀ slots₀ a₀ plain₀ words′ slots′ a′ answer)
       → BuildsNumber words₀ slots₀ a₀ plain₀ words′ slots′ number a′
   number-stays same = record { answer = b .answer; is = b .is; builds = same (b .answer) (b .builds) }
 

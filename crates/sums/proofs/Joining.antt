@@ -10,8 +10,8 @@ use Rattle.definitions.specs.Intern.{Lent, built, stopped}
 use Rattle.definitions.specs.Patterns.{internAdd}
 use Rattle.arena.specs.declared.DagArena.{DagArena}
 use Rattle.arena.specs.Layout.{mostNodes}
-use Rattle.store.specs.declared.Answer.{Answer}
-use Rattle.store.specs.declared.Answer.the-variants.{Id, Refused}
+use Rattle.store.specs.declared.NodeAnswer.{NodeAnswer}
+use Rattle.store.specs.declared.NodeAnswer.the-variants.{Id, Refused}
 use Rattle.store.specs.View.{nodesIn, lent, Sound, Kept, Builds}
 use Rattle.store.proofs.Keeping.{kept-refl, kept-trans}
 use Rattle.sums.proofs.Decoding.{is-id, is-refused}
@@ -76,10 +76,10 @@ module _ (words slots : List ℕ) (s : DagArena) (rights lefts : List ℕ) (dept
             (rw (i .same) (omega arith), i .low, i .kept .whole)
 
         module _ (words″ slots″ : List ℕ) (number′ : ℕ) (u : DagArena) (a : AddsNumber words′ slots′ t (getD lefts′ (from - 1) 0) number words″ slots″ number′ u) where
-          abbrev Adds : Answer → Type 0
+          abbrev Adds : NodeAnswer → Type 0
           Adds answer = Builds words′ slots′ t (internAdd (lent words′ slots′) ns (getD lefts′ (from - 1) 0) number) words″ slots″ (record { answer = answer; arena = u })
 
-          kept″ : (answer : Answer) → Adds answer → Kept words slots s words″ slots″ u
+          kept″ : (answer : NodeAnswer) → Adds answer → Kept words slots s words″ slots″ u
           kept″ answer h = kept-trans words slots s words′ slots′ t words″ slots″ u (i .kept) (h .kept)
 
           joins : (m : I.Built) → m ≡ internAdd (lent words′ slots′) ns (getD lefts′ (from - 1) 0) number → (to : ℕ) (b : I.Built) → Joined l rights lefts (from - 1) m to b

@@ -15,8 +15,8 @@ use Rattle.definitions.specs.Prune.{sumOfKept}
 use Rattle.arena.specs.declared.DagArena.{DagArena}
 use Rattle.arena.specs.Layout.{mostNodes}
 use Rattle.store.specs.declared.Built.{Built}
-use Rattle.store.specs.declared.Answer.{Answer}
-use Rattle.store.specs.declared.Answer.the-variants.{Id, Refused}
+use Rattle.store.specs.declared.NodeAnswer.{NodeAnswer}
+use Rattle.store.specs.declared.NodeAnswer.the-variants.{Id, Refused}
 use Rattle.store.specs.View.{nodesIn, lent, Sound, Kept, Builds}
 use Rattle.sums.specs.Number.{numberOf, BuildsNumber}
 use Rattle.store.proofs.Keeping.{kept-refl, kept-trans}
@@ -128,7 +128,7 @@ goes-id : (words slots : List ℕ) (s : DagArena) (plain : I.Built) (words′ sl
     → (plain ≡ built (nodesIn words′ (t .count)) number) × (number < t .count)
 goes-id words slots s plain words′ slots′ number t b goes = go (b .answer) (b .is) (b .builds)
   where
-    go : (answer : Answer) → number ≡ numberOf answer → Builds words slots s plain words′ slots′ (record { answer = answer; arena = t })
+    go : (answer : NodeAnswer) → number ≡ numberOf answer → Builds words slots s plain words′ slots′ (record { answer = answer; arena = t })
         → (plain ≡ built (nodesIn words′ (t .count)) number) × (number < t .count)
     go (Id id) e h = (sym (h .answer) ∙ ap (built (nodesIn words′ (t .count))) (sym e), subst (λ (n : ℕ). n < t .count) (sym e) (h .low))
     go (Refused k) e h = absurd (subst Goes (sym (h .answer)) goes)

@@ -13,8 +13,8 @@ use arena::kind::ADD;
 use arena::kind::CONSTANT;
 use chains::MOST_TERMS;
 use fold::BITS_OF_ZERO;
-use store::Answer;
 use store::Built;
+use store::NodeAnswer;
 
 // At most so many halvings of at most 4,096 terms are not done at a time.
 const MOST_PENDING: usize = 12;
@@ -34,13 +34,13 @@ fn zero(nodes: &mut [u64], slots: &mut [u32], arena: DagArena) -> Built
 const REFUSALS: u64 = MOST_NODES;
 
 // The answer that a number stands for.
-fn answer_in(number: u64) -> Answer
+fn answer_in(number: u64) -> NodeAnswer
     ensures { λ r. ⌜ r ≡ answerIn number ⌝ }
 {
     if REFUSALS <= number {
-        Answer::Refused(number - REFUSALS)
+        NodeAnswer::Refused(number - REFUSALS)
     } else {
-        Answer::Id(number)
+        NodeAnswer::Id(number)
     }
 }
 
@@ -72,11 +72,11 @@ fn add(
         *next,
     );
     match answer {
-        Answer::Id(id) => {
+        NodeAnswer::Id(id) => {
             *next = id + 1;
             id
         }
-        Answer::Refused(number) => REFUSALS + number,
+        NodeAnswer::Refused(number) => REFUSALS + number,
     }
 }
 

@@ -7,8 +7,8 @@ use Rattle.definitions.specs.Making.{Controller, LentLists, Made}
 use Rattle.definitions.specs.Controller.{AfterCall, reading, fromMade, Part, storePart, namesPart}
 use Rattle.definitions.specs.Promise.{ControllerCalled, All}
 use Rattle.definitions.specs.Beside.{SoundPart}
-use Rattle.store.specs.declared.Answer.{Answer}
-use Rattle.store.specs.declared.Answer.the-variants.{Id, Refused}
+use Rattle.store.specs.declared.NodeAnswer.{NodeAnswer}
+use Rattle.store.specs.declared.NodeAnswer.the-variants.{Id, Refused}
 use Rattle.store.specs.Memory.{model}
 use Rattle.names.specs.Memory.{nameModel}
 use Rattle.names.proofs.Determined.{either}
@@ -20,11 +20,11 @@ use Rattle.text.proofs.Performing.{same-lent-of}
 use Rattle.text.proofs.Determined.{plain-refused, plain-read}
 use Rattle.text.proofs.Cases.{equation-gives-case}
 
-answer-of : (a : Answer) (s : Controller) → answered a ≡ fromMade (outcome a s) .answer
+answer-of : (a : NodeAnswer) (s : Controller) → answered a ≡ fromMade (outcome a s) .answer
 answer-of (Id i) s = refl
 answer-of (Refused r) s = refl
 
-left-of : (a : Answer) (s : Controller) → s ≡ fromMade (outcome a s) .left
+left-of : (a : NodeAnswer) (s : Controller) → s ≡ fromMade (outcome a s) .left
 left-of (Id i) s = refl
 left-of (Refused r) s = refl
 
@@ -35,7 +35,7 @@ module _ (d : ControllerMemory) where
   taken : BothSound d → All (SoundPart model nameModel d) (storePart ∷ namesPart ∷ [])
   taken h = (h .store, (h .names, tt))
 
-case-called : (s : List ℕ) (d d′ : ControllerMemory) (a : Answer) → ReadingCases s d a d′ → ControllerCalled lentController (reading s) d (answered a) d′
+case-called : (s : List ℕ) (d d′ : ControllerMemory) (a : NodeAnswer) → ReadingCases s d a d′ → ControllerCalled lentController (reading s) d (answered a) d′
 case-called s d d′ a (unsound n) = record {
   unsound = λ u. (refl, refl);
   answer = λ t. absurd (n (held-of d t));

@@ -7,31 +7,31 @@ use native.Mathlib.Decide.{ℕ-discrete}
 use Rattle.arena.specs.Layout.{arenaOf}
 use Rattle.definitions.specs.Refusals.{notSound}
 use Rattle.definitions.specs.Beside.{beside}
-use Rattle.store.specs.declared.Answer.{Answer}
-use Rattle.store.specs.declared.Answer.the-variants.{Id, Refused}
+use Rattle.store.specs.declared.NodeAnswer.{NodeAnswer}
+use Rattle.store.specs.declared.NodeAnswer.the-variants.{Id, Refused}
 use Rattle.store.specs.Memory.{memory, model}
 use Rattle.names.specs.Memory.{nameMemory, nameModel}
 use Rattle.names.proofs.Determined.{either}
 use Rattle.text_language.specs.Reading.{Verdict, refuses, denotes, verdict, Judged}
 use Rattle.text_language.proofs.Reading.{judged}
 use Rattle.text.specs.Memory.{ControllerMemory, controllerOf, lentOf, BothSound}
-use Rattle.text.specs.Reading.{answered, ReadingLeft, readingLeft, readingLeftBy, Reads, ReadingCases, unsound, refused, read, EquationGivesCase, ReadsOneWay}
+use Rattle.text.specs.Reading.{answered, ReadingLeft, readingLeft, readingLeftBy, ReadsText, ReadingCases, unsound, refused, read, EquationGivesCase, ReadsOneWay}
 use Rattle.text.proofs.Determined.{case-gives-equation}
 use Rattle.text.proofs.Existing.{expression-made}
 
-same-answer : (a b : Answer) → answered a ≡ answered b → a ≡ b
+same-answer : (a b : NodeAnswer) → answered a ≡ answered b → a ≡ b
 same-answer (Id i) (Id j) e = let q : i ≡ j = cc in ap Id q
 same-answer (Id i) (Refused r) e = let z : _≡_ {A = ℕ} 0 1 = cc in absurd (omega arith)
 same-answer (Refused r) (Id i) e = let z : _≡_ {A = ℕ} 0 1 = cc in absurd (omega arith)
 same-answer (Refused r) (Refused k) e = let q : r ≡ k = cc in ap Refused q
 
-module _ (s : List ℕ) (m m′ : ControllerMemory) (a : Answer) (k : Reads s m a m′) where
+module _ (s : List ℕ) (m m′ : ControllerMemory) (a : NodeAnswer) (k : ReadsText s m a m′) where
   -- a case with the same answer and memory
-  as-case : (d : Dec (BothSound m)) (b : Answer) (m″ : ControllerMemory) → ReadingCases s m b m″ → ReadingCases s m a m′
+  as-case : (d : Dec (BothSound m)) (b : NodeAnswer) (m″ : ControllerMemory) → ReadingCases s m b m″ → ReadingCases s m a m′
   as-case d b m″ c =
       let e : readingLeft (answered b) m″ ≡ readingLeft (answered a) m′ = case-gives-equation s m m″ b c .equation d ∙ sym (k .equation d) in
       subst (λ (x : ControllerMemory). ReadingCases s m a x) (ap (λ (x : ReadingLeft). x .memory) e)
-      (subst (λ (x : Answer). ReadingCases s m x m″) (same-answer b a (ap (λ (x : ReadingLeft). x .answer) e)) c)
+      (subst (λ (x : NodeAnswer). ReadingCases s m x m″) (same-answer b a (ap (λ (x : ReadingLeft). x .answer) e)) c)
 
   of-text : BothSound m → (v : Verdict) → Judged s v → ReadingCases s m a m′
   of-text h (refuses number) j = as-case (yes h) (Refused number) m (refused h j)
@@ -46,7 +46,7 @@ equation-gives-case s m m′ a k d = case-of s m m′ a k d
 
 -- ---- one way, sound or not
 
-answer-discrete : (a b : Answer) → Dec (a ≡ b)
+answer-discrete : (a b : NodeAnswer) → Dec (a ≡ b)
 answer-discrete (Id i) (Id j) = by (ℕ-discrete i j)
   where
     by : Dec (i ≡ j) → Dec (Id i ≡ Id j)
@@ -60,7 +60,7 @@ answer-discrete (Refused r) (Refused k) = by (ℕ-discrete r k)
     by (yes e) = yes (ap Refused e)
     by (no n) = no (λ e. n (let q : r ≡ k = cc in q))
 
-module _ (s : List ℕ) (m m′ m″ : ControllerMemory) (a b : Answer) (k : Reads s m a m′) (l : Reads s m b m″) where
+module _ (s : List ℕ) (m m′ m″ : ControllerMemory) (a b : NodeAnswer) (k : ReadsText s m a m′) (l : ReadsText s m b m″) where
   same : (d : Dec (BothSound m)) → readingLeft (answered a) m′ ≡ readingLeft (answered b) m″
   same d = k .equation d ∙ sym (l .equation d)
 

@@ -6,8 +6,8 @@ use Rattle.definitions.specs.Refusals.{notSound}
 use Rattle.definitions.specs.Beside.{beside}
 use Rattle.definitions.specs.Making.{Controller, LentLists, Made, make}
 use Rattle.definitions.specs.Controller.{controllerCall, reading, onText, fromMade}
-use Rattle.store.specs.declared.Answer.{Answer}
-use Rattle.store.specs.declared.Answer.the-variants.{Id, Refused}
+use Rattle.store.specs.declared.NodeAnswer.{NodeAnswer}
+use Rattle.store.specs.declared.NodeAnswer.the-variants.{Id, Refused}
 use Rattle.store.specs.Memory.{model}
 use Rattle.store.proofs.Staying.{stays-is}
 use Rattle.names.specs.Memory.{nameModel}
@@ -46,11 +46,11 @@ equation-refused : (s : List ℕ) (m : ControllerMemory) (k : ℕ) → BothSound
 equation-refused s m k h r (yes _) = ap (readingLeft (answered (Refused k))) (extends-is m m h (extends-refl m h)) ∙ ap (readingLeftOf m) (sym (plain-refused (lentOf m) (controllerOf m) r))
 equation-refused s m k h r (no n) = absurd (n h)
 
-left-as : (m : ControllerMemory) (a : Answer) (c : Controller) → readingLeft (answered a) (controllerAfter m c) ≡ readingLeftOf m (fromMade (outcome a c))
+left-as : (m : ControllerMemory) (a : NodeAnswer) (c : Controller) → readingLeft (answered a) (controllerAfter m c) ≡ readingLeftOf m (fromMade (outcome a c))
 left-as m (Id i) c = refl
 left-as m (Refused r) c = refl
 
-equation-read : (s : List ℕ) (m m′ : ControllerMemory) (a : Answer) (e : Expr) → BothSound m → Denotes s e → Makes (make (lentOf m) e (controllerOf m)) m a m′
+equation-read : (s : List ℕ) (m m′ : ControllerMemory) (a : NodeAnswer) (e : Expr) → BothSound m → Denotes s e → Makes (make (lentOf m) e (controllerOf m)) m a m′
     → (d : Dec (BothSound m)) → readingLeft (answered a) m′ ≡ readingLeftBy s m d
 equation-read s m m′ a e h t x (yes _) =
     ap (readingLeft (answered a)) (extends-is m m′ h (x .extends))

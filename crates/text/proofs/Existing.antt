@@ -15,16 +15,16 @@ use Rattle.definitions.specs.Names.{internName, NameAnswer, nameCall, numberFro
 use Rattle.definitions.specs.Machine as M
 use Rattle.definitions.specs.Making as Plain
 use Rattle.definitions.specs.Making.{Controller, LentLists, bind, storing, perform, joined, make}
-use Rattle.store.specs.declared.Answer.{Answer}
-use Rattle.store.specs.declared.Answer.the-variants.{Id, Refused}
+use Rattle.store.specs.declared.NodeAnswer.{NodeAnswer}
+use Rattle.store.specs.declared.NodeAnswer.the-variants.{Id, Refused}
 use Rattle.store.specs.Memory.{memory, answerOf}
 use Rattle.builder.specs.Stores.{BuildsSound, Asked}
 use Rattle.builder.proofs.Codes.{asked-variable, asked-constant, asked-operator}
-use Rattle.names.specs.declared.Answer as Named
-use Rattle.names.specs.declared.Answer.the-variants as named
+use Rattle.names.specs.declared.NameReply as Named
+use Rattle.names.specs.declared.NameReply.the-variants as named
 use Rattle.names.specs.Sound as Names
 use Rattle.names.specs.Calls as Calls
-use Rattle.names.specs.Calls.{Called, CallClauses, namesLeftBy}
+use Rattle.names.specs.Calls.{NameListCalled, CallClauses, namesLeftBy}
 use Rattle.names.specs.Memory.{nameMemory, namesAfter, namesLeft}
 use Rattle.names.proofs.Listing.{names-length}
 use Rattle.names.proofs.Clauses.{equation-gives-clauses, clauses-long}
@@ -37,7 +37,7 @@ use Rattle.text.proofs.Performing.{extends-trans, sound-after, same-len
 
 -- an answer and lists that are what the plain machine says
 pub record MadeOn (plain : Plain.Made) (d : ControllerMemory) : Type 0 where
-  pub answer : Answer
+  pub answer : NodeAnswer
   pub after : ControllerMemory
   pub makes : Makes plain d answer after
 
@@ -72,10 +72,10 @@ module _ (plain : Plain.Made) (d : ControllerMemory) (f : ℕ → Controller →
   unfolding bind
   bind-made next = by (one .answer) refl
     where
-      bound : (a : Answer) → one .answer ≡ a → bind (outcome a (controllerOf (one .after))) f ≡ bind plain f
-      bound a e = ap (λ (x : Answer). bind (outcome x (controllerOf (one .after))) f) (sym e) ∙ ap (λ (x : Plain.Made). bind x f) (one .makes .is)
+      bound : (a : NodeAnswer) → one .answer ≡ a → bind (outcome a (controllerOf (one .after))) f ≡ bind plain f
+      bound a e = ap (λ (x : NodeAnswer). bind (outcome x (controllerOf (one .after))) f) (sym e) ∙ ap (λ (x : Plain.Made). bind x f) (one .makes .is)
 
-      by : (a : Answer) → one .answer ≡ a → MadeOn (bind plain f) d
+      by : (a : NodeAnswer) → one .answer ≡ a → MadeOn (bind plain f) d
       by (Id i) e =
           let two = next i in
           record {
@@ -136,15 +136,15 @@ module _ (w : List ℕ) (d : ControllerMemory) (h : BothSound d) where
   abbrev many : ℕ
   many = length (plain .names)
 
-  called : Called bytes count (internName w) (plain .answer) after many
+  called : NameListCalled bytes count (internName w) (plain .answer) after many
   called = record { equation = by }
     where
-      by : (x : Dec (Names.Sound bytes count)) → namesLeft (plain .answer) (nameMemory after many) ≡ namesLeftBy (internName w) (nameMemory bytes count) x
+      by : (x : Dec (Names.SoundNames bytes count)) → namesLeft (plain .answer) (nameMemory after many) ≡ namesLeftBy (internName w) (nameMemory bytes count) x
       by (yes _) = refl
       by (no n) = absurd (n (h .names))
 
-  called-as : (a : Named.Answer) → plain .answer ≡ Calls.answerOf a [] → Called bytes count (internName w) (Calls.answerOf a []) after many
-  called-as a e = subst (λ (x : NameAnswer). Called bytes count (internName w) x after many) e called
+  called-as : (a : Named.NameReply) → plain .answer ≡ Calls.answerOf a [] → NameListCalled bytes count (internName w) (Calls.answerOf a []) after many
+  called-as a e = subst (λ (x : NameAnswer). NameListCalled bytes count (internName w) x after many) e called
 
   clauses : CallClauses bytes count (internName w) (plain .answer) after many
   clauses = equation-gives-clauses bytes count (internName w) (plain .answer) after many called

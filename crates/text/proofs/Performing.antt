@@ -9,8 +9,8 @@ use Rattle.definitions.specs.Node.{Node}
 use Rattle.definitions.specs.Names as Registry
 use Rattle.definitions.specs.Names.{internName, entryBytes}
 use Rattle.definitions.specs.Machine as M
-use Rattle.store.specs.declared.Answer.{Answer}
-use Rattle.store.specs.declared.Answer.the-variants.{Id, Refused}
+use Rattle.store.specs.declared.NodeAnswer.{NodeAnswer}
+use Rattle.store.specs.declared.NodeAnswer.the-variants.{Id, Refused}
 use Rattle.store.specs.Memory.{memory, model, answerOf}
 use Rattle.store.specs.View.{nodesIn}
 use Rattle.store.proofs.Staying.{stays-refl, stays-trans, kept-stays}
@@ -21,8 +21,8 @@ use Rattle.definitions.specs.Beside.{beside}
 use Rattle.definitions.specs.Limits.{mostNodes}
 use Rattle.definitions.proofs.NameLists.{names-longer}
 use Rattle.names.specs.Memory.{nameMemory, nameModel}
-use Rattle.names.specs.declared.Answer as Named
-use Rattle.names.specs.declared.Answer.the-variants as named
+use Rattle.names.specs.declared.NameReply as Named
+use Rattle.names.specs.declared.NameReply.the-variants as named
 use Rattle.names.specs.Sound as Names
 use Rattle.names.specs.Calls as Calls
 use Rattle.names.proofs.Listing.{names-length}
@@ -59,15 +59,15 @@ same-lent-of d d′ f = ap (λ (n : ℕ). record { store = model .lent (d′ .st
 
 -- ---- a store call
 
-id-fits : (a : Answer) (count : ℕ) → count ≤ mostNodes → ((i : ℕ) → answerOf a ≡ M.stored i → i < count) → FitsId a
+id-fits : (a : NodeAnswer) (count : ℕ) → count ≤ mostNodes → ((i : ℕ) → answerOf a ≡ M.stored i → i < count) → FitsId a
 id-fits (Id i) count c h = let l = h i refl in omega arith
 id-fits (Refused r) count c h = tt
 
-stored-is : (names : List (List ℕ)) (a : Answer) (nodes : List Node) → outcome a (controller names nodes) ≡ storedAs names (answerOf a) nodes
+stored-is : (names : List (List ℕ)) (a : NodeAnswer) (nodes : List Node) → outcome a (controller names nodes) ≡ storedAs names (answerOf a) nodes
 stored-is names (Id i) nodes = refl
 stored-is names (Refused r) nodes = refl
 
-pub makes-store : (c : M.Store) (d : ControllerMemory) → BothSound d → (words slots : List ℕ) (a : Answer) (arena : DagArena) → BuildsSound (M.requested c) (d .store) (answerOf a) (memory words slots arena)
+pub makes-store : (c : M.Store) (d : ControllerMemory) → BothSound d → (words slots : List ℕ) (a : NodeAnswer) (arena : DagArena) → BuildsSound (M.requested c) (d .store) (answerOf a) (memory words slots arena)
     → Makes (storing (lentOf d) c (controllerOf d)) d a (controllerMemory words slots arena (d .names .bytes) (d .names .count))
 unfolding storing
 makes-store c d h words slots a arena b = record {
@@ -83,14 +83,14 @@ makes-store c d h words slots a arena b = record {
 -- ---- a name call
 
 -- an answer that is no number
-abbrev pub NotNumbered : Named.Answer → Type 0
+abbrev pub NotNumbered : Named.NameReply → Type 0
 NotNumbered (named.Numbered n) = ⊥
 NotNumbered named.Unknown = Unit {0}
 NotNumbered (named.Named n) = Unit {0}
 NotNumbered (named.Refused r) = Unit {0}
 
-module _ (d : ControllerMemory) (h : BothSound d) (w entries : List ℕ) (count : ℕ) (a : Named.Answer) (long : length entries ≡ length (d .names .bytes))
-    (c : Calls.Called (d .names .bytes) (d .names .count) (internName w) (Calls.answerOf a []) entries count) where
+module _ (d : ControllerMemory) (h : BothSound d) (w entries : List ℕ) (count : ℕ) (a : Named.NameReply) (long : length entries ≡ length (d .names .bytes))
+    (c : Calls.NameListCalled (d .names .bytes) (d .names .count) (internName w) (Calls.answerOf a []) entries count) where
   -- the lists after the name call
   abbrev pub after : ControllerMemory
   after = beside model nameModel (d .store) (nameMemory entries count)
@@ -130,21 +130,21 @@ module _ (d : ControllerMemory) (h : BothSound d) (w entries : List ℕ) (count 
   unfolding bind
   makes-unnamed first second r n e = record { is = go a n e ∙ sym (perform-is first second); extends = name-extends; fits = tt }
     where
-      go : (x : Named.Answer) → NotNumbered x → r ≡ refusalOf x → Plain.stopped r (controllerOf after) ≡ bind (namedAs (model .view (d .store) .nodes) (Calls.answerOf x []) (Names.namesOf entries count)) on
+      go : (x : Named.NameReply) → NotNumbered x → r ≡ refusalOf x → Plain.stopped r (controllerOf after) ≡ bind (namedAs (model .view (d .store) .nodes) (Calls.answerOf x []) (Names.namesOf entries count)) on
       go (named.Numbered n) z e = absurd z
       go named.Unknown z e = ap (λ (k : ℕ). Plain.stopped k (controllerOf after)) e
       go (named.Named n) z e = ap (λ (k : ℕ). Plain.stopped k (controllerOf after)) e
       go (named.Refused k) z e = ap (λ (k : ℕ). Plain.stopped k (controllerOf after)) e
 
   -- a number, and its node
-  pub makes-named : (first second n : ℕ) → a ≡ named.Numbered n → (words slots : List ℕ) (x : Answer) (arena : DagArena) → BuildsSound (M.requested (M.variable n)) (d .store) (answerOf x) (memory words slots arena)
+  pub makes-named : (first second n : ℕ) → a ≡ named.Numbered n → (words slots : List ℕ) (x : NodeAnswer) (arena : DagArena) → BuildsSound (M.requested (M.variable n)) (d .store) (answerOf x) (memory words slots arena)
       → Makes (perform (lentOf d) (name w) first second (controllerOf d)) d x (controllerMemory words slots arena entries count)
   unfolding bind
   makes-named first second n e words slots x arena b =
       let m = makes-store (M.variable n) after (sound-after d after name-extends) words slots x arena b in
       record {
         is = m .is ∙ ap (λ (p : LentLists). storing p (M.variable n) (controllerOf after)) (same-lent-of d after name-extends)
-            ∙ ap (λ (y : Named.Answer). bind (namedAs (model .view (d .store) .nodes) (Calls.answerOf y []) (Names.namesOf entries count)) on) (sym e)
+            ∙ ap (λ (y : Named.NameReply). bind (namedAs (model .view (d .store) .nodes) (Calls.answerOf y []) (Names.namesOf entries count)) on) (sym e)
             ∙ sym (perform-is first second);
         extends = extends-trans d after (controllerMemory words slots arena entries count) name-extends (m .extends);
         fits = m .fits;
@@ -152,14 +152,14 @@ module _ (d : ControllerMemory) (h : BothSound d) (w entries : List ℕ) (count 
 
 -- ---- tokens
 
-pub makes-token : (l : LentLists) (t t′ : Token) (first second : ℕ) (s : Controller) (d : ControllerMemory) (a : Answer) (d′ : ControllerMemory) → t ≡ t′ → Makes (perform l t first second s) d a d′ → Makes (perform l t′ first second s) d a d′
+pub makes-token : (l : LentLists) (t t′ : Token) (first second : ℕ) (s : Controller) (d : ControllerMemory) (a : NodeAnswer) (d′ : ControllerMemory) → t ≡ t′ → Makes (perform l t first second s) d a d′ → Makes (perform l t′ first second s) d a d′
 makes-token l t t′ first second s d a d′ e m = subst (λ (x : Token). Makes (perform l x first second s) d a d′) e m
 
-pub makes-as : (plain plain′ : Plain.Made) (d : ControllerMemory) (a : Answer) (d′ : ControllerMemory) → plain ≡ plain′ → Makes plain d a d′ → Makes plain′ d a d′
+pub makes-as : (plain plain′ : Plain.Made) (d : ControllerMemory) (a : NodeAnswer) (d′ : ControllerMemory) → plain ≡ plain′ → Makes plain d a d′ → Makes plain′ d a d′
 makes-as plain plain′ d a d′ e m = subst (λ (x : Plain.Made). Makes x d a d′) e m
 
 -- a constant
-pub makes-number : (b : ℕ) (d : ControllerMemory) → BothSound d → (words slots : List ℕ) (a : Answer) (arena : DagArena) → BuildsSound (M.requested (M.constant b)) (d .store) (answerOf a) (memory words slots arena)
+pub makes-number : (b : ℕ) (d : ControllerMemory) → BothSound d → (words slots : List ℕ) (a : NodeAnswer) (arena : DagArena) → BuildsSound (M.requested (M.constant b)) (d .store) (answerOf a) (memory words slots arena)
     → Makes (perform (lentOf d) (number b) 0 0 (controllerOf d)) d a (controllerMemory words slots arena (d .names .bytes) (d .names .count))
 unfolding perform
 makes-number b d h words slots a arena k = makes-store (M.constant b) d h words slots a arena k

@@ -6,9 +6,9 @@ use lib.ListN.{length, length-take, length-set, getD, take, drop, set, drop-of-l
 use lib.Seq.{drop-cons, getD-take, length-take-le, getD-set-same, getD-set-other}
 use native.Mathlib.Omega.{arith}
 use native.Mathlib.Numerals.{add-one}
-use Rattle.store.specs.declared.Answer.{Answer}
-use Rattle.store.specs.declared.Answer.the-variants.{Id, Refused}
-use Rattle.text_language.specs.Program.{Token, number, name, negate, join, mostWaiting, Fits, tokenAt, tokens, operands}
+use Rattle.store.specs.declared.NodeAnswer.{NodeAnswer}
+use Rattle.store.specs.declared.NodeAnswer.the-variants.{Id, Refused}
+use Rattle.text_language.specs.Program.{Token, number, name, negate, join, mostWaiting, FitsProgram, tokenAt, tokens, operands}
 use Rattle.definitions.specs.Making as Plain
 use Rattle.definitions.specs.Making.{Controller, LentLists, bind}
 use Rattle.text.specs.Memory.{ControllerMemory, BothSound, controllerOf, lentOf, Extends}
@@ -54,14 +54,14 @@ stack-none stack (suc h) (suc back) l = stack-none stack h back (omega arith)
 pub record Room (h : ℕ) (t : Token) (ts : List Token) : Type 0 where
   pub enough : operands t ≤ h
   pub place : h - operands t < mostWaiting
-  pub fits : Fits (h - operands t + 1) ts
+  pub fits : FitsProgram (h - operands t + 1) ts
 
-pub room : (h : ℕ) (t : Token) (ts : List Token) → h ≤ mostWaiting → Fits h (t ∷ ts) → Room h t ts
-unfolding Fits
-room h (number b) ts m f = record { enough = omega arith; place = omega (arith, f .0); fits = let e : suc h ≡ h - 0 + 1 = omega arith in subst (λ (n : ℕ). Fits n ts) e (f .1) }
-room h (name w) ts m f = record { enough = omega arith; place = omega (arith, f .0); fits = let e : suc h ≡ h - 0 + 1 = omega arith in subst (λ (n : ℕ). Fits n ts) e (f .1) }
-room h negate ts m f = record { enough = f .0; place = omega (arith, f .0); fits = let p = f .0 in let e : h ≡ h - 1 + 1 = omega arith in subst (λ (n : ℕ). Fits n ts) e (f .1) }
-room h (join o) ts m f = record { enough = f .0; place = omega (arith, f .0); fits = let p = f .0 in let e : h - 1 ≡ h - 2 + 1 = omega arith in subst (λ (n : ℕ). Fits n ts) e (f .1) }
+pub room : (h : ℕ) (t : Token) (ts : List Token) → h ≤ mostWaiting → FitsProgram h (t ∷ ts) → Room h t ts
+unfolding FitsProgram
+room h (number b) ts m f = record { enough = omega arith; place = omega (arith, f .0); fits = let e : suc h ≡ h - 0 + 1 = omega arith in subst (λ (n : ℕ). FitsProgram n ts) e (f .1) }
+room h (name w) ts m f = record { enough = omega arith; place = omega (arith, f .0); fits = let e : suc h ≡ h - 0 + 1 = omega arith in subst (λ (n : ℕ). FitsProgram n ts) e (f .1) }
+room h negate ts m f = record { enough = f .0; place = omega (arith, f .0); fits = let p = f .0 in let e : h ≡ h - 1 + 1 = omega arith in subst (λ (n : ℕ). FitsProgram n ts) e (f .1) }
+room h (join o) ts m f = record { enough = f .0; place = omega (arith, f .0); fits = let p = f .0 in let e : h - 1 ≡ h - 2 + 1 = omega arith in subst (λ (n : ℕ). FitsProgram n ts) e (f .1) }
 
 -- ---- the loop
 
@@ -86,11 +86,11 @@ module _ (s program : List ℕ) (size : ℕ) where
   pub record Running (d₀ d : ControllerMemory) (stack : List ℕ) (height i : ℕ) : Type 0 where
     pub same : Plain.run (lentOf d₀) (rest i) (stackOf stack height) (controllerOf d) ≡ whole d₀
     pub extends : Extends d₀ d
-    pub fits : Fits height (rest i)
+    pub fits : FitsProgram height (rest i)
     pub high : height ≤ mostWaiting
     pub wide : length stack ≡ mostWaiting
 
-  pub running-start : (d : ControllerMemory) (stack : List ℕ) → BothSound d → Fits 0 (tokens s program size) → length stack ≡ mostWaiting → Running d d stack 0 0
+  pub running-start : (d : ControllerMemory) (stack : List ℕ) → BothSound d → FitsProgram 0 (tokens s program size) → length stack ≡ mostWaiting → Running d d stack 0 0
   unfolding tokens stackOf
   running-start d stack h f w = record { same = refl; extends = extends-refl d h; fits = f; high = omega arith; wide = w }
 
@@ -108,12 +108,12 @@ module _ (s program : List ℕ) (size : ℕ) where
       token = tokenAt s (getD program i 0)
 
       here : Room height token (rest (i + 1))
-      here = room height token (rest (i + 1)) (r .high) (subst (Fits height) (rest-cons i l m) (r .fits))
+      here = room height token (rest (i + 1)) (r .high) (subst (FitsProgram height) (rest-cons i l m) (r .fits))
 
       abbrev onward : ℕ → Controller → Plain.Made
       onward j u = Plain.run (lentOf d₀) (rest (i + 1)) (j ∷ drop (operands token) (stackOf stack height)) u
 
-      module _ (a : Answer) (d′ : ControllerMemory) (made : Makes (Plain.perform (lentOf d) token first second (controllerOf d)) d a d′) where
+      module _ (a : NodeAnswer) (d′ : ControllerMemory) (made : Makes (Plain.perform (lentOf d) token first second (controllerOf d)) d a d′) where
         performed : bind (outcome a (controllerOf d′)) onward ≡ whole d₀
         unfolding Plain.run
         performed =
@@ -129,7 +129,7 @@ module _ (s program : List ℕ) (size : ℕ) where
         pub running-stopped : (k : ℕ) → a ≡ Refused k → Makes (whole d₀) d₀ a d′
         unfolding bind
         running-stopped k e = record {
-          is = ap (λ (x : Answer). outcome x (controllerOf d′)) e ∙ ap (λ (x : Answer). bind (outcome x (controllerOf d′)) onward) (sym e) ∙ performed;
+          is = ap (λ (x : NodeAnswer). outcome x (controllerOf d′)) e ∙ ap (λ (x : NodeAnswer). bind (outcome x (controllerOf d′)) onward) (sym e) ∙ performed;
           extends = extends-trans d₀ d d′ (r .extends) (made .extends);
           fits = made .fits;
         }
@@ -150,10 +150,10 @@ module _ (s program : List ℕ) (size : ℕ) where
             record {
               same =
                   ap (λ (x : List ℕ). Plain.run (lentOf d₀) (rest (i + 1)) x (controllerOf d′)) (stack-put stack (height - taken) id (omega (arith, t, k, w)) ∙ ap (λ (x : ℕ). id ∷ stackOf stack (height - x)) t ∙ ap (λ (x : List ℕ). id ∷ x) (sym (drop-stack stack height (operands token))))
-                  ∙ ap (λ (x : Answer). bind (outcome x (controllerOf d′)) onward) (sym e)
+                  ∙ ap (λ (x : NodeAnswer). bind (outcome x (controllerOf d′)) onward) (sym e)
                   ∙ performed;
               extends = extends-trans d₀ d d′ (r .extends) (made .extends);
-              fits = subst (λ (x : ℕ). Fits (height - x + 1) (rest (i + 1))) (sym t) (h .fits);
+              fits = subst (λ (x : ℕ). FitsProgram (height - x + 1) (rest (i + 1))) (sym t) (h .fits);
               high = omega (arith, t, k);
               wide = length-set stack (height - taken) id ∙ r .wide;
             }

@@ -17,7 +17,7 @@ use Rattle.arena.specs.Node.{nodeOf, put, find}
 use Rattle.arena.specs.Nodes.{WellFormed}
 use Rattle.arena.proofs.Putting.{put-length}
 use Rattle.arena.proofs.Adding.{nodes-add}
-use Rattle.dedup.specs.declared.Answer.the-variants.{New}
+use Rattle.dedup.specs.declared.Insertion.the-variants.{New}
 use Rattle.dedup.specs.Table.{TableSize, hashAt, inserted}
 use Rattle.dedup.specs.Intern as Dedup
 use Rattle.dedup.specs.Intern.{Interned, answered, newAnswer, internAnswer, wordsAfter, Absent}
@@ -27,8 +27,8 @@ use Rattle.dedup.proofs.Answers.{old-answer, refuse-count, refuse-words, refuse
 use Rattle.definitions.specs.Node as N
 use Rattle.definitions.specs.Intern.{capacity}
 use Rattle.definitions.specs.Machine as M
-use Rattle.store.specs.declared.Answer.{Answer}
-use Rattle.store.specs.declared.Answer.the-variants.{Refused}
+use Rattle.store.specs.declared.NodeAnswer.{NodeAnswer}
+use Rattle.store.specs.declared.NodeAnswer.the-variants.{Refused}
 use Rattle.store.specs.declared.Built.{Built}
 use Rattle.store.specs.Sound.{Sound}
 use Rattle.store.specs.Lookup.{Fits}
@@ -54,11 +54,11 @@ module _ (w slots : List ℕ) (s : DagArena) (key : DagNode) (places : length (k
     result : Interned
     words-after : List ℕ
     slots-after : List ℕ
-    is : Dedup.Interns w slots s key result words-after slots-after
+    is : Dedup.Inserts w slots s key result words-after slots-after
     long : length words-after ≡ length w
     wide : length slots-after ≡ length slots
 
-  same : (r : Interned) → Dedup.Interns w slots s key r w slots → Answers
+  same : (r : Interned) → Dedup.Inserts w slots s key r w slots → Answers
   same r i = record { result = r; words-after = w; slots-after = slots; is = i; long = refl; wide = refl }
 
   module _ (none-is : find w (s .count) key ≡ none) where
@@ -121,7 +121,7 @@ module _ (w slots : List ℕ) (s : DagArena) (key : DagNode) (places : length (k
 
 -- an answer to a request, and the memory after it
 pub record Answered (q : M.Request) (m : Memory) : Type 0 where
-  pub answer : Answer
+  pub answer : NodeAnswer
   pub words : List ℕ
   pub slots : List ℕ
   pub arena : DagArena

@@ -6,11 +6,11 @@ use native.Mathlib.Omega.{arith}
 use types.Run.{OneOf}
 use denote.Enum.Declared.{tagOf}
 use Rattle.names.proofs.Answer as names
-use Rattle.names.specs.declared.Answer.{Answer}
-use Rattle.names.specs.declared.Answer.the-variants.{Numbered, Unknown, Named, Refused}
+use Rattle.names.specs.declared.NameReply.{NameReply}
+use Rattle.names.specs.declared.NameReply.the-variants.{Numbered, Unknown, Named, Refused}
 use Rattle.text.proofs.Performing.{NotNumbered}
 
-pub not-numbered : (r : Answer) → OneOf (1 ∷ 2 ∷ 3 ∷ []) (tagOf names.the-type r) → NotNumbered r
+pub not-numbered : (r : NameReply) → OneOf (1 ∷ 2 ∷ 3 ∷ []) (tagOf names.the-type r) → NotNumbered r
 not-numbered (Numbered n) h = ⊎-elim (λ e. let z : 0 ≡ 1 = e in omega arith) (λ f. ⊎-elim (λ e. let z : 0 ≡ 2 = e in omega arith) (λ e. let z : 0 ≡ 3 = e in omega arith) f) h
 not-numbered Unknown h = tt
 not-numbered (Named n) h = tt

@@ -9,14 +9,14 @@ use Rattle.definitions.specs.Node.{addKind, mulKind, bothFlags}
 use Rattle.definitions.specs.Machine as M
 use Rattle.definitions.specs.Making as Plain
 use Rattle.definitions.specs.Making.{Controller, joined}
-use Rattle.store.specs.declared.Answer.{Answer}
-use Rattle.store.specs.declared.Answer.the-variants.{Id, Refused}
-use Rattle.names.specs.declared.Answer as Named
-use Rattle.names.specs.declared.Answer.the-variants as named
+use Rattle.store.specs.declared.NodeAnswer.{NodeAnswer}
+use Rattle.store.specs.declared.NodeAnswer.the-variants.{Id, Refused}
+use Rattle.names.specs.declared.NameReply as Named
+use Rattle.names.specs.declared.NameReply.the-variants as named
 use Rattle.text_language.specs.Program.{Token, number, name, negate, join}
 use Rattle.text.specs.Memory.{ControllerMemory, controllerOf, lentOf, Extends}
 
-abbrev pub outcome : Answer → Controller → Plain.Made
+abbrev pub outcome : NodeAnswer → Controller → Plain.Made
 outcome (Id i) s = Plain.made i s
 outcome (Refused r) s = Plain.stopped r s
 
@@ -24,22 +24,22 @@ outcome (Refused r) s = Plain.stopped r s
 abbrev pub idValues : ℕ
 idValues = 4294967296
 
-abbrev pub FitsId : Answer → Type 0
+abbrev pub FitsId : NodeAnswer → Type 0
 FitsId (Id i) = i < idValues
 FitsId (Refused r) = Unit {0}
 
 -- an answer and the lists after it are what the plain machine says
-pub record Makes (plain : Plain.Made) (m : ControllerMemory) (a : Answer) (m′ : ControllerMemory) : Type 0 where
+pub record Makes (plain : Plain.Made) (m : ControllerMemory) (a : NodeAnswer) (m′ : ControllerMemory) : Type 0 where
   pub is : outcome a (controllerOf m′) ≡ plain
   pub extends : Extends m m′
   pub fits : FitsId a
 
 -- one token, over the last two results
-abbrev pub Performs : Token → ℕ → ℕ → ControllerMemory → Answer → ControllerMemory → Type 0
-Performs t first second m a m′ = Makes (Plain.perform (lentOf m) t first second (controllerOf m)) m a m′
+abbrev pub PerformsToken : Token → ℕ → ℕ → ControllerMemory → NodeAnswer → ControllerMemory → Type 0
+PerformsToken t first second m a m′ = Makes (Plain.perform (lentOf m) t first second (controllerOf m)) m a m′
 
 -- all tokens of a program
-abbrev pub RunsProgram : List Token → ControllerMemory → Answer → ControllerMemory → Type 0
+abbrev pub RunsProgram : List Token → ControllerMemory → NodeAnswer → ControllerMemory → Type 0
 RunsProgram ts m a m′ = Makes (Plain.run (lentOf m) ts [] (controllerOf m)) m a m′
 
 -- the store call of an operator
@@ -53,7 +53,7 @@ abbrev pub flagsOf : ℕ → ℕ
 flagsOf kind = cond (eqb kind addKind || eqb kind mulKind) bothFlags 0
 
 -- the refusal of a name call
-abbrev pub refusalOf : Named.Answer → ℕ
+abbrev pub refusalOf : Named.NameReply → ℕ
 refusalOf (named.Numbered n) = 0
 refusalOf named.Unknown = 0
 refusalOf (named.Named n) = 0

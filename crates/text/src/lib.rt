@@ -2,12 +2,12 @@
 mod making;
 
 ghost use Rattle.text.specs.Memory.{controllerMemory};
-ghost use Rattle.text.specs.Reading.{Reads};
+ghost use Rattle.text.specs.Reading.{ReadsText};
 use arena::DagArena;
 use definitions::refusals::NOT_SOUND;
 pub use making::ReadOutcome;
 use making::run_program;
-use store::Answer;
+use store::NodeAnswer;
 use text_language::MOST_BYTES;
 use text_language::NOT_A_NUMBER;
 use text_program::Checked;
@@ -23,20 +23,20 @@ pub fn read(
     entries: &mut [u8],
     names: usize,
 ) -> ReadOutcome
-    ensures { λ r. ⌜ Reads (now (text .entry))
+    ensures { λ r. ⌜ ReadsText (now (text .entry))
         (controllerMemory (now (nodes .entry)) (now (slots .entry)) arena (now (entries .entry)) names) (r .answer)
         (controllerMemory (now (nodes .exit)) (now (slots .exit)) (r .arena) (now (entries .exit)) (r .names)) ⌝ }
 {
     if !store::audit(nodes, slots, arena) {
         return ReadOutcome {
-            answer: Answer::Refused(NOT_SOUND),
+            answer: NodeAnswer::Refused(NOT_SOUND),
             arena,
             names,
         };
     }
     if !names::is_sound(entries, names) {
         return ReadOutcome {
-            answer: Answer::Refused(NOT_SOUND),
+            answer: NodeAnswer::Refused(NOT_SOUND),
             arena,
             names,
         };
@@ -47,7 +47,7 @@ pub fn read(
         Checked::Program(size) => {
             if any_nan(text, &program, size) {
                 return ReadOutcome {
-                    answer: Answer::Refused(NOT_A_NUMBER),
+                    answer: NodeAnswer::Refused(NOT_A_NUMBER),
                     arena,
                     names,
                 };
@@ -55,7 +55,7 @@ pub fn read(
             run_program(text, &program, size, nodes, slots, arena, entries, names)
         }
         Checked::Refused(number) => ReadOutcome {
-            answer: Answer::Refused(number),
+            answer: NodeAnswer::Refused(number),
             arena,
             names,
         },

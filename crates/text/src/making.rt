@@ -9,9 +9,9 @@ ghost use Rattle.store.specs.Sound.{Sound};
 ghost use Rattle.builder.specs.Stores.{BuildsSound};
 ghost use Rattle.names.specs.Calls.{Allowed};
 ghost use Rattle.text_language.specs.Reader.{atomOf};
-ghost use Rattle.text_language.specs.Program.{mostWaiting, name, atomToken, operatorToken, tokenAt, tokens, Fits};
+ghost use Rattle.text_language.specs.Program.{mostWaiting, name, atomToken, operatorToken, tokenAt, tokens, FitsProgram};
 ghost use Rattle.text.specs.Memory.{controllerMemory, BothSound};
-ghost use Rattle.text.specs.Making.{Performs, RunsProgram, operatorCall, flagsOf, refusalOf, stackOf};
+ghost use Rattle.text.specs.Making.{PerformsToken, RunsProgram, operatorCall, flagsOf, refusalOf, stackOf};
 use arena::DagArena;
 use arena::kind::ADD;
 use arena::kind::CONSTANT;
@@ -20,8 +20,8 @@ use arena::kind::NEG;
 use arena::kind::POW;
 use arena::kind::VARIABLE;
 use builder::build_sound;
-use store::Answer;
 use store::Built;
+use store::NodeAnswer;
 use text_language::MOST_NESTED;
 use text_program::FIRST_OPERATOR;
 use text_program::bits_at;
@@ -34,7 +34,7 @@ const MOST_WAITING: usize = 2 * MOST_NESTED + 3;
 
 // An answer, with the counts of the store and of the names after it.
 pub struct ReadOutcome {
-    pub answer: Answer,
+    pub answer: NodeAnswer,
     pub arena: DagArena,
     pub names: usize,
 }
@@ -97,14 +97,14 @@ fn operator(
 }
 
 // The number of the refusal that a name call gave.
-fn refusal_of(answer: names::Answer) -> u64
+fn refusal_of(answer: names::NameReply) -> u64
     ensures { λ r. ⌜ r ≡ refusalOf answer ⌝ }
 {
     match answer {
-        names::Answer::Numbered(_) => 0,
-        names::Answer::Unknown => 0,
-        names::Answer::Named(_) => 0,
-        names::Answer::Refused(number) => number,
+        names::NameReply::Numbered(_) => 0,
+        names::NameReply::Unknown => 0,
+        names::NameReply::Named(_) => 0,
+        names::NameReply::Refused(number) => number,
     }
 }
 
@@ -118,16 +118,16 @@ fn named(
     bytes: &[u8],
 ) -> ReadOutcome
     requires { ⌜ BothSound (controllerMemory (now nodes) (now slots) arena (now entries) count) × Allowed (length (now bytes)) ⌝ }
-    ensures { λ r. ⌜ Performs (name (now (bytes .entry))) 0 0
+    ensures { λ r. ⌜ PerformsToken (name (now (bytes .entry))) 0 0
         (controllerMemory (now (nodes .entry)) (now (slots .entry)) arena (now (entries .entry)) count) (r .answer)
         (controllerMemory (now (nodes .exit)) (now (slots .exit)) (r .arena) (now (entries .exit)) (r .names)) ⌝ }
 {
     let interned = names::intern_allowed(entries, count, bytes);
     let answer = interned.answer;
     let after = interned.count;
-    let names::Answer::Numbered(symbol) = answer else {
+    let names::NameReply::Numbered(symbol) = answer else {
         return ReadOutcome {
-            answer: Answer::Refused(refusal_of(answer)),
+            answer: NodeAnswer::Refused(refusal_of(answer)),
             arena,
             names: after,
         };
@@ -153,7 +153,7 @@ fn leaf(
     count: usize,
 ) -> ReadOutcome
     requires { ⌜ BothSound (controllerMemory (now nodes) (now slots) arena (now entries) count) ⌝ }
-    ensures { λ r. ⌜ Performs (atomToken (atomOf (drop at (now (text .entry))))) 0 0
+    ensures { λ r. ⌜ PerformsToken (atomToken (atomOf (drop at (now (text .entry))))) 0 0
         (controllerMemory (now (nodes .entry)) (now (slots .entry)) arena (now (entries .entry)) count) (r .answer)
         (controllerMemory (now (nodes .exit)) (now (slots .exit)) (r .arena) (now (entries .exit)) (r .names)) ⌝ }
 {
@@ -186,7 +186,7 @@ fn perform(
     count: usize,
 ) -> ReadOutcome
     requires { ⌜ BothSound (controllerMemory (now nodes) (now slots) arena (now entries) count) ⌝ }
-    ensures { λ r. ⌜ Performs (tokenAt (now (text .entry)) word) first second
+    ensures { λ r. ⌜ PerformsToken (tokenAt (now (text .entry)) word) first second
         (controllerMemory (now (nodes .entry)) (now (slots .entry)) arena (now (entries .entry)) count) (r .answer)
         (controllerMemory (now (nodes .exit)) (now (slots .exit)) (r .arena) (now (entries .exit)) (r .names)) ⌝ }
 {
@@ -228,7 +228,7 @@ pub(crate) fn run_program(
     names: usize,
 ) -> ReadOutcome
     requires { ⌜ BothSound (controllerMemory (now nodes) (now slots) arena (now entries) names)
-        × (size ≤ length (now program)) × Fits 0 (tokens (now text) (now program) size) ⌝ }
+        × (size ≤ length (now program)) × FitsProgram 0 (tokens (now text) (now program) size) ⌝ }
     ensures { λ r. ⌜ RunsProgram (tokens (now (text .entry)) (now (program .entry)) size)
         (controllerMemory (now (nodes .entry)) (now (slots .entry)) arena (now (entries .entry)) names) (r .answer)
         (controllerMemory (now (nodes .exit)) (now (slots .exit)) (r .arena) (now (entries .exit)) (r .names)) ⌝ }
@@ -254,7 +254,7 @@ pub(crate) fn run_program(
             count,
         );
         let answer = made.answer;
-        let Answer::Id(id) = answer else {
+        let NodeAnswer::Id(id) = answer else {
             return made;
         };
         let grown = made.arena;
@@ -268,7 +268,7 @@ pub(crate) fn run_program(
     }
     let last = waiting(&stack, height, 0);
     ReadOutcome {
-        answer: Answer::Id(last as u64),
+        answer: NodeAnswer::Id(last as u64),
         arena: store,
         names: count,
     }

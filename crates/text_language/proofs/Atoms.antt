@@ -11,7 +11,7 @@ use native.Mathlib.Numerals.{add-one}
 use borrow.Author.Tests.{eq-eqb, ne-eqb}
 use Rattle.text_language.specs.Grammar.{Expr, constant, variable, isDigit, isLetter, isWord, isHex, decimal, hexadecimal, wholeBits}
 use Rattle.text_language.specs.Reader.{word, beyond, Got, got, bad, atomOf}
-use Rattle.text_language.specs.Places.{test, Ran, Behind}
+use Rattle.text_language.specs.Places.{test, ScanRan, Behind}
 
 -- the word after a first byte
 abbrev tail : ℕ → ℕ → List ℕ → List ℕ
@@ -43,22 +43,22 @@ module _ (s : List ℕ) (at : ℕ) (low : at < length s) where
   here : atomOf (drop at s) ≡ atomOf (getD s at 0 ∷ drop (at + 1) s)
   here = ap atomOf (drop-cons s at 0 low ∙ ap (λ (n : ℕ). getD s at 0 ∷ drop n s) (sym (add-one at)))
 
-  pub digit-is : (j : ℕ) → isDigit (getD s at 0) ≡ true → Ran s (at + 1) 0 8 j → atomOf (drop at s) ≡ got (constant (wholeBits (decimal (getD s at 0 ∷ word isDigit 8 (drop (at + 1) s))))) 0 (drop j s)
+  pub digit-is : (j : ℕ) → isDigit (getD s at 0) ≡ true → ScanRan s (at + 1) 0 8 j → atomOf (drop at s) ≡ got (constant (wholeBits (decimal (getD s at 0 ∷ word isDigit 8 (drop (at + 1) s))))) 0 (drop j s)
   digit-is j d r = here ∙ atom-cons (getD s at 0) (drop (at + 1) s) true _ _ d refl refl ∙ ap (got (constant (wholeBits (decimal (getD s at 0 ∷ word isDigit 8 (drop (at + 1) s))))) 0) (r .rests)
 
-  pub atom-digit : (j : ℕ) → isDigit (getD s at 0) ≡ true → Ran s (at + 1) 0 8 j → Behind s 0 (atomOf (drop at s)) j
+  pub atom-digit : (j : ℕ) → isDigit (getD s at 0) ≡ true → ScanRan s (at + 1) 0 8 j → Behind s 0 (atomOf (drop at s)) j
   atom-digit j d r = record { expr = _; depth = 0; is = digit-is j d r; shallow = omega arith; high = r .high }
 
   pub digits-are : isDigit (getD s at 0) ≡ true → atomOf (drop at s) ≡ got (constant (wholeBits (decimal (getD s at 0 ∷ word isDigit 8 (drop (at + 1) s))))) 0 (beyond isDigit 8 (drop (at + 1) s))
   digits-are d = here ∙ atom-cons (getD s at 0) (drop (at + 1) s) true _ _ d refl refl
 
-  pub name-is : (j : ℕ) → isDigit (getD s at 0) ≡ false → isLetter (getD s at 0) ≡ true → Ran s (at + 1) 1 31 j → atomOf (drop at s) ≡ got (variable (getD s at 0 ∷ word isWord 31 (drop (at + 1) s))) 0 (drop j s)
+  pub name-is : (j : ℕ) → isDigit (getD s at 0) ≡ false → isLetter (getD s at 0) ≡ true → ScanRan s (at + 1) 1 31 j → atomOf (drop at s) ≡ got (variable (getD s at 0 ∷ word isWord 31 (drop (at + 1) s))) 0 (drop j s)
   name-is j d l r = here ∙ atom-cons (getD s at 0) (drop (at + 1) s) false true _ d l refl ∙ ap (got (variable (getD s at 0 ∷ word isWord 31 (drop (at + 1) s))) 0) (r .rests)
 
   pub names-are : isDigit (getD s at 0) ≡ false → isLetter (getD s at 0) ≡ true → atomOf (drop at s) ≡ got (variable (getD s at 0 ∷ word isWord 31 (drop (at + 1) s))) 0 (beyond isWord 31 (drop (at + 1) s))
   names-are d l = here ∙ atom-cons (getD s at 0) (drop (at + 1) s) false true _ d l refl
 
-  pub atom-name : (j : ℕ) → isDigit (getD s at 0) ≡ false → isLetter (getD s at 0) ≡ true → Ran s (at + 1) 1 31 j → Behind s 0 (atomOf (drop at s)) j
+  pub atom-name : (j : ℕ) → isDigit (getD s at 0) ≡ false → isLetter (getD s at 0) ≡ true → ScanRan s (at + 1) 1 31 j → Behind s 0 (atomOf (drop at s)) j
   atom-name j d l r = record { expr = _; depth = 0; is = name-is j d l r; shallow = omega arith; high = r .high }
 
   pub atom-other : isDigit (getD s at 0) ≡ false → isLetter (getD s at 0) ≡ false → (getD s at 0 ≡ 35 → ⊥) → atomOf (drop at s) ≡ bad
@@ -68,7 +68,7 @@ module _ (s : List ℕ) (at : ℕ) (low : at < length s) where
   both : (a b x y : Bool) → a ≡ x → b ≡ y → (a && b) ≡ (x && y)
   both a b x y p q = ap (λ (z : Bool). z && b) p ∙ ap (λ (z : Bool). x && z) q
 
-  pub atom-bits : (j : ℕ) → isDigit (getD s at 0) ≡ false → isLetter (getD s at 0) ≡ false → getD s at 0 ≡ 35 → Ran s (at + 1) 2 16 j → j - (at + 1) ≡ 16 → Behind s 0 (atomOf (drop at s)) j
+  pub atom-bits : (j : ℕ) → isDigit (getD s at 0) ≡ false → isLetter (getD s at 0) ≡ false → getD s at 0 ≡ 35 → ScanRan s (at + 1) 2 16 j → j - (at + 1) ≡ 16 → Behind s 0 (atomOf (drop at s)) j
   atom-bits j d l z r n =
       let w = r .counts in
       let e : length (word isHex 16 (drop (at + 1) s)) ≡ 16 = omega arith in
@@ -81,7 +81,7 @@ module _ (s : List ℕ) (at : ℕ) (low : at < length s) where
         high = r .high;
       }
 
-  pub atom-short : (j : ℕ) → isDigit (getD s at 0) ≡ false → isLetter (getD s at 0) ≡ false → getD s at 0 ≡ 35 → Ran s (at + 1) 2 16 j → (j - (at + 1) ≡ 16 → ⊥) → atomOf (drop at s) ≡ bad
+  pub atom-short : (j : ℕ) → isDigit (getD s at 0) ≡ false → isLetter (getD s at 0) ≡ false → getD s at 0 ≡ 35 → ScanRan s (at + 1) 2 16 j → (j - (at + 1) ≡ 16 → ⊥) → atomOf (drop at s) ≡ bad
   atom-short j d l z r n =
       let w = r .counts in
       here ∙ atom-cons (getD s at 0) (drop (at + 1) s) false false false d l (both _ _ true false (eq-eqb (getD s at 0) 35 z) (ne-eqb (length (word isHex 16 (drop (at + 1) s))) 16 (λ e. n (omega arith))))

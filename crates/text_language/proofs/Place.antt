@@ -11,7 +11,7 @@ use native.Mathlib.Numerals.{add-one}
 use borrow.Author.Tests.{eqb-true, eqb-false, eq-eqb, ne-eqb, leb-true, lt-leb}
 use Rattle.text_language.specs.Grammar.{isDigit, isWord, isHex}
 use Rattle.text_language.specs.Reader.{lead, skip, past, word, beyond}
-use Rattle.text_language.specs.Places.{AtSpot, test, Ran}
+use Rattle.text_language.specs.Places.{AtSpot, test, ScanRan}
 
 pub lead-cons : (c : ℕ) (t : List ℕ) (b : Bool) → eqb c 32 ≡ b → lead (c ∷ t) ≡ elim b [ true ↦ lead t | false ↦ c ]
 unfolding lead
@@ -94,14 +94,14 @@ pub word-cons : (p : ℕ → Bool) (k c : ℕ) (t : List ℕ) (b : Bool) → p c
 unfolding word
 word-cons p k c t b e = ap (λ (x : Bool). elim x as (λ z. List ℕ) [ true ↦ c ∷ word p k t | false ↦ [] ]) e
 
-pub run-none : (s : List ℕ) (from kind cap i : ℕ) → Running s from kind cap i 0 → Ran s from kind cap i
+pub run-none : (s : List ℕ) (from kind cap i : ℕ) → Running s from kind cap i 0 → ScanRan s from kind cap i
 unfolding word beyond
 run-none s from kind cap i k = record { rests = k .rests; counts = let z = k .counts in omega arith; high = k .high; low = k .low }
 
-pub run-zero : (s : List ℕ) (from kind cap i left : ℕ) → Running s from kind cap i left → left ≤ 0 → Ran s from kind cap i
+pub run-zero : (s : List ℕ) (from kind cap i left : ℕ) → Running s from kind cap i left → left ≤ 0 → ScanRan s from kind cap i
 run-zero s from kind cap i left k h = let z : left ≡ 0 = omega arith in run-none s from kind cap i (subst (Running s from kind cap i) z k)
 
-pub run-end : (s : List ℕ) (from kind cap i left : ℕ) → Running s from kind cap i left → length s ≤ i → Ran s from kind cap i
+pub run-end : (s : List ℕ) (from kind cap i left : ℕ) → Running s from kind cap i left → length s ≤ i → ScanRan s from kind cap i
 unfolding word beyond
 run-end s from kind cap i left k h =
     let d = drop-of-length-le s h in
@@ -115,7 +115,7 @@ run-end s from kind cap i left k h =
     zeros zero = omega arith
     zeros (suc n) = omega arith
 
-pub run-stop : (s : List ℕ) (from kind cap i left : ℕ) → Running s from kind cap i left → i < length s → test kind (getD s i 0) ≡ false → Ran s from kind cap i
+pub run-stop : (s : List ℕ) (from kind cap i left : ℕ) → Running s from kind cap i left → i < length s → test kind (getD s i 0) ≡ false → ScanRan s from kind cap i
 unfolding word beyond
 run-stop s from kind cap i zero k h e = run-none s from kind cap i k
 run-stop s from kind cap i (suc left) k h e =

@@ -11,7 +11,7 @@ use native.Mathlib.Numerals.{add-one}
 use borrow.Author.Tests.{lt-ltb, le-ltb, leb-true, leb-false}
 use Rattle.text_language.specs.Grammar.{Expr, constant, variable, negated, linked, raised, isDigit, isLetter, isWord}
 use Rattle.text_language.specs.Reader.{word, Got, got, bad, atomOf}
-use Rattle.text_language.specs.Places.{Ran}
+use Rattle.text_language.specs.Places.{ScanRan}
 use Rattle.text_language.specs.Program.{Token, number, name, negate, join, firstOperator, tokenOf, atomToken, operatorToken, tokenAt, operands}
 use Rattle.text_language.proofs.Sound.{word-short, absurd-bool}
 use Rattle.text_language.proofs.Atoms.{name-is}
@@ -125,7 +125,7 @@ word-take p (suc k) (c ∷ t) = go (p c) (word-take p k t)
     go true h = ap (λ (x : List ℕ). c ∷ x) h
     go false h = refl
 
-module _ (s : List ℕ) (at j : ℕ) (low : at < length s) (l : isLetter (getD s at 0) ≡ true) (r : Ran s (at + 1) 1 31 j) where
+module _ (s : List ℕ) (at j : ℕ) (low : at < length s) (l : isLetter (getD s at 0) ≡ true) (r : ScanRan s (at + 1) 1 31 j) where
   abbrev typed : List ℕ
   typed = getD s at 0 ∷ word isWord 31 (drop (at + 1) s)
 

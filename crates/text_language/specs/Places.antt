@@ -21,7 +21,7 @@ pub record AtSpot (s : List ℕ) (i at byte : ℕ) : Type 0 where
 abbrev pub test : ℕ → ℕ → Bool
 test k c = cond (eqb k 0) (isDigit c) (cond (eqb k 1) (isWord c) (isHex c))
 
-pub record Ran (s : List ℕ) (i k n j : ℕ) : Type 0 where
+pub record ScanRan (s : List ℕ) (i k n j : ℕ) : Type 0 where
   pub rests : beyond (test k) n (drop i s) ≡ drop j s
   pub counts : i + length (word (test k) n (drop i s)) ≡ j
   pub high : j ≤ length s

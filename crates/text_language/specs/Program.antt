@@ -65,12 +65,12 @@ abbrev pub mostWaiting : ℕ
 mostWaiting = 131
 
 -- with so many results waiting, every token finds its operands, and there is a place for its result
-unfoldable pub Fits : ℕ → List Token → Type 0
-Fits h [] = 1 ≤ h
-Fits h (number b ∷ ts) = (h < mostWaiting) × Fits (suc h) ts
-Fits h (name w ∷ ts) = (h < mostWaiting) × Fits (suc h) ts
-Fits h (negate ∷ ts) = (1 ≤ h) × Fits h ts
-Fits h (join o ∷ ts) = (2 ≤ h) × Fits (h - 1) ts
+unfoldable pub FitsProgram : ℕ → List Token → Type 0
+FitsProgram h [] = 1 ≤ h
+FitsProgram h (number b ∷ ts) = (h < mostWaiting) × FitsProgram (suc h) ts
+FitsProgram h (name w ∷ ts) = (h < mostWaiting) × FitsProgram (suc h) ts
+FitsProgram h (negate ∷ ts) = (1 ≤ h) × FitsProgram h ts
+FitsProgram h (join o ∷ ts) = (2 ≤ h) × FitsProgram (h - 1) ts
 
 -- ---- a program as words over its text
 

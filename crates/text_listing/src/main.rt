@@ -6,7 +6,7 @@ ghost use lib.ListN.{length};
 use libc::STDERR_FILENO;
 use libc::STDIN_FILENO;
 use libc::STDOUT_FILENO;
-use store::Answer;
+use store::NodeAnswer;
 use text_language::BAD_TEXT;
 use text_language::MOST_BYTES;
 use text_language::NESTED_TOO_DEEP;
@@ -80,8 +80,8 @@ fn print(text: &[u8]) -> bool {
     }
     let answer = listing.answer;
     match answer {
-        Answer::Id(_) => true,
-        Answer::Refused(number) => print_words(number),
+        NodeAnswer::Id(_) => true,
+        NodeAnswer::Refused(number) => print_words(number),
     }
 }
 

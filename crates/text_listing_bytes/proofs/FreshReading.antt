@@ -14,8 +14,8 @@ use Rattle.definitions.specs.Machine.{freshRefused}
 use Rattle.definitions.specs.Promise.{All}
 use Rattle.definitions.specs.Beside.{SoundPart}
 use Rattle.definitions.proofs.Lifting.{fresh-beside}
-use Rattle.store.specs.declared.Answer.{Answer}
-use Rattle.store.specs.declared.Answer.the-variants.{Id, Refused}
+use Rattle.store.specs.declared.NodeAnswer.{NodeAnswer}
+use Rattle.store.specs.declared.NodeAnswer.the-variants.{Id, Refused}
 use Rattle.store.specs.Memory.{memory, model}
 use Rattle.store.specs.View.{lent}
 use Rattle.builder.specs.declared.opening.FreshStore.{FreshStore}
@@ -27,7 +27,7 @@ use Rattle.names.proofs.Modelled.{no-names}
 use Rattle.listing_lines.specs.declared.Outcome as Outcome
 use Rattle.listing_lines.specs.declared.Outcome.the-variants as outcome
 use Rattle.text.specs.Memory.{ControllerMemory, controllerMemory}
-use Rattle.text.specs.Reading.{Reads}
+use Rattle.text.specs.Reading.{ReadsText}
 use Rattle.text.proofs.Calling.{read-called}
 use Rattle.text_place.specs.Stopping.{StopsAt}
 use Rattle.text_listing_bytes.specs.Listed.{lentLists, readText, ReadsFresh, PlaceOf, outcomeOf}
@@ -46,8 +46,8 @@ pub never-refused : (words slots slots₁ : List ℕ) (o : FreshStore) (number :
 never-refused words slots slots₁ o number l h e =
     false≢true (sym (ap isStore e) ∙ ap isStore (h .answer) ∙ ap (λ (b : Bool). isStore (freshAnswer b)) (le-ltb (length slots) 64 l))
 
-pub read-fresh : (s words slots slots₁ entries : List ℕ) (o : FreshStore) (arena : DagArena) (a : Answer) (d : ControllerMemory) → 64 ≤ length slots → Opens words slots o slots₁
-    → o ≡ fresh.Store arena → Reads s (controllerMemory words slots₁ arena entries 0) a d → ReadsFresh s (lentLists words slots entries) a d
+pub read-fresh : (s words slots slots₁ entries : List ℕ) (o : FreshStore) (arena : DagArena) (a : NodeAnswer) (d : ControllerMemory) → 64 ≤ length slots → Opens words slots o slots₁
+    → o ≡ fresh.Store arena → ReadsText s (controllerMemory words slots₁ arena entries 0) a d → ReadsFresh s (lentLists words slots entries) a d
 unfolding lentLists
 read-fresh s words slots slots₁ entries o arena a d l h e r =
     let both = fresh-beside model nameModel (memory words slots₁ arena) (nameMemory entries 0) (h .fresh arena e) (no-names entries) in
@@ -64,18 +64,18 @@ read-fresh s words slots slots₁ entries o arena a d l h e r =
 
 -- ---- the place, and the first line
 
-module _ (s : List ℕ) (a : Answer) where
+module _ (s : List ℕ) (a : NodeAnswer) where
   pub place-none : (id : ℕ) → a ≡ Id id → PlaceOf s a 0
-  place-none id e = subst (λ (x : Answer). PlaceOf s x 0) (sym e) refl
+  place-none id e = subst (λ (x : NodeAnswer). PlaceOf s x 0) (sym e) refl
 
   pub place-outside : (number r : ℕ) → a ≡ Refused number → number ≡ 11 → StopsAt s r → PlaceOf s a r
-  place-outside number r e n h = subst (λ (x : Answer). PlaceOf s x r) (sym e) (subst (λ (b : Bool). cond b (StopsAt s r) (r ≡ 0)) (sym (eq-eqb number 11 n)) h)
+  place-outside number r e n h = subst (λ (x : NodeAnswer). PlaceOf s x r) (sym e) (subst (λ (b : Bool). cond b (StopsAt s r) (r ≡ 0)) (sym (eq-eqb number 11 n)) h)
 
   pub place-other : (number : ℕ) → a ≡ Refused number → (number ≡ 11 → ⊥) → PlaceOf s a 0
-  place-other number e n = subst (λ (x : Answer). PlaceOf s x 0) (sym e) (subst (λ (b : Bool). cond b (StopsAt s 0) (_≡_ {A = ℕ} 0 0)) (sym (ne-eqb number 11 n)) refl)
+  place-other number e n = subst (λ (x : NodeAnswer). PlaceOf s x 0) (sym e) (subst (λ (b : Bool). cond b (StopsAt s 0) (_≡_ {A = ℕ} 0 0)) (sym (ne-eqb number 11 n)) refl)
 
-pub ok-outcome : (a : Answer) (id place : ℕ) → a ≡ Id id → outcome.Ok id ≡ outcomeOf a place
-ok-outcome a id place e = sym (ap (λ (x : Answer). outcomeOf x place) e)
+pub ok-outcome : (a : NodeAnswer) (id place : ℕ) → a ≡ Id id → outcome.Ok id ≡ outcomeOf a place
+ok-outcome a id place e = sym (ap (λ (x : NodeAnswer). outcomeOf x place) e)
 
-pub refused-outcome : (a : Answer) (number place : ℕ) → a ≡ Refused number → outcome.Refused number place ≡ outcomeOf a place
-refused-outcome a number place e = sym (ap (λ (x : Answer). outcomeOf x place) e)
+pub refused-outcome : (a : NodeAnswer) (number place : ℕ) → a ≡ Refused number → outcome.Refused number place ≡ outcomeOf a place
+refused-outcome a number place e = sym (ap (λ (x : NodeAnswer). outcomeOf x place) e)

@@ -9,18 +9,18 @@ use native.Mathlib.Nat.{min-le-left}
 use borrow.Author.Tests.{lt-ltb}
 use Rattle.definitions.specs.Listing.{space, lineFeed, decimal}
 use Rattle.definitions.specs.Names.{NameAnswer, numbered, unknown, named, refused, nameOf, nameCall, answers}
-use Rattle.names.specs.declared.Answer.{Answer}
-use Rattle.names.specs.declared.Answer.the-variants.{Numbered, Unknown, Named, Refused}
+use Rattle.names.specs.declared.NameReply.{NameReply}
+use Rattle.names.specs.declared.NameReply.the-variants.{Numbered, Unknown, Named, Refused}
 use Rattle.names.specs.declared.NameBytes.{NameBytes}
-use Rattle.names.specs.Calls.{answerOf, NameCalled, NameClauses, Fits}
+use Rattle.names.specs.Calls.{answerOf, NameCalled, NameClauses, LengthFits}
 use Rattle.names.specs.Memory.{NamesLeft}
 use Rattle.names.proofs.Clauses.{name-equation-gives-clauses}
-use Rattle.names.specs.Sound.{Sound, namesOf, lentEntries}
+use Rattle.names.specs.Sound.{SoundNames, namesOf, lentEntries}
 use Rattle.names.proofs.Listing.{names-length}
 use Rattle.listing_lines.specs.declared.line.Line.{Line}
-use Rattle.listing_lines.specs.Line.{lineBytes, numberBytes, text, EmptyLine, Extends, Holds}
+use Rattle.listing_lines.specs.Line.{lineBytes, numberBytes, text, EmptyLine, ExtendsLine, Holds}
 use Rattle.listing_lines.specs.Outcome.{joined}
-use Rattle.listing_lines.specs.Filling.{Puts}
+use Rattle.listing_lines.specs.Filling.{PutsLine}
 use Rattle.listing_lines.proofs.Lines.{later-rest, extends-trans, extends-as, from-empty}
 use Rattle.listing_lines.proofs.Gathering.{joined-more, text-within}
 use Rattle.text_listing_bytes.specs.Names.{nameWord, nameLine, nameLines, nameLength}
@@ -39,13 +39,13 @@ bytesIn unknown = []
 bytesIn (named w) = w
 bytesIn (refused r) = []
 
-bytes-are : (a : Answer) (out w : List ℕ) → answerOf a out ≡ named w → take (nameLength a) out ≡ w
+bytes-are : (a : NameReply) (out w : List ℕ) → answerOf a out ≡ named w → take (nameLength a) out ≡ w
 bytes-are (Numbered n) out w e = absurd (false≢true (ap isNamed e))
 bytes-are Unknown out w e = absurd (false≢true (ap isNamed e))
 bytes-are (Named n) out w e = ap bytesIn e
 bytes-are (Refused r) out w e = absurd (false≢true (ap isNamed e))
 
-few-bytes : (a : Answer) → Fits a → nameLength a ≤ 32
+few-bytes : (a : NameReply) → LengthFits a → nameLength a ≤ 32
 few-bytes (Numbered n) f = omega arith
 few-bytes Unknown f = omega arith
 few-bytes (Named n) f = f
@@ -58,7 +58,7 @@ module _ (bytes : List ℕ) (count number : ℕ) (found : NameBytes) (h : NameCa
   pub name-short : r ≤ 32
   name-short = subst (λ (k : ℕ). k ≤ 32) (sym q) (few-bytes (found .answer) (clauses .fits))
 
-  pub name-is : Sound bytes count → number < count → take r (found .bytes) ≡ getD (namesOf bytes count) number []
+  pub name-is : SoundNames bytes count → number < count → take r (found .bytes) ≡ getD (namesOf bytes count) number []
   unfolding nameCall
   name-is s l =
       let e = names-length bytes count in
@@ -69,8 +69,8 @@ module _ (bytes : List ℕ) (count number : ℕ) (found : NameBytes) (h : NameCa
 
 -- ---- the line
 
-pub name-line-is : {a b c d f g : Line} (names : List (List ℕ)) (i m : ℕ) (x : List ℕ) → EmptyLine a → Extends a nameWord 4 b → Extends b (space ∷ decimal i) numberBytes c
-    → Extends c (space ∷ []) 1 d → Extends d x m f → m ≤ 32 → Extends f (lineFeed ∷ []) 1 g → x ≡ getD names i [] → Holds (nameLine names i) g
+pub name-line-is : {a b c d f g : Line} (names : List (List ℕ)) (i m : ℕ) (x : List ℕ) → EmptyLine a → ExtendsLine a nameWord 4 b → ExtendsLine b (space ∷ decimal i) numberBytes c
+    → ExtendsLine c (space ∷ []) 1 d → ExtendsLine d x m f → m ≤ 32 → ExtendsLine f (lineFeed ∷ []) 1 g → x ≡ getD names i [] → Holds (nameLine names i) g
 name-line-is names i m x e p q r s l t w =
     from-empty e
     (extends-as _ _
@@ -109,7 +109,7 @@ module _ (line : ℕ → List ℕ) (count : ℕ) (out₀ : List ℕ) (at : ℕ) 
       ap (λ (k : ℕ). joined line k 0) (let e : i + 1 ≡ suc i = omega arith in e) ∙ joined-more line i 0
       ∙ ap (λ (k : ℕ). joined line i 0 ++ line k) (let e : 0 + i ≡ i = omega arith in e)
 
-  pub written-more : i < count → (l : Line) → Holds (line i) l → (r : ℕ) (out′ : List ℕ) → Puts (text l) place out r out′ → Written line count out₀ at out′ r (i + 1)
+  pub written-more : i < count → (l : Line) → Holds (line i) l → (r : ℕ) (out′ : List ℕ) → PutsLine (text l) place out r out′ → Written line count out₀ at out′ r (i + 1)
   written-more m l h r out′ p =
       let a = w .place-is in
       let b = w .low in
@@ -128,7 +128,7 @@ module _ (line : ℕ → List ℕ) (count : ℕ) (out₀ : List ℕ) (at : ℕ) 
       }
 
 pub written-all : (names : List (List ℕ)) (count : ℕ) (out₀ : List ℕ) (at : ℕ) (out : List ℕ) (place i : ℕ) → length names ≡ count
-    → Written (nameLine names) count out₀ at out place i → count ≤ i → Puts (nameLines names) at out₀ place out
+    → Written (nameLine names) count out₀ at out place i → count ≤ i → PutsLine (nameLines names) at out₀ place out
 written-all names count out₀ at out place i n w l =
     let s = w .some in
     let e : i ≡ length names = omega arith in

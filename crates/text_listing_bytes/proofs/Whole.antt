@@ -12,15 +12,15 @@ use Rattle.definitions.specs.Node.{Node}
 use Rattle.definitions.specs.Sheet.{Ran}
 use Rattle.definitions.specs.Listing.{listing}
 use Rattle.definitions.specs.Controller.{LentLists, Controller, AfterCall}
-use Rattle.store.specs.declared.Answer.{Answer}
-use Rattle.store.specs.declared.Answer.the-variants.{Id, Refused}
+use Rattle.store.specs.declared.NodeAnswer.{NodeAnswer}
+use Rattle.store.specs.declared.NodeAnswer.the-variants.{Id, Refused}
 use Rattle.store.specs.Memory.{memory, model}
 use Rattle.store.specs.View.{nodesIn, lent}
-use Rattle.names.specs.Sound.{Sound, namesOf, lentEntries}
+use Rattle.names.specs.Sound.{SoundNames, namesOf, lentEntries}
 use Rattle.listing_lines.specs.Line.{lineBytes}
 use Rattle.listing_lines.specs.Outcome as Shown
 use Rattle.listing_lines.specs.Outcome.{allLines}
-use Rattle.listing_lines.specs.Filling.{Puts, Fills}
+use Rattle.listing_lines.specs.Filling.{PutsLine, Fills}
 use Rattle.listing_lines.proofs.Lines.{later-rest, listing-of-memory}
 use Rattle.text.specs.Memory.{ControllerMemory, controllerMemory}
 use Rattle.text_listing_bytes.specs.Names.{nameLines}
@@ -41,7 +41,7 @@ lent-is words slots entries w l e =
 pub few-nodes : (words : List ℕ) (count : ℕ) → Nodes words count → length words ≡ 512 * nodeWords → count ≤ 512
 few-nodes words count h k = let f = h .formed .fits in omega (arith, f, k)
 
-pub few-names : (entries : List ℕ) (names : ℕ) → Sound entries names → length entries ≡ 4224 → names ≤ 128
+pub few-names : (entries : List ℕ) (names : ℕ) → SoundNames entries names → length entries ≡ 4224 → names ≤ 128
 few-names entries names h k = let f : names ≤ length entries / 33 = h .lent in omega (arith, f, k)
 
 -- and there is room for their lines
@@ -51,15 +51,15 @@ room-for-nodes count long h k = omega arith
 pub room-for-names : (count names n long : ℕ) → n ≤ (count + 1) * lineBytes → count ≤ 512 → names ≤ 128 → long ≡ 641 * lineBytes → n + names * lineBytes ≤ long
 room-for-names count names n long f g h k = omega arith
 
-outcome-is : (a : Answer) (place : ℕ) (ns : List Node) → outcomeOf a place ≡ Shown.outcomeOf (ranOf a place ns .refusal) (ranOf a place ns .answers)
+outcome-is : (a : NodeAnswer) (place : ℕ) (ns : List Node) → outcomeOf a place ≡ Shown.outcomeOf (ranOf a place ns .refusal) (ranOf a place ns .answers)
 outcome-is (Id id) place ns = refl
 outcome-is (Refused number) place ns = refl
 
-nodes-left : (a : Answer) (place : ℕ) (ns : List Node) → ranOf a place ns .left .nodes ≡ ns
+nodes-left : (a : NodeAnswer) (place : ℕ) (ns : List Node) → ranOf a place ns .left .nodes ≡ ns
 nodes-left (Id id) place ns = refl
 nodes-left (Refused number) place ns = refl
 
-module _ (s words slots entries : List ℕ) (a : Answer) (words′ slots′ : List ℕ) (arena : DagArena) (entries′ : List ℕ) (names : ℕ)
+module _ (s words slots entries : List ℕ) (a : NodeAnswer) (words′ slots′ : List ℕ) (arena : DagArena) (entries′ : List ℕ) (names : ℕ)
     (h : ReadsFresh s (lentLists words slots entries) a (controllerMemory words′ slots′ arena entries′ names)) (w : length words ≡ 512 * nodeWords) (l : length slots ≡ 1024) (e : length entries ≡ 4224) where
   after : readText (lentLists words slots entries) s ≡ readText textLent s
   after = ap (λ (x : LentLists). readText x s) (lent-is words slots entries w l e)
@@ -79,17 +79,17 @@ module _ (s words slots entries : List ℕ) (a : Answer) (words′ slots′ : Li
     pub listed : ListedText s r
     listed = record {
       answer = ap answered (q .answer) ∙ h .answer ∙ ap (λ (x : AfterCall). x .answer) after;
-      place = subst (λ (x : Answer). PlaceOf s x (r .place)) (sym (q .answer)) (subst (PlaceOf s a) (sym (q .place)) p);
+      place = subst (λ (x : NodeAnswer). PlaceOf s x (r .place)) (sym (q .answer)) (subst (PlaceOf s a) (sym (q .place)) p);
       is =
           q .is ∙ ap₂ (λ (x y : List ℕ). x ++ y) lines-are (ap nameLines names-are)
-          ∙ sym (ap₂ (λ (x : Answer) (y : ℕ). textListing x y (readText textLent s .left)) (q .answer) (q .place));
+          ∙ sym (ap₂ (λ (x : NodeAnswer) (y : ℕ). textListing x y (readText textLent s .left)) (q .answer) (q .place));
       within = q .within;
       rest = q .rest;
     }
 
 -- the lines in one array
-pub lines-in : (a : Answer) (place : ℕ) (words : List ℕ) (count : ℕ) (entries : List ℕ) (names : ℕ) (b₁ b₂ : List ℕ) (n r : ℕ) (o : Outcome.Outcome) → o ≡ outcomeOf a place
-    → Fills (allLines o words count) n (replicate textListingBytes 0) b₁ → Puts (nameLines (namesOf entries names)) n b₁ r b₂ → r ≤ length b₂
+pub lines-in : (a : NodeAnswer) (place : ℕ) (words : List ℕ) (count : ℕ) (entries : List ℕ) (names : ℕ) (b₁ b₂ : List ℕ) (n r : ℕ) (o : Outcome.Outcome) → o ≡ outcomeOf a place
+    → Fills (allLines o words count) n (replicate textListingBytes 0) b₁ → PutsLine (nameLines (namesOf entries names)) n b₁ r b₂ → r ≤ length b₂
     → Lines a place words count entries names (record { bytes = b₂; length = r; answer = a; place = place })
 lines-in a place words count entries names b₁ b₂ n r o e f q k =
     let zeros : List ℕ = replicate textListingBytes 0 in

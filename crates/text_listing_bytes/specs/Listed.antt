@@ -13,8 +13,8 @@ use Rattle.definitions.specs.Sheet.{Ran}
 use Rattle.definitions.specs.Listing.{listing}
 use Rattle.definitions.specs.Controller.{LentLists, Controller, emptyController, AfterCall, controllerCall, reading}
 use Rattle.text_language.specs.Refusals.{outsideLanguage}
-use Rattle.store.specs.declared.Answer.{Answer}
-use Rattle.store.specs.declared.Answer.the-variants.{Id, Refused}
+use Rattle.store.specs.declared.NodeAnswer.{NodeAnswer}
+use Rattle.store.specs.declared.NodeAnswer.the-variants.{Id, Refused}
 use Rattle.store.specs.View.{lent}
 use Rattle.names.specs.Sound.{namesOf, lentEntries}
 use Rattle.listing_lines.specs.declared.Outcome as Outcome
@@ -44,31 +44,31 @@ abbrev pub readText : LentLists → List ℕ → AfterCall
 readText l s = controllerCall l emptyController (reading s)
 
 -- the answer is the plain machine's, and so are the nodes and names left, in sound lists
-pub record ReadsFresh (s : List ℕ) (l : LentLists) (a : Answer) (d : ControllerMemory) : Type 0 where
+pub record ReadsFresh (s : List ℕ) (l : LentLists) (a : NodeAnswer) (d : ControllerMemory) : Type 0 where
   pub answer : answered a ≡ readText l s .answer
   pub left : controllerOf d ≡ readText l s .left
   pub sound : BothSound d
 
 -- the place of a refusal: that of the first byte with which no text of the language goes on for 11, else 0
-abbrev pub PlaceOf : List ℕ → Answer → ℕ → Type 0
+abbrev pub PlaceOf : List ℕ → NodeAnswer → ℕ → Type 0
 PlaceOf s (Id id) place = place ≡ 0
 PlaceOf s (Refused number) place = cond (eqb number outsideLanguage) (StopsAt s place) (place ≡ 0)
 
 -- what the first line says: `ok` and the id, or `refused`, the number, `at` and the place
-abbrev pub outcomeOf : Answer → ℕ → Outcome.Outcome
+abbrev pub outcomeOf : NodeAnswer → ℕ → Outcome.Outcome
 outcomeOf (Id id) place = outcome.Ok id
 outcomeOf (Refused number) place = outcome.Refused number place
 
 -- a reading as 01's listing shows a sheet of one record
-abbrev pub ranOf : Answer → ℕ → List Node → Ran
+abbrev pub ranOf : NodeAnswer → ℕ → List Node → Ran
 ranOf (Id id) place ns = record { answers = M.stored id ∷ []; refusal = none; left = state ns }
 ranOf (Refused number) place ns = record { answers = []; refusal = some (number, place); left = state ns }
 
-abbrev pub textListing : Answer → ℕ → Controller → List ℕ
+abbrev pub textListing : NodeAnswer → ℕ → Controller → List ℕ
 textListing a place s = listing (ranOf a place (s .nodes)) ++ nameLines (s .names)
 
 -- the lines of an answer, of the nodes and names in lent lists, and after them 0s
-pub record Lines (a : Answer) (at : ℕ) (words : List ℕ) (count : ℕ) (entries : List ℕ) (names : ℕ) (r : TextListing) : Type 0 where
+pub record Lines (a : NodeAnswer) (at : ℕ) (words : List ℕ) (count : ℕ) (entries : List ℕ) (names : ℕ) (r : TextListing) : Type 0 where
   pub answer : r .answer ≡ a
   pub place : r .place ≡ at
   pub is : take (r .length) (r .bytes) ≡ allLines (outcomeOf a at) words count ++ nameLines (namesOf entries names)

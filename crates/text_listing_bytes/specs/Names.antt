@@ -3,8 +3,8 @@ use Prim.Native.Nat.{ℕ}
 use mathlib.Core.List.{List, [], _∷_, _++_}
 use lib.ListN.{length, getD}
 use Rattle.definitions.specs.Listing.{space, lineFeed, decimal}
-use Rattle.names.specs.declared.Answer.{Answer}
-use Rattle.names.specs.declared.Answer.the-variants.{Numbered, Unknown, Named, Refused}
+use Rattle.names.specs.declared.NameReply.{NameReply}
+use Rattle.names.specs.declared.NameReply.the-variants.{Numbered, Unknown, Named, Refused}
 use Rattle.listing_lines.specs.Outcome.{joined}
 
 -- `name`
@@ -19,7 +19,7 @@ abbrev pub nameLines : List (List ℕ) → List ℕ
 nameLines names = joined (nameLine names) (length names) 0
 
 -- the length that an answer gives
-abbrev pub nameLength : Answer → ℕ
+abbrev pub nameLength : NameReply → ℕ
 nameLength (Numbered n) = 0
 nameLength Unknown = 0
 nameLength (Named n) = n

@@ -4,7 +4,7 @@ mod reading;
 
 ghost use Prim.Native.Nat.{_≤_};
 ghost use Rattle.arena.specs.Nodes.{Nodes};
-ghost use Rattle.names.specs.Sound.{Sound};
+ghost use Rattle.names.specs.Sound.{SoundNames};
 ghost use Rattle.text_listing_bytes.specs.Listed.{textLent, Lines, ListedText};
 use arena::NODE_WORDS;
 use listing_lines::LINE_BYTES;
@@ -13,7 +13,7 @@ use naming::put_names;
 use reading::outcome_of;
 use reading::place_of;
 use reading::read_fresh;
-use store::Answer;
+use store::NodeAnswer;
 
 // A fresh store of 512 nodes and 1,024 slots, as 01's listing program has it, and an empty list of 128 names.
 const NODES: usize = 512;
@@ -32,20 +32,20 @@ pub const TEXT_LISTING_BYTES: usize = (NODES + NAMES + 1) * LINE_BYTES;
 pub struct TextListing {
     pub bytes: [u8; TEXT_LISTING_BYTES],
     pub length: usize,
-    pub answer: Answer,
+    pub answer: NodeAnswer,
     pub place: usize,
 }
 
 // The lines of an answer, of nodes and of names.
 fn lines(
-    answer: Answer,
+    answer: NodeAnswer,
     place: usize,
     nodes: &[u64],
     count: u64,
     entries: &[u8],
     names: usize,
 ) -> TextListing
-    requires { ⌜ Nodes (now nodes) count × Sound (now entries) names × (count ≤ textLent .store .nodes) × (names ≤ textLent .names) ⌝ }
+    requires { ⌜ Nodes (now nodes) count × SoundNames (now entries) names × (count ≤ textLent .store .nodes) × (names ≤ textLent .names) ⌝ }
     ensures { λ r. ⌜ Lines answer place (now (nodes .entry)) count (now (entries .entry)) names r ⌝ }
 {
     let mut bytes = [0; TEXT_LISTING_BYTES];

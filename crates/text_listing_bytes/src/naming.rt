@@ -2,32 +2,32 @@
 ghost use mathlib.Core.Path.{_≡_};
 ghost use Prim.Native.Nat.{_+_, _*_, _≤_, _<_};
 ghost use lib.ListN.{length};
-ghost use Rattle.names.specs.Sound.{Sound, namesOf};
+ghost use Rattle.names.specs.Sound.{SoundNames, namesOf};
 ghost use Rattle.listing_lines.specs.Line.{lineBytes, Holds};
-ghost use Rattle.listing_lines.specs.Filling.{Puts};
+ghost use Rattle.listing_lines.specs.Filling.{PutsLine};
 ghost use Rattle.text_listing_bytes.specs.Names.{nameLine, nameLines, nameLength};
 use listing_lines::Line;
 use listing_lines::new;
 use listing_lines::put_line;
 use listing_lines::with_bytes;
 use listing_lines::with_number;
-use names::Answer;
+use names::NameReply;
 
 // The length of a name that an answer gives.
-fn name_length(answer: Answer) -> usize
+fn name_length(answer: NameReply) -> usize
     ensures { λ r. ⌜ r ≡ nameLength answer ⌝ }
 {
     match answer {
-        Answer::Numbered(_) => 0,
-        Answer::Unknown => 0,
-        Answer::Named(length) => length,
-        Answer::Refused(_) => 0,
+        NameReply::Numbered(_) => 0,
+        NameReply::Unknown => 0,
+        NameReply::Named(length) => length,
+        NameReply::Refused(_) => 0,
     }
 }
 
 // `name`, a number, and its name.
 fn name_line(entries: &[u8], count: usize, number: u32) -> Line
-    requires { ⌜ Sound (now entries) count × (number < count) ⌝ }
+    requires { ⌜ SoundNames (now entries) count × (number < count) ⌝ }
     ensures { λ r. ⌜ Holds (nameLine (namesOf (now (entries .entry)) count) number) r ⌝ }
 {
     let found = names::name(entries, count, number);
@@ -42,8 +42,8 @@ fn name_line(entries: &[u8], count: usize, number: u32) -> Line
 
 // The lines of all names, put into an array from a place on, and the place after them.
 pub(crate) fn put_names(entries: &[u8], count: usize, out: &mut [u8], at: usize) -> usize
-    requires { ⌜ Sound (now entries) count × (at + count * lineBytes ≤ length (now out)) ⌝ }
-    ensures { λ r. ⌜ Puts (nameLines (namesOf (now (entries .entry)) count)) at (now (out .entry)) r (now (out .exit)) ⌝ }
+    requires { ⌜ SoundNames (now entries) count × (at + count * lineBytes ≤ length (now out)) ⌝ }
+    ensures { λ r. ⌜ PutsLine (nameLines (namesOf (now (entries .entry)) count)) at (now (out .entry)) r (now (out .exit)) ⌝ }
     ensures { λ r. ⌜ r ≤ length (now (out .exit)) ⌝ }
 {
     let mut place = at;

@@ -8,7 +8,7 @@ ghost use Rattle.text_listing_bytes.specs.Listed.{lentLists, ReadsFresh,
 use arena::DagArena;
 use builder::FreshStore;
 use listing_lines::Outcome;
-use store::Answer;
+use store::NodeAnswer;
 use text::ReadOutcome;
 use text_language::OUTSIDE_LANGUAGE;
 use text_place::stops_at;
@@ -28,7 +28,7 @@ pub(crate) fn read_fresh(
     match opened {
         FreshStore::Store(arena) => text::read(text, nodes, slots, arena, entries, 0),
         FreshStore::Refused(number) => ReadOutcome {
-            answer: Answer::Refused(number),
+            answer: NodeAnswer::Refused(number),
             arena: DagArena { count: 0, size: 0 },
             names: 0,
         },
@@ -36,12 +36,12 @@ pub(crate) fn read_fresh(
 }
 
 // The place in a text of refusal 11, and 0 for any other answer.
-pub(crate) fn place_of(text: &[u8], answer: Answer) -> usize
+pub(crate) fn place_of(text: &[u8], answer: NodeAnswer) -> usize
     ensures { λ r. ⌜ PlaceOf (now (text .entry)) answer r ⌝ }
 {
     match answer {
-        Answer::Id(_) => 0,
-        Answer::Refused(number) => {
+        NodeAnswer::Id(_) => 0,
+        NodeAnswer::Refused(number) => {
             if number == OUTSIDE_LANGUAGE {
                 return stops_at(text);
             }
@@ -51,12 +51,12 @@ pub(crate) fn place_of(text: &[u8], answer: Answer) -> usize
 }
 
 // What the listing's first line says.
-pub(crate) fn outcome_of(answer: Answer, place: usize) -> Outcome
+pub(crate) fn outcome_of(answer: NodeAnswer, place: usize) -> Outcome
     ensures { λ r. ⌜ r ≡ outcomeOf answer place ⌝ }
 {
     match answer {
-        Answer::Id(id) => Outcome::Ok(id),
-        Answer::Refused(number) => Outcome::Refused {
+        NodeAnswer::Id(id) => Outcome::Ok(id),
+        NodeAnswer::Refused(number) => Outcome::Refused {
             number,
             at: place as u64,
         },

@@ -8,8 +8,8 @@ use native.Mathlib.Numerals.{add-one}
 use borrow.Author.Tests.{eq-eqb, ne-eqb, le-leb, lt-leb}
 use Rattle.text_language.specs.Grammar.{isDigit, isLetter, isWord, isHex}
 use Rattle.text_language.specs.Scan.{joins}
-use Rattle.text_place.specs.declared.Progress.{Progress}
-use Rattle.text_place.specs.declared.Progress.the-variants.{Wanted, Digits, Name, Bits, Ended}
+use Rattle.text_place.specs.declared.ScanProgress.{ScanProgress}
+use Rattle.text_place.specs.declared.ScanProgress.the-variants.{Wanted, Digits, Name, Bits, Ended}
 use Rattle.text_place.specs.declared.Step.{Step}
 use Rattle.text_place.specs.declared.Step.the-variants.{On, Stop}
 use Rattle.text_place.specs.Progress.{mostDigits, longestName, bitsDigits, openIn, operandByte, closed, byteAfter, longer, bitsByte, advance}
@@ -93,39 +93,39 @@ module _ (l b c : ℕ) where
 -- ---- any byte
 
 -- a number or a name that goes on, and one that has ended
-pub digits-on : (p : Progress) (l b c : ℕ) (x y : Bool) → p ≡ Digits l b → x ≡ isDigit c → y ≡ longer x l mostDigits → y ≡ true → On (Digits (l + 1) b) ≡ advance p c
+pub digits-on : (p : ScanProgress) (l b c : ℕ) (x y : Bool) → p ≡ Digits l b → x ≡ isDigit c → y ≡ longer x l mostDigits → y ≡ true → On (Digits (l + 1) b) ≡ advance p c
 unfolding advance
 digits-on p l b c x y e h k t =
     ap (λ (n : ℕ). On (Digits n b)) (add-one l)
-    ∙ sym (ap (λ (q : Progress). advance q c) e ∙ ap (λ (z : Bool). cond z (On (Digits (suc l) b)) (byteAfter b c)) (ap (λ (z : Bool). longer z l mostDigits) (sym h) ∙ sym k ∙ t))
+    ∙ sym (ap (λ (q : ScanProgress). advance q c) e ∙ ap (λ (z : Bool). cond z (On (Digits (suc l) b)) (byteAfter b c)) (ap (λ (z : Bool). longer z l mostDigits) (sym h) ∙ sym k ∙ t))
 
-pub digits-end : (p : Progress) (l b c : ℕ) (x y : Bool) (r : Step) → p ≡ Digits l b → x ≡ isDigit c → y ≡ longer x l mostDigits → y ≡ false → r ≡ byteAfter b c → r ≡ advance p c
+pub digits-end : (p : ScanProgress) (l b c : ℕ) (x y : Bool) (r : Step) → p ≡ Digits l b → x ≡ isDigit c → y ≡ longer x l mostDigits → y ≡ false → r ≡ byteAfter b c → r ≡ advance p c
 unfolding advance
 digits-end p l b c x y r e h k t a =
-    a ∙ sym (ap (λ (q : Progress). advance q c) e ∙ ap (λ (z : Bool). cond z (On (Digits (suc l) b)) (byteAfter b c)) (ap (λ (z : Bool). longer z l mostDigits) (sym h) ∙ sym k ∙ t))
+    a ∙ sym (ap (λ (q : ScanProgress). advance q c) e ∙ ap (λ (z : Bool). cond z (On (Digits (suc l) b)) (byteAfter b c)) (ap (λ (z : Bool). longer z l mostDigits) (sym h) ∙ sym k ∙ t))
 
-pub name-on : (p : Progress) (l b c : ℕ) (x y : Bool) → p ≡ Name l b → x ≡ isWord c → y ≡ longer x l longestName → y ≡ true → On (Name (l + 1) b) ≡ advance p c
+pub name-on : (p : ScanProgress) (l b c : ℕ) (x y : Bool) → p ≡ Name l b → x ≡ isWord c → y ≡ longer x l longestName → y ≡ true → On (Name (l + 1) b) ≡ advance p c
 unfolding advance
 name-on p l b c x y e h k t =
     ap (λ (n : ℕ). On (Name n b)) (add-one l)
-    ∙ sym (ap (λ (q : Progress). advance q c) e ∙ ap (λ (z : Bool). cond z (On (Name (suc l) b)) (byteAfter b c)) (ap (λ (z : Bool). longer z l longestName) (sym h) ∙ sym k ∙ t))
+    ∙ sym (ap (λ (q : ScanProgress). advance q c) e ∙ ap (λ (z : Bool). cond z (On (Name (suc l) b)) (byteAfter b c)) (ap (λ (z : Bool). longer z l longestName) (sym h) ∙ sym k ∙ t))
 
-pub name-end : (p : Progress) (l b c : ℕ) (x y : Bool) (r : Step) → p ≡ Name l b → x ≡ isWord c → y ≡ longer x l longestName → y ≡ false → r ≡ byteAfter b c → r ≡ advance p c
+pub name-end : (p : ScanProgress) (l b c : ℕ) (x y : Bool) (r : Step) → p ≡ Name l b → x ≡ isWord c → y ≡ longer x l longestName → y ≡ false → r ≡ byteAfter b c → r ≡ advance p c
 unfolding advance
 name-end p l b c x y r e h k t a =
-    a ∙ sym (ap (λ (q : Progress). advance q c) e ∙ ap (λ (z : Bool). cond z (On (Name (suc l) b)) (byteAfter b c)) (ap (λ (z : Bool). longer z l longestName) (sym h) ∙ sym k ∙ t))
+    a ∙ sym (ap (λ (q : ScanProgress). advance q c) e ∙ ap (λ (z : Bool). cond z (On (Name (suc l) b)) (byteAfter b c)) (ap (λ (z : Bool). longer z l longestName) (sym h) ∙ sym k ∙ t))
 
-pub wanted-on : (p : Progress) (b c : ℕ) (r : Step) → p ≡ Wanted b → r ≡ operandByte b c → r ≡ advance p c
+pub wanted-on : (p : ScanProgress) (b c : ℕ) (r : Step) → p ≡ Wanted b → r ≡ operandByte b c → r ≡ advance p c
 unfolding advance
-wanted-on p b c r e h = h ∙ sym (ap (λ (q : Progress). advance q c) e)
+wanted-on p b c r e h = h ∙ sym (ap (λ (q : ScanProgress). advance q c) e)
 
-pub bits-on : (p : Progress) (l b c : ℕ) (r : Step) → p ≡ Bits l b → r ≡ bitsByte l b c → r ≡ advance p c
+pub bits-on : (p : ScanProgress) (l b c : ℕ) (r : Step) → p ≡ Bits l b → r ≡ bitsByte l b c → r ≡ advance p c
 unfolding advance
-bits-on p l b c r e h = h ∙ sym (ap (λ (q : Progress). advance q c) e)
+bits-on p l b c r e h = h ∙ sym (ap (λ (q : ScanProgress). advance q c) e)
 
-pub ended-on : (p : Progress) (b c : ℕ) (r : Step) → p ≡ Ended b → r ≡ byteAfter b c → r ≡ advance p c
+pub ended-on : (p : ScanProgress) (b c : ℕ) (r : Step) → p ≡ Ended b → r ≡ byteAfter b c → r ≡ advance p c
 unfolding advance
-ended-on p b c r e h = h ∙ sym (ap (λ (q : Progress). advance q c) e)
+ended-on p b c r e h = h ∙ sym (ap (λ (q : ScanProgress). advance q c) e)
 
 -- a number or a name that goes on is short
 pub still-short : (x y : Bool) (l most : ℕ) → y ≡ longer x l most → y ≡ true → l < most

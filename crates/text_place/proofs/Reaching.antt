@@ -10,8 +10,8 @@ use native.Mathlib.Omega.{arith}
 use native.Mathlib.Numerals.{add-one}
 use Rattle.text_language.specs.Grammar.{isDigit, isLetter, isWord, isHex}
 use Rattle.text_language.specs.Scan.{joins}
-use Rattle.text_place.specs.declared.Progress.{Progress}
-use Rattle.text_place.specs.declared.Progress.the-variants.{Wanted, Digits, Name, Bits, Ended}
+use Rattle.text_place.specs.declared.ScanProgress.{ScanProgress}
+use Rattle.text_place.specs.declared.ScanProgress.the-variants.{Wanted, Digits, Name, Bits, Ended}
 use Rattle.text_place.specs.declared.Step.{Step}
 use Rattle.text_place.specs.declared.Step.the-variants.{On, Stop}
 use Rattle.text_place.specs.Progress.{mostDigits, longestName, bitsDigits, openIn, operandByte, closed, byteAfter, longer, bitsByte, advance, reach}
@@ -32,7 +32,7 @@ abbrev isOn : Step → Bool
 isOn (On p) = true
 isOn Stop = false
 
-pub on-not-stop : (p : Progress) → On p ≡ Stop → ⊥
+pub on-not-stop : (p : ScanProgress) → On p ≡ Stop → ⊥
 on-not-stop p e = false≢true (sym (ap isOn e))
 
 -- ---- the open brackets
@@ -54,7 +54,7 @@ after-few : (b c : ℕ) → AtMost (suc b) (byteAfter b c)
 unfolding byteAfter
 after-few b c = either _ (eqb c 32) _ _ (omega arith) (either _ (joins c) _ _ (omega arith) (either _ (eqb c 41) _ _ (closed-few b) tt))
 
-advance-few : (p : Progress) (c : ℕ) → AtMost (suc (openIn p)) (advance p c)
+advance-few : (p : ScanProgress) (c : ℕ) → AtMost (suc (openIn p)) (advance p c)
 unfolding advance
 advance-few (Wanted b) c =
     either _ (eqb c 32) _ _ (omega arith) (either _ (eqb c 45) _ _ (omega arith) (either _ (eqb c 40) _ _ (omega arith)
@@ -66,7 +66,7 @@ advance-few (Ended b) c = after-few b c
 
 -- ---- the loop
 
-pub record Begun (s : List ℕ) (p : Progress) (i : ℕ) : Type 0 where
+pub record Begun (s : List ℕ) (p : ScanProgress) (i : ℕ) : Type 0 where
   pub is : begun (take i s) ≡ On p
   pub within : i ≤ length s
   pub few : openIn p ≤ i
@@ -75,14 +75,14 @@ pub starts : (s : List ℕ) → Begun s (Wanted 0) 0
 unfolding reach
 starts s = record { is = refl; within = omega arith; few = omega arith }
 
-module _ (s : List ℕ) (p : Progress) (i : ℕ) (h : Begun s p i) (l : i < length s) (r : Step) (e : r ≡ advance p (getD s i 0)) where
+module _ (s : List ℕ) (p : ScanProgress) (i : ℕ) (h : Begun s p i) (l : i < length s) (r : Step) (e : r ≡ advance p (getD s i 0)) where
   one-more : begun (take (suc i) s) ≡ r
   unfolding reach
   one-more =
       ap begun (take-suc s i 0 l) ∙ reach-append (On (Wanted 0)) (take i s) (getD s i 0 ∷ [])
       ∙ ap (λ (x : Step). reach x (getD s i 0 ∷ [])) (h .is) ∙ sym e
 
-  pub goes-on : (q : Progress) → r ≡ On q → Begun s q (i + 1)
+  pub goes-on : (q : ScanProgress) → r ≡ On q → Begun s q (i + 1)
   goes-on q f = record {
     is = ap (λ (k : ℕ). begun (take k s)) (add-one i) ∙ one-more ∙ f;
     within = omega arith;
@@ -92,5 +92,5 @@ module _ (s : List ℕ) (p : Progress) (i : ℕ) (h : Begun s p i) (l : i < leng
   pub stops : r ≡ Stop → StopsAt s i
   stops f = record { within = h .within; before = λ z. on-not-stop p (sym (h .is) ∙ z); there = λ _. one-more ∙ f }
 
-pub ends : (s : List ℕ) (p : Progress) (i : ℕ) → Begun s p i → length s ≤ i → StopsAt s i
+pub ends : (s : List ℕ) (p : ScanProgress) (i : ℕ) → Begun s p i → length s ≤ i → StopsAt s i
 ends s p i h l = record { within = h .within; before = λ z. on-not-stop p (sym (h .is) ∙ z); there = λ m. absurd (omega arith) }

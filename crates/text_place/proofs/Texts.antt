@@ -9,8 +9,8 @@ use native.Mathlib.Omega.{arith}
 use borrow.Author.Tests.{lt-ltb, lt-leb, le-leb, eqb-true, eqb-false, eq-eqb}
 use Rattle.text_language.specs.Grammar.{Chain, sums, products, Expr, isDigit, isLetter, isWord, isHex, Run, stop, more, Atom, Sign, sign, Level, chain, Reads, one, next, base, raise, atom, minus, bracket, Blanks, Text}
 use Rattle.text_language.specs.Scan.{joins}
-use Rattle.text_place.specs.declared.Progress.{Progress}
-use Rattle.text_place.specs.declared.Progress.the-variants.{Wanted, Digits, Name, Bits, Ended}
+use Rattle.text_place.specs.declared.ScanProgress.{ScanProgress}
+use Rattle.text_place.specs.declared.ScanProgress.the-variants.{Wanted, Digits, Name, Bits, Ended}
 use Rattle.text_place.specs.declared.Step.{Step}
 use Rattle.text_place.specs.declared.Step.the-variants.{On, Stop}
 use Rattle.text_place.specs.Progress.{mostDigits, longestName, operandByte, byteAfter, longer, bitsByte, advance, reach}
@@ -20,20 +20,20 @@ use Rattle.text_place.proofs.Bytes.{wanted-digit, wanted-letter}
 use Rattle.text_place.proofs.Reaching.{reach-append, stays-stopped, on-not-stop}
 
 -- from one progress to another: s is some bytes and then r
-pub record Passes (p : Progress) (s : List ℕ) (q : Progress) (r : List ℕ) : Type 0 where
+pub record Passes (p : ScanProgress) (s : List ℕ) (q : ScanProgress) (r : List ℕ) : Type 0 where
   pub bytes : List ℕ
   pub split : s ≡ bytes ++ r
   pub goes : reach (On p) bytes ≡ On q
 
-none : (p : Progress) (s : List ℕ) → Passes p s p s
+none : (p : ScanProgress) (s : List ℕ) → Passes p s p s
 unfolding reach
 none p s = record { bytes = []; split = refl; goes = refl }
 
-first : (p m q : Progress) (c : ℕ) (s r : List ℕ) → advance p c ≡ On m → Passes m s q r → Passes p (c ∷ s) q r
+first : (p m q : ScanProgress) (c : ℕ) (s r : List ℕ) → advance p c ≡ On m → Passes m s q r → Passes p (c ∷ s) q r
 unfolding reach
 first p m q c s r e h = record { bytes = c ∷ h .bytes; split = ap (λ (x : List ℕ). c ∷ x) (h .split); goes = ap (λ (x : Step). reach x (h .bytes)) e ∙ h .goes }
 
-both : (p m q : Progress) (s t r : List ℕ) → Passes p s m t → Passes m t q r → Passes p s q r
+both : (p m q : ScanProgress) (s t r : List ℕ) → Passes p s m t → Passes m t q r → Passes p s q r
 both p m q s t r g h = record {
   bytes = g .bytes ++ h .bytes;
   split = g .split ∙ ap (λ (x : List ℕ). g .bytes ++ x) (h .split) ∙ sym (append-assoc (g .bytes) (h .bytes) r);
@@ -41,7 +41,7 @@ both p m q s t r g h = record {
 }
 
 -- an operand is whole, with so many brackets open
-pub data Whole (b : ℕ) : Progress → Type 0 where
+pub data Whole (b : ℕ) : ScanProgress → Type 0 where
   digits : {l : ℕ} → Whole b (Digits l b)
   name : {l : ℕ} → Whole b (Name l b)
   bits : Whole b (Bits 16 b)
@@ -49,7 +49,7 @@ pub data Whole (b : ℕ) : Progress → Type 0 where
 
 -- from a wanted operand to a whole one
 pub record Operand (b : ℕ) (s r : List ℕ) : Type 0 where
-  pub at : Progress
+  pub at : ScanProgress
   pub whole : Whole b at
   pub passes : Passes (Wanted b) s at r
 
@@ -83,7 +83,7 @@ no-word slash = refl
 no-word caret = refl
 no-word shut = refl
 
-after-whole : (b c : ℕ) (p : Progress) → After c → Whole b p → advance p c ≡ byteAfter b c
+after-whole : (b c : ℕ) (p : ScanProgress) → After c → Whole b p → advance p c ≡ byteAfter b c
 unfolding advance
 after-whole b c p a (digits {l}) = ap (λ (x : Bool). cond (x && ltb l mostDigits) (On (Digits (suc l) b)) (byteAfter b c)) (no-digit a)
 after-whole b c p a (name {l}) = ap (λ (x : Bool). cond (x && ltb l longestName) (On (Name (suc l) b)) (byteAfter b c)) (no-word a)
@@ -91,15 +91,15 @@ after-whole b c p a bits = refl
 after-whole b c p a ended = refl
 
 -- a sign that joins, blanks before it
-module _ (k : ℕ) (a : After k) (b : ℕ) (m : Progress) (e : byteAfter b k ≡ On m) where
-  pub to-sign : {s r : List ℕ} → (p : Progress) → Whole b p → Sign k s r → Passes p s m r
+module _ (k : ℕ) (a : After k) (b : ℕ) (m : ScanProgress) (e : byteAfter b k ≡ On m) where
+  pub to-sign : {s r : List ℕ} → (p : ScanProgress) → Whole b p → Sign k s r → Passes p s m r
   unfolding byteAfter
   to-sign p w (Sign.blank {c} {s} {r} z h) =
       first p (Ended b) m c s r (subst (λ (x : ℕ). advance p x ≡ On (Ended b)) (sym z) (after-whole b 32 p blank w)) (to-sign (Ended b) ended h)
   to-sign p w (Sign.here {c} {s} z) = first p m m c s s (subst (λ (x : ℕ). advance p x ≡ On m) (sym z) (after-whole b k p a w ∙ e)) (none m s)
 
 -- a sign where an operand is wanted
-module _ (k : ℕ) (b : ℕ) (m : Progress) (e : operandByte b k ≡ On m) where
+module _ (k : ℕ) (b : ℕ) (m : ScanProgress) (e : operandByte b k ≡ On m) where
   pub to-operand : {s r : List ℕ} → Sign k s r → Passes (Wanted b) s m r
   unfolding advance
   to-operand (Sign.blank {c} {s} {r} z h) = first (Wanted b) (Wanted b) m c s r (ap (λ (x : ℕ). operandByte b x) z) (to-operand h)
@@ -211,11 +211,11 @@ reads-pass b (bracket {s} {t} {r} {u} p h q) =
     }
 
 -- blanks at the end
-pub record Goes (p : Progress) (s : List ℕ) : Type 0 where
-  pub at : Progress
+pub record Goes (p : ScanProgress) (s : List ℕ) : Type 0 where
+  pub at : ScanProgress
   pub is : reach (On p) s ≡ On at
 
-blanks-pass : (b : ℕ) (p : Progress) → Whole b p → {s : List ℕ} → Blanks s → Goes p s
+blanks-pass : (b : ℕ) (p : ScanProgress) → Whole b p → {s : List ℕ} → Blanks s → Goes p s
 unfolding reach byteAfter
 blanks-pass b p w Blanks.none = record { at = p; is = refl }
 blanks-pass b p w (Blanks.more {c} {s} z h) =

@@ -5,8 +5,8 @@ use mathlib.Core.List.{List, [], _∷_}
 use lib.Dec.{leb, ltb, eqb}
 use Rattle.text_language.specs.Grammar.{isDigit, isLetter, isWord, isHex}
 use Rattle.text_language.specs.Scan.{joins}
-use Rattle.text_place.specs.declared.Progress.{Progress}
-use Rattle.text_place.specs.declared.Progress.the-variants.{Wanted, Digits, Name, Bits, Ended}
+use Rattle.text_place.specs.declared.ScanProgress.{ScanProgress}
+use Rattle.text_place.specs.declared.ScanProgress.the-variants.{Wanted, Digits, Name, Bits, Ended}
 use Rattle.text_place.specs.declared.Step.{Step}
 use Rattle.text_place.specs.declared.Step.the-variants.{On, Stop}
 
@@ -21,7 +21,7 @@ abbrev pub bitsDigits : ℕ
 bitsDigits = 16
 
 -- the open brackets
-abbrev pub openIn : Progress → ℕ
+abbrev pub openIn : ScanProgress → ℕ
 openIn (Wanted brackets) = brackets
 openIn (Digits length brackets) = brackets
 openIn (Name length brackets) = brackets
@@ -57,7 +57,7 @@ unfoldable pub bitsByte : ℕ → ℕ → ℕ → Step
 unfolding byteAfter
 bitsByte length brackets byte = cond (leb bitsDigits length) (byteAfter brackets byte) (cond (isHex byte) (On (Bits (suc length) brackets)) Stop)
 
-unfoldable pub advance : Progress → ℕ → Step
+unfoldable pub advance : ScanProgress → ℕ → Step
 unfolding operandByte byteAfter bitsByte
 advance (Wanted brackets) byte = operandByte brackets byte
 advance (Digits length brackets) byte = cond (longer (isDigit byte) length mostDigits) (On (Digits (suc length) brackets)) (byteAfter brackets byte)

@@ -5,7 +5,7 @@ use mathlib.Core.Bool.{Bool, true, false}
 use mathlib.Core.List.{List, _++_}
 use lib.ListN.{length, take}
 use Rattle.text_language.specs.Grammar.{Expr, Text}
-use Rattle.text_place.specs.declared.Progress.the-variants.{Wanted}
+use Rattle.text_place.specs.declared.ScanProgress.the-variants.{Wanted}
 use Rattle.text_place.specs.declared.Step.{Step}
 use Rattle.text_place.specs.declared.Step.the-variants.{On, Stop}
 use Rattle.text_place.specs.Progress.{reach}

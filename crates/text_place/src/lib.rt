@@ -28,7 +28,7 @@ const HASH: u8 = b'#';
 
 // How far a text is read: an operand is wanted; so many digits of a whole number, bytes of a name or hex digits after # stand; or an
 // operand has ended. Beside it how many brackets are open.
-pub enum Progress {
+pub enum ScanProgress {
     Wanted(usize),
     Digits { length: usize, brackets: usize },
     Name { length: usize, brackets: usize },
@@ -38,7 +38,7 @@ pub enum Progress {
 
 // One byte further, or that no text has the byte there.
 pub enum Step {
-    On(Progress),
+    On(ScanProgress),
     Stop,
 }
 
@@ -48,28 +48,28 @@ fn operand_byte(brackets: usize, byte: u8) -> Step
     ensures { λ r. ⌜ r ≡ operandByte brackets byte ⌝ }
 {
     if byte == BLANK {
-        return Step::On(Progress::Wanted(brackets));
+        return Step::On(ScanProgress::Wanted(brackets));
     }
     if byte == MINUS {
-        return Step::On(Progress::Wanted(brackets));
+        return Step::On(ScanProgress::Wanted(brackets));
     }
     if byte == OPEN {
-        return Step::On(Progress::Wanted(brackets + 1));
+        return Step::On(ScanProgress::Wanted(brackets + 1));
     }
     if is_digit(byte) {
-        return Step::On(Progress::Digits {
+        return Step::On(ScanProgress::Digits {
             length: 1,
             brackets,
         });
     }
     if is_letter(byte) {
-        return Step::On(Progress::Name {
+        return Step::On(ScanProgress::Name {
             length: 1,
             brackets,
         });
     }
     if byte == HASH {
-        return Step::On(Progress::Bits {
+        return Step::On(ScanProgress::Bits {
             length: 0,
             brackets,
         });
@@ -82,10 +82,10 @@ fn byte_after(brackets: usize, byte: u8) -> Step
     ensures { λ r. ⌜ r ≡ byteAfter brackets byte ⌝ }
 {
     if byte == BLANK {
-        return Step::On(Progress::Ended(brackets));
+        return Step::On(ScanProgress::Ended(brackets));
     }
     if joins(byte) {
-        return Step::On(Progress::Wanted(brackets));
+        return Step::On(ScanProgress::Wanted(brackets));
     }
     if byte != CLOSE {
         return Step::Stop;
@@ -93,7 +93,7 @@ fn byte_after(brackets: usize, byte: u8) -> Step
     if brackets == 0 {
         return Step::Stop;
     }
-    Step::On(Progress::Ended(brackets - 1))
+    Step::On(ScanProgress::Ended(brackets - 1))
 }
 
 // Whether a number or a name has one byte more.
@@ -111,7 +111,7 @@ fn bits_byte(length: usize, brackets: usize, byte: u8) -> Step
         return byte_after(brackets, byte);
     }
     if is_hex(byte) {
-        return Step::On(Progress::Bits {
+        return Step::On(ScanProgress::Bits {
             length: length + 1,
             brackets,
         });
@@ -120,32 +120,32 @@ fn bits_byte(length: usize, brackets: usize, byte: u8) -> Step
 }
 
 // One byte of a text.
-fn advance(progress: Progress, byte: u8) -> Step
+fn advance(progress: ScanProgress, byte: u8) -> Step
     requires { ⌜ openIn progress < 18446744073709551615 ⌝ }
     ensures { λ r. ⌜ r ≡ advance progress byte ⌝ }
 {
     match progress {
-        Progress::Wanted(brackets) => operand_byte(brackets, byte),
-        Progress::Digits { length, brackets } => {
+        ScanProgress::Wanted(brackets) => operand_byte(brackets, byte),
+        ScanProgress::Digits { length, brackets } => {
             if longer(is_digit(byte), length, MOST_DIGITS) {
-                return Step::On(Progress::Digits {
+                return Step::On(ScanProgress::Digits {
                     length: length + 1,
                     brackets,
                 });
             }
             byte_after(brackets, byte)
         }
-        Progress::Name { length, brackets } => {
+        ScanProgress::Name { length, brackets } => {
             if longer(is_word(byte), length, LONGEST_NAME) {
-                return Step::On(Progress::Name {
+                return Step::On(ScanProgress::Name {
                     length: length + 1,
                     brackets,
                 });
             }
             byte_after(brackets, byte)
         }
-        Progress::Bits { length, brackets } => bits_byte(length, brackets, byte),
-        Progress::Ended(brackets) => byte_after(brackets, byte),
+        ScanProgress::Bits { length, brackets } => bits_byte(length, brackets, byte),
+        ScanProgress::Ended(brackets) => byte_after(brackets, byte),
     }
 }
 
@@ -153,7 +153,7 @@ fn advance(progress: Progress, byte: u8) -> Step
 pub fn stops_at(text: &[u8]) -> usize
     ensures { λ r. ⌜ StopsAt (now (text .entry)) r ⌝ }
 {
-    let mut progress = Progress::Wanted(0);
+    let mut progress = ScanProgress::Wanted(0);
     let mut i: usize = 0;
     while i < text.len() {
         let step = advance(progress, text[i]);

@@ -16,7 +16,7 @@ use Rattle.text_language.specs.Program as P
 use Rattle.text_language.proofs.Sound.{OkA, atom-of, which-sign}
 use Rattle.text_language.proofs.Complete.{atom-length}
 use Rattle.text_language.proofs.Tokens.{place-token}
-use Rattle.text_program.specs.Readers.{Appends}
+use Rattle.text_program.specs.Readers.{AppendsWords}
 use Rattle.text_program.specs.Words.{plusWord, minusWord, timesWord, overWord, raiseWord, negateWord, joinWord}
 
 map-append : (f : ℕ → Token) (a b : List ℕ) → map f (a ++ b) ≡ map f a ++ map f b
@@ -67,8 +67,8 @@ module _ (s : List ℕ) where
       go products true e = at 47 e ∙ signs .3
 
   module _ (program : List ℕ) (size : ℕ) (at : ℕ) where
-    pub appends-negated : (a : Expr) (j i : ℕ) (program′ : List ℕ) (size′ : ℕ) → Appends s program size a (j + 1) i program′ size′ → at ≤ j → size′ < length program′
-        → Appends s program size (negated a) at i (set program′ size′ negateWord) (size′ + 1)
+    pub appends-negated : (a : Expr) (j i : ℕ) (program′ : List ℕ) (size′ : ℕ) → AppendsWords s program size a (j + 1) i program′ size′ → at ≤ j → size′ < length program′
+        → AppendsWords s program size (negated a) at i (set program′ size′ negateWord) (size′ + 1)
     unfolding postfix
     appends-negated a j i program′ size′ w l m = record {
       tokens =
@@ -78,7 +78,7 @@ module _ (s : List ℕ) where
     }
 
     joined : (o : Join) (w : ℕ) (a b : Expr) (i j k : ℕ) (program₁ : List ℕ) (size₁ : ℕ) (program₂ : List ℕ) (size₂ : ℕ) → tokenAt s w ≡ join o
-        → Appends s program size a at i program₁ size₁ → Appends s program₁ size₁ b (j + 1) k program₂ size₂ → size₂ < length program₂
+        → AppendsWords s program size a at i program₁ size₁ → AppendsWords s program₁ size₁ b (j + 1) k program₂ size₂ → size₂ < length program₂
         → tokens s (set program₂ size₂ w) (size₂ + 1) ≡ tokens s program size ++ (postfix a ++ (postfix b ++ join o ∷ []))
     joined o w a b i j k program₁ size₁ program₂ size₂ e x y m =
         one-word program₂ size₂ w m ∙ ap (λ (t : Token). tokens s program₂ size₂ ++ t ∷ []) e
@@ -87,22 +87,22 @@ module _ (s : List ℕ) where
         ∙ append-assoc (tokens s program size) (postfix a) (postfix b ++ join o ∷ [])
 
     module _ (a b : Expr) (i j k : ℕ) (program₁ : List ℕ) (size₁ : ℕ) (program₂ : List ℕ) (size₂ : ℕ)
-        (x : Appends s program size a at i program₁ size₁) (y : Appends s program₁ size₁ b (j + 1) k program₂ size₂) (l : i ≤ j) (m : size₂ < length program₂) where
-      pub appends-linked : (c : Chain) (z : Bool) (w : ℕ) → tokenAt s w ≡ join (joinOf c z) → Appends s program size (linked c z a b) at k (set program₂ size₂ w) (size₂ + 1)
+        (x : AppendsWords s program size a at i program₁ size₁) (y : AppendsWords s program₁ size₁ b (j + 1) k program₂ size₂) (l : i ≤ j) (m : size₂ < length program₂) where
+      pub appends-linked : (c : Chain) (z : Bool) (w : ℕ) → tokenAt s w ≡ join (joinOf c z) → AppendsWords s program size (linked c z a b) at k (set program₂ size₂ w) (size₂ + 1)
       unfolding postfix
       appends-linked c z w e = record { tokens = joined (joinOf c z) w a b i j k program₁ size₁ program₂ size₂ e x y m; room = let p = x .room in let q = y .room in omega (arith, p, q) }
 
-      pub appends-power : Appends s program size (raised a b) at k (set program₂ size₂ raiseWord) (size₂ + 1)
+      pub appends-power : AppendsWords s program size (raised a b) at k (set program₂ size₂ raiseWord) (size₂ + 1)
       unfolding postfix
       appends-power = record { tokens = joined P.raise raiseWord a b i j k program₁ size₁ program₂ size₂ raise-token x y m; room = let p = x .room in let q = y .room in omega (arith, p, q) }
 
     -- brackets add no word
-    pub appends-around : (e : Expr) (j i k : ℕ) (program′ : List ℕ) (size′ : ℕ) → Appends s program size e (j + 1) i program′ size′ → at ≤ j → i ≤ k → Appends s program size e at k program′ size′
+    pub appends-around : (e : Expr) (j i k : ℕ) (program′ : List ℕ) (size′ : ℕ) → AppendsWords s program size e (j + 1) i program′ size′ → at ≤ j → i ≤ k → AppendsWords s program size e at k program′ size′
     appends-around e j i k program′ size′ w l m = record { tokens = w .tokens; room = let r = w .room in omega (arith, r) }
 
     -- a number or a name
     pub appends-atom : (e : Expr) (d : ℕ) (j i : ℕ) → atomOf (drop j s) ≡ got e d (drop i s) → length s ≤ 8192 → at ≤ j → i ≤ length s → size < length program
-        → Appends s program size e at i (set program size j) (size + 1)
+        → AppendsWords s program size e at i (set program size j) (size + 1)
     appends-atom e d j i g short l h m =
         let o = subst (OkA (drop j s)) g (atom-of (drop j s)) in
         let n = moved e d (drop i s) o in

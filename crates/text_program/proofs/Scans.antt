@@ -20,7 +20,7 @@ use Rattle.text_program.specs.declared.places.End.{End}
 use Rattle.text_program.specs.declared.places.End.the-variants.{At, Nowhere}
 use Rattle.text_program.specs.declared.scanning.ScanState.{ScanState}
 use Rattle.text_program.specs.Readers.{AtomEnds}
-use Rattle.text_program.specs.Scanning.{wanted, Steps}
+use Rattle.text_program.specs.Scanning.{wanted, ScanSteps}
 use Rattle.text_program.proofs.Steps.{not-zero}
 
 no-zero : joins 0 ≡ false
@@ -39,7 +39,7 @@ module _ (s : List ℕ) (t : ScanState) (j c : ℕ) (low : t .at ≤ length s) (
 
   -- a turn by one byte
   one-byte : (w : Want) (v : Bool) (o : ℕ) → wanted (t .operand) ≡ w → (c ≡ 0 → ⊥) → o ≤ j + 1
-      → ((n : ℕ) → scan (suc n) w (t .brackets) (drop (t .at) s) ≡ scan n (wanted v) o (past (drop (t .at) s))) → Steps s t (record { at = j + 1; operand = v; brackets = o })
+      → ((n : ℕ) → scan (suc n) w (t .brackets) (drop (t .at) s) ≡ scan n (wanted v) o (past (drop (t .at) s))) → ScanSteps s t (record { at = j + 1; operand = v; brackets = o })
   one-byte w v o e z f h =
       let l = p .low in
       let i = p .inside z in
@@ -51,10 +51,10 @@ module _ (s : List ℕ) (t : ScanState) (j c : ℕ) (low : t .at ≤ length s) (
       }
 
   module _ (w : t .operand ≡ true) where
-    pub step-minus : c ≡ 45 → Steps s t (record { at = j + 1; operand = true; brackets = t .brackets })
+    pub step-minus : c ≡ 45 → ScanSteps s t (record { at = j + 1; operand = true; brackets = t .brackets })
     step-minus z = let l = p .low in one-byte operand true (t .brackets) (ap wanted w) (not-zero c 45 z (omega arith)) (omega arith) (λ n. scan-minus n (t .brackets) (drop (t .at) s) (is-sign 45 z))
 
-    pub step-open : (c ≡ 45 → ⊥) → c ≡ 40 → Steps s t (record { at = j + 1; operand = true; brackets = t .brackets + 1 })
+    pub step-open : (c ≡ 45 → ⊥) → c ≡ 40 → ScanSteps s t (record { at = j + 1; operand = true; brackets = t .brackets + 1 })
     step-open y z =
         let l = p .low in
         one-byte operand true (t .brackets + 1) (ap wanted w) (not-zero c 40 z (omega arith)) (omega arith)
@@ -65,7 +65,7 @@ module _ (s : List ℕ) (t : ScanState) (j c : ℕ) (low : t .at ≤ length s) (
         ap (λ (x : Bool). scan (suc n) (wanted x) (t .brackets) (drop (t .at) s)) w ∙ scan-atom n (t .brackets) (drop (t .at) s) (no-sign 45 y) (no-sign 40 z)
         ∙ ap (λ (x : List ℕ). onto (atomOf x) (λ r. scan n operator (t .brackets) r)) (p .skips)
 
-    pub step-atom : (k : ℕ) (r : End) → r ≡ At k → (c ≡ 45 → ⊥) → (c ≡ 40 → ⊥) → AtomEnds s j r → Steps s t (record { at = k; operand = false; brackets = t .brackets })
+    pub step-atom : (k : ℕ) (r : End) → r ≡ At k → (c ≡ 45 → ⊥) → (c ≡ 40 → ⊥) → AtomEnds s j r → ScanSteps s t (record { at = k; operand = false; brackets = t .brackets })
     unfolding onto
     step-atom k r e y z a =
         let b = subst (AtomEnds s j) e a in
@@ -89,13 +89,13 @@ module _ (s : List ℕ) (t : ScanState) (j c : ℕ) (low : t .at ≤ length s) (
     step-none r e y z a n = at-atom n y z ∙ ap (λ (u : Got). onto u (λ r. scan n operator (t .brackets) r)) (subst (AtomEnds s j) e a)
 
   module _ (w : t .operand ≡ false) where
-    pub step-join : joins c ≡ true → Steps s t (record { at = j + 1; operand = true; brackets = t .brackets })
+    pub step-join : joins c ≡ true → ScanSteps s t (record { at = j + 1; operand = true; brackets = t .brackets })
     step-join z =
         let l = p .low in
         one-byte operator true (t .brackets) (ap wanted w) (λ o. absurd-bool z (ap joins o ∙ no-zero)) (omega arith)
         (λ n. scan-join n (t .brackets) (drop (t .at) s) (ap joins (p .leads) ∙ z))
 
-    pub step-close : joins c ≡ false → c ≡ 41 → (t .brackets ≡ 0 → ⊥) → Steps s t (record { at = j + 1; operand = false; brackets = t .brackets - 1 })
+    pub step-close : joins c ≡ false → c ≡ 41 → (t .brackets ≡ 0 → ⊥) → ScanSteps s t (record { at = j + 1; operand = false; brackets = t .brackets - 1 })
     unfolding pop
     step-close y z o =
         let l = p .low in
@@ -135,7 +135,7 @@ pub record Scanned (s : List ℕ) (t : ScanState) : Type 0 where
 pub scan-start : (s : List ℕ) → Scanned s (record { at = 0; operand = true; brackets = 0 })
 scan-start s = record { fuel = suc (length s); is = scan-is (suc (length s)) s (omega arith); enough = omega arith; high = omega arith; few = omega arith }
 
-pub scan-on : (s : List ℕ) (t u : ScanState) → Scanned s t → Steps s t u → Scanned s u
+pub scan-on : (s : List ℕ) (t u : ScanState) → Scanned s t → ScanSteps s t u → Scanned s u
 scan-on s t u k w =
     let l = w .low in
     let (m, e) = positive (k .fuel) (omega arith) in
@@ -147,7 +147,7 @@ scan-on s t u k w =
       few = w .few;
     }
 
-pub scan-less : (s : List ℕ) (t u : ScanState) → Steps s t u → length s - u .at < length s - t .at
+pub scan-less : (s : List ℕ) (t u : ScanState) → ScanSteps s t u → length s - u .at < length s - t .at
 scan-less s t u w = let l = w .low in let h = w .high in omega arith
 
 pub scan-stop : (s : List ℕ) (t : ScanState) (b : Bool) → Scanned s t → ((n : ℕ) → scan (suc n) (wanted (t .operand)) (t .brackets) (drop (t .at) s) ≡ b) → b ≡ isText s

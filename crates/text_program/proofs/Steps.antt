@@ -22,7 +22,7 @@ use Rattle.text_program.specs.declared.places.End.the-variants.{At, Nowh
 use Rattle.text_program.specs.declared.readers.Parse.{Parse}
 use Rattle.text_program.specs.declared.readers.Parse.the-variants.{Ended, Outside, TooDeep}
 use Rattle.text_language.specs.Reading.{mostBytes}
-use Rattle.text_program.specs.Readers.{AtomEnds, ReaderStarts, Appends, Emitted, AgreesWith, Agrees}
+use Rattle.text_program.specs.Readers.{AtomEnds, ReaderStarts, AppendsWords, Emitted, AgreesWith, Agrees}
 use Rattle.text_program.specs.Words.{raiseWord, negateWord, joinWord}
 use Rattle.text_program.proofs.Emitting.{join-token, appends-negated, appends-linked, appends-power, appends-around, appends-atom}
 
@@ -407,7 +407,7 @@ pub record Come (s : List ℕ) (at left : ℕ) (k : Chain) (P : List ℕ) (n : �
   pub comes : read f (level (chain k)) (drop at s) ≡ read fuel (onward k expr depth) (drop i s)
   pub shallow : depth ≤ left
   pub more : f + at ≤ fuel + i
-  pub appends : Appends s P n expr at i Q m
+  pub appends : AppendsWords s P n expr at i Q m
 
 -- the chain is read up to i
 pub record Walking (s : List ℕ) (at left : ℕ) (k : Chain) (P : List ℕ) (n : ℕ) (i : ℕ) (Q : List ℕ) (m : ℕ) : Type 0 where

@@ -28,7 +28,7 @@ pub record ReaderStarts (s : List ℕ) (at : ℕ) (program : List ℕ) (size : �
   pub room : size + (length s - at) ≤ length program
 
 -- from `at` to i the program grew by the postfix of e, by at most a word a byte
-pub record Appends (s program : List ℕ) (size : ℕ) (e : Expr) (at i : ℕ) (program′ : List ℕ) (size′ : ℕ) : Type 0 where
+pub record AppendsWords (s program : List ℕ) (size : ℕ) (e : Expr) (at i : ℕ) (program′ : List ℕ) (size′ : ℕ) : Type 0 where
   pub tokens : P.tokens s program′ size′ ≡ P.tokens s program size ++ postfix e
   pub room : size′ + at ≤ size + i
 
@@ -40,7 +40,7 @@ pub record Emitted (s : List ℕ) (left at : ℕ) (program : List ℕ) (size : �
   pub is : g ≡ got expr depth (drop i s)
   pub shallow : depth ≤ left
   pub high : i ≤ length s
-  pub appends : Appends s program size expr at i program′ size′
+  pub appends : AppendsWords s program size expr at i program′ size′
 
 abbrev pub AgreesWith : List ℕ → ℕ → ℕ → List ℕ → ℕ → Got → List ℕ → Parse → Type 0
 AgreesWith s left at program size g program′ (Ended i size′) = Emitted s left at program size g i program′ size′

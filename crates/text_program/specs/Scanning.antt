@@ -14,7 +14,7 @@ wanted true = operand
 wanted false = operator
 
 -- the scan goes on, from one state to the next
-pub record Steps (s : List ℕ) (t u : ScanState) : Type 0 where
+pub record ScanSteps (s : List ℕ) (t u : ScanState) : Type 0 where
   pub low : t .at < u .at
   pub high : u .at ≤ length s
   pub few : u .brackets ≤ u .at
@@ -22,5 +22,5 @@ pub record Steps (s : List ℕ) (t u : ScanState) : Type 0 where
       ≡ scan n (wanted (u .operand)) (u .brackets) (drop (u .at) s)
 
 abbrev pub StepSays : List ℕ → ScanState → ScanStep → Type 0
-StepSays s t (On u) = Steps s t u
+StepSays s t (On u) = ScanSteps s t u
 StepSays s t (Stop b) = (n : ℕ) → scan (suc n) (wanted (t .operand)) (t .brackets) (drop (t .at) s) ≡ b

@@ -3,7 +3,7 @@ ghost use mathlib.Core.Path.{_≡_};
 ghost use Prim.Native.Nat.{_+_, _≤_, _<_};
 ghost use lib.ListN.{length, getD};
 ghost use Rattle.text_language.specs.Grammar.{isLetter};
-ghost use Rattle.text_language.specs.Places.{AtSpot, Ran};
+ghost use Rattle.text_language.specs.Places.{AtSpot, ScanRan};
 ghost use Rattle.text_program.specs.Kinds.{letterOrDigitKind, laterNameBytes};
 ghost use Rattle.text_program.specs.Readers.{AtomEnds};
 use crate::bytes::DIGIT;
@@ -52,7 +52,7 @@ pub(crate) fn next_byte(text: &[u8], from: usize) -> NextByte
 // The end of as many bytes of a kind as there are, at most so many.
 pub(crate) fn run_end(text: &[u8], from: usize, kind: u8, most: usize) -> usize
     requires { ⌜ from ≤ length (now text) ⌝ }
-    ensures { λ r. ⌜ Ran (now (text .entry)) from kind most r ⌝ }
+    ensures { λ r. ⌜ ScanRan (now (text .entry)) from kind most r ⌝ }
 {
     let mut i = from;
     let mut left = most;
@@ -108,7 +108,7 @@ pub fn name_starts(text: &[u8], at: usize) -> bool
 // The end of the name that starts at a place.
 pub fn name_end(text: &[u8], at: usize) -> usize
     requires { ⌜ at < length (now text) ⌝ }
-    ensures { λ r. ⌜ Ran (now (text .entry)) (at + 1) letterOrDigitKind laterNameBytes r ⌝ }
+    ensures { λ r. ⌜ ScanRan (now (text .entry)) (at + 1) letterOrDigitKind laterNameBytes r ⌝ }
 {
     run_end(text, at + 1, LETTER_OR_DIGIT, LATER_NAME_BYTES)
 }

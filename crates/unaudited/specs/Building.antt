@@ -6,10 +6,10 @@ use Rattle.definitions.specs.Node as N
 use Rattle.definitions.specs.Machine as M
 use Rattle.store.specs.Memory.{Memory}
 use Rattle.builder.specs.Stores.{BuildsSound}
-use Rattle.outputs.specs.Calls.{Left}
+use Rattle.outputs.specs.Calls.{LeftBehind}
 
 -- the request for this node: its answer, left as the number that is returned and the id behind its pointer
 pub record BuildsNode (kind payload flags : ℕ) (operands : List ℕ) (m : Memory) (id r id′ : ℕ) (m′ : Memory) : Type 0 where
   pub answer : M.Answer
   pub built : BuildsSound (M.request true (N.node kind payload flags operands)) m answer m′
-  pub left : Left answer r (M.stored id′) (id ∷ []) (id′ ∷ [])
+  pub left : LeftBehind answer r (M.stored id′) (id ∷ []) (id′ ∷ [])

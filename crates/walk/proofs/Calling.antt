@@ -22,9 +22,9 @@ use Rattle.store.proofs.Leaving.{leaves-unsound, leaves-kept}
 use Rattle.store.specs.Memory.{Leaves, changesNothing, keepsInterned}
 use Rattle.arena.specs.declared.DagArena.{DagArena}
 use Rattle.walk.specs.declared.state.Walk.{Walk}
-use Rattle.walk.specs.declared.Outcome as Outcomes
-use Rattle.walk.specs.declared.Answer.the-variants.{Refused}
-use Rattle.rebuild.specs.Memory.{Memory, memory, Sound, nodesOf, lentOf, Keeps}
+use Rattle.walk.specs.declared.WalkOutcome as Outcomes
+use Rattle.walk.specs.declared.WalkAnswer.the-variants.{Refused}
+use Rattle.rebuild.specs.Memory.{Memory, memory, SoundMemory, nodesOf, lentOf, Keeps}
 use Rattle.walk.specs.Answers.{meaning}
 use Rattle.walk.specs.Turns.{Starts, Startable, WalksRoot}
 use Rattle.walk.proofs.Refusing.{refused-full}
@@ -46,16 +46,16 @@ not-slot : (number : ℕ) → not (keepsInterned number) ≡ true → number ≡
 not-slot number e h = or-right (eqb number noNodePlace) (eqb number noSlotPlace) (eq-eqb number noSlotPlace h) e
 
 -- a refusal that changes nothing, as it is returned
-pub refusing : (call : M.Call) (m : Memory) (number : ℕ) (r : Outcomes.Outcome) → r ≡ record { answer = Refused number; arena = m .arena }
+pub refusing : (call : M.Call) (m : Memory) (number : ℕ) (r : Outcomes.WalkOutcome) → r ≡ record { answer = Refused number; arena = m .arena }
     → Leaves call m (refused number) m → Leaves call m (meaning (r .answer)) (memory (m .words) (m .slots) (r .arena))
-refusing call m number r e x = subst (λ (y : Outcomes.Outcome). Leaves call m (meaning (y .answer)) (memory (m .words) (m .slots) (y .arena))) (sym e) x
+refusing call m number r e x = subst (λ (y : Outcomes.WalkOutcome). Leaves call m (meaning (y .answer)) (memory (m .words) (m .slots) (y .arena))) (sym e) x
 
 module _ (mode : Mode) (m : Memory) (root depth budget : ℕ) where
   -- 20, and nothing changed
-  pub unsound : (Sound m → ⊥) → Leaves (simplify (modeOf mode) root depth budget) m (refused notSound) m
+  pub unsound : (SoundMemory m → ⊥) → Leaves (simplify (modeOf mode) root depth budget) m (refused notSound) m
   unsound n = leaves-unsound (simplify (modeOf mode) root depth budget) m n
 
-  module _ (h : Sound m) where
+  module _ (h : SoundMemory m) where
     abbrev plain : Outcome
     plain = simplifyCall (modeOf mode) (lentOf m) (nodesOf m) root depth budget
 
@@ -88,7 +88,7 @@ module _ (mode : Mode) (m : Memory) (root depth budget : ℕ) where
           untouched badOperand
           (sym (shallow ∙ ap (λ (b : Bool). cond b walked (outcome (refused badOperand) (nodesOf m))) (le-ltb root (length (nodesOf m)) (omega (arith, plain-length (m .words) (m .arena .count))))))
 
-      answered : root < m .arena .count → (m′ : Memory) (r : Outcomes.Outcome) → WalksRoot (modeOf mode) m root depth budget m′ r → Leaves (simplify (modeOf mode) root depth budget) m (meaning (r .answer)) m′
+      answered : root < m .arena .count → (m′ : Memory) (r : Outcomes.WalkOutcome) → WalksRoot (modeOf mode) m root depth budget m′ r → Leaves (simplify (modeOf mode) root depth budget) m (meaning (r .answer)) m′
       answered g m′ r x =
           called (meaning (r .answer)) m′
           (x .plainly ∙ sym (shallow ∙ ap (λ (b : Bool). cond b walked (outcome (refused badOperand) (nodesOf m))) (lt-ltb root (length (nodesOf m)) (omega (arith, plain-length (m .words) (m .arena .count))))))
@@ -99,7 +99,7 @@ module _ (mode : Mode) (m : Memory) (root depth budget : ℕ) where
       module _ (g : root < m .arena .count) (w : Walk) (s : Starts mode root depth (m .arena) w) where
         pub startable : Startable (memory (m .words) (m .slots) (w .progress .arena)) root w
         startable = record {
-          sound = subst (λ (a : DagArena). Sound (memory (m .words) (m .slots) a)) (sym (s .arena-is)) h;
+          sound = subst (λ (a : DagArena). SoundMemory (memory (m .words) (m .slots) a)) (sym (s .arena-is)) h;
           below = subst (λ (a : DagArena). root < a .count) (sym (s .arena-is)) g;
           listed = omega (arith, s .limit-is);
           starts = record {
@@ -114,7 +114,7 @@ module _ (mode : Mode) (m : Memory) (root depth budget : ℕ) where
           };
         }
 
-        pub ran : (m′ : Memory) (r : Outcomes.Outcome) → WalksRoot (modeOf (w .mode)) (memory (m .words) (m .slots) (w .progress .arena)) root (w .limit) budget m′ r
+        pub ran : (m′ : Memory) (r : Outcomes.WalkOutcome) → WalksRoot (modeOf (w .mode)) (memory (m .words) (m .slots) (w .progress .arena)) root (w .limit) budget m′ r
             → Leaves (simplify (modeOf mode) root depth budget) m (meaning (r .answer)) m′
         ran m′ r x =
             answered g m′ r

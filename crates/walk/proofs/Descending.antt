@@ -16,7 +16,7 @@ use Rattle.store.specs.View.{nodesIn}
 use Rattle.store.specs.Lookup.{Lookup}
 use Rattle.store.proofs.Reading as R
 use Rattle.store.proofs.Viewing.{plain-length}
-use Rattle.walk.specs.declared.state.Progress.{Progress}
+use Rattle.walk.specs.declared.state.WalkProgress.{WalkProgress}
 use Rattle.walk.specs.declared.state.Status.the-variants.{Going}
 use Rattle.walk.specs.Stack.{Stack, stack, framesOf, valuesOf, framesIn, valuesIn, topId, topCursor, topFrame, framesUnder, ValuesBelow, held, Waiting, Valid}
 use Rattle.walk.specs.Turns.{Descendable, Descends}
@@ -90,12 +90,12 @@ module _ (w : List ℕ) (count : ℕ) (k : Stack) (d : Descendable w count k) wh
         ∙ S.set-cursor (k .ids) (k .cursors) top (cursor + 1) (omega (arith, d .whole .cursors, d .room))
         ∙ ap (λ (x : ℕ). frame (topId k) top x ∷ framesUnder k) (add-one cursor)
 
-    module _ (mode : Mode) (p : Progress) where
-      pub taken : takenUnwalked mode (at (nodesIn w count) child) ≡ true → (r : Progress)
+    module _ (mode : Mode) (p : WalkProgress) where
+      pub taken : takenUnwalked mode (at (nodesIn w count) child) ≡ true → (r : WalkProgress)
           → r ≡ record { frames = k .frames; filled = k .filled + 1; arena = p .arena; status = Going }
           → Descends mode (nodesIn w count) k p (stack (k .ids) (set (k .cursors) (k .frames - 1) (topCursor k + 1)) (set (k .values) (k .filled) child) (r .frames) (r .filled)) r
       taken t r q =
-          subst (λ (x : Progress). Descends mode ns k p (stack (k .ids) (set (k .cursors) top (cursor + 1)) (set (k .values) (k .filled) child) (x .frames) (x .filled)) x) (sym q)
+          subst (λ (x : WalkProgress). Descends mode ns k p (stack (k .ids) (set (k .cursors) top (cursor + 1)) (set (k .values) (k .filled) child) (x .frames) (x .filled)) x) (sym q)
           (record {
             plainly = (λ i. go ns (frames-up i) (values i))
                 ∙ sym (descend-is mode ∙ ap (λ (b : Bool). cond b (go ns up (child ∷ valuesIn k)) (go ns (frame child (suc top) 0 ∷ up) (valuesIn k))) t);
@@ -110,11 +110,11 @@ module _ (w : List ℕ) (count : ℕ) (k : Stack) (d : Descendable w count k) wh
           values : valuesOf (set (k .values) (k .filled) child) (k .filled + 1) ≡ child ∷ valuesIn k
           values = S.push-value (k .values) (k .filled) child (omega (arith, d .free, d .whole .values))
 
-      pub walked : takenUnwalked mode (at (nodesIn w count) child) ≡ false → (r : Progress)
+      pub walked : takenUnwalked mode (at (nodesIn w count) child) ≡ false → (r : WalkProgress)
           → r ≡ record { frames = k .frames + 1; filled = k .filled; arena = p .arena; status = Going }
           → Descends mode (nodesIn w count) k p (stack (set (k .ids) (k .frames) child) (set (set (k .cursors) (k .frames - 1) (topCursor k + 1)) (k .frames) 0) (k .values) (r .frames) (r .filled)) r
       walked t r q =
-          subst (λ (x : Progress). Descends mode ns k p (stack (set (k .ids) (k .frames) child) (set (set (k .cursors) top (cursor + 1)) (k .frames) 0) (k .values) (x .frames) (x .filled)) x) (sym q)
+          subst (λ (x : WalkProgress). Descends mode ns k p (stack (set (k .ids) (k .frames) child) (set (set (k .cursors) top (cursor + 1)) (k .frames) 0) (k .values) (x .frames) (x .filled)) x) (sym q)
           (record {
             plainly = ap (λ (fs : List Frame). go ns fs (valuesIn k)) frames-down
                 ∙ sym (descend-is mode ∙ ap (λ (b : Bool). cond b (go ns up (child ∷ valuesIn k)) (go ns (frame child (suc top) 0 ∷ up) (valuesIn k))) t);

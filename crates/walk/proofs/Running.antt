@@ -19,15 +19,15 @@ use Rattle.definitions.specs.Machine as M
 use Rattle.store.proofs.Viewing.{plain-length}
 use Rattle.store.proofs.Keeping.{kept-refl, kept-trans}
 use Rattle.walk.specs.declared.state.Walk.{Walk}
-use Rattle.walk.specs.declared.state.Progress.{Progress}
+use Rattle.walk.specs.declared.state.WalkProgress.{WalkProgress}
 use Rattle.walk.specs.declared.state.Status.{Status}
 use Rattle.walk.specs.declared.state.Status.the-variants.{Going, Stopped}
-use Rattle.walk.specs.declared.Outcome.{Outcome}
-use Rattle.walk.specs.declared.Answer.{Answer}
-use Rattle.walk.specs.declared.Answer.the-variants.{Simplified, Spent, Refused}
-use Rattle.rebuild.specs.Memory.{Memory, memory, Sound, nodesOf, lentOf, Keeps}
+use Rattle.walk.specs.declared.WalkOutcome.{WalkOutcome}
+use Rattle.walk.specs.declared.WalkAnswer.{WalkAnswer}
+use Rattle.walk.specs.declared.WalkAnswer.the-variants.{Simplified, Spent, Refused}
+use Rattle.rebuild.specs.Memory.{Memory, memory, SoundMemory, nodesOf, lentOf, Keeps}
 use Rattle.walk.specs.Stack.{Stack, stack, framesOf, valuesOf, framesIn, valuesIn, Valid, Whole, Invariant}
-use Rattle.walk.specs.Turns.{Ready, turned, turnOf, Turns, stackOf, memoryOf, Starts, Startable, Ends, WalksRoot}
+use Rattle.walk.specs.Turns.{Turnable, turned, turnOf, Turns, stackOf, memoryOf, Starts, Startable, Ends, WalksRoot}
 use Rattle.walk.proofs.Stacks as S
 
 -- ---- the plain walk, a turn at a time
@@ -84,7 +84,7 @@ module _ (mode : Mode) (m : Memory) (root limit budget : ℕ) where
     some : (k .frames ≡ 0 → ⊥) → 1 ≤ length (framesIn k)
     some h = omega (arith, S.frames-length (k .ids) (k .cursors) (k .frames))
 
-    pub ready : (k .frames ≡ 0 → ⊥) → Ready here limit k
+    pub ready : (k .frames ≡ 0 → ⊥) → Turnable here limit k
     ready h = record { sound = R .kept .whole; some = omega arith; invariant = R .invariant }
 
     module _ (h : k .frames ≡ 0 → ⊥) (lt : steps < budget) (after : Memory) (k′ : Stack) (status′ : Status) (t : Turns mode here limit k after k′ status′) where
@@ -134,14 +134,14 @@ module _ (mode : Mode) (m : Memory) (root limit budget : ℕ) where
     }
 
     -- no turn is left to do
-    pub ends : (budget ≤ steps) ⊎ (k .frames ≡ 0) → (result : ℕ) → result ≡ getD (k .values) 0 0 → (r : Answer) → Ends (k .frames) result root steps r
+    pub ends : (budget ≤ steps) ⊎ (k .frames ≡ 0) → (result : ℕ) → result ≡ getD (k .values) 0 0 → (r : WalkAnswer) → Ends (k .frames) result root steps r
         → WalksRoot mode m root limit budget here (record { answer = r; arena = here .arena })
     ends over result is r e = by (ℕ-discrete (k .frames) 0)
       where
         by : Dec (k .frames ≡ 0) → WalksRoot mode m root limit budget here (record { answer = r; arena = here .arena })
-        by (yes z) = subst (λ (x : Answer). WalksRoot mode m root limit budget here (record { answer = x; arena = here .arena })) (sym (e .finished z ∙ ap (λ (x : ℕ). Simplified x steps) is)) (finishes z)
+        by (yes z) = subst (λ (x : WalkAnswer). WalksRoot mode m root limit budget here (record { answer = x; arena = here .arena })) (sym (e .finished z ∙ ap (λ (x : ℕ). Simplified x steps) is)) (finishes z)
         by (no n) =
-            subst (λ (x : Answer). WalksRoot mode m root limit budget here (record { answer = x; arena = here .arena })) (sym (e .spent n))
+            subst (λ (x : WalkAnswer). WalksRoot mode m root limit budget here (record { answer = x; arena = here .arena })) (sym (e .spent n))
             (spends (⊎-elim (λ b. b) (λ z. absurd (n z)) over) n)
 
 -- ---- the first state

@@ -7,15 +7,15 @@ use Rattle.rebuild.specs.Memory.{Memory, nodesOf}
 use Rattle.walk.specs.declared.state.Walk.{Walk}
 use Rattle.walk.specs.declared.state.Status.the-variants.{Going}
 use Rattle.walk.specs.Stack.{Invariant}
-use Rattle.walk.specs.Turns.{Ready, Startable, Steps, stackOf, memoryOf}
+use Rattle.walk.specs.Turns.{Turnable, Startable, Steps, stackOf, memoryOf}
 use Rattle.walk.proofs.Running.{begins}
 
-pub first : (m : Memory) (root : ℕ) (walk : Walk) → Startable m root walk → Ready m (walk .limit) (stackOf walk)
+pub first : (m : Memory) (root : ℕ) (walk : Walk) → Startable m root walk → Turnable m (walk .limit) (stackOf walk)
 first m root walk s =
     record { sound = s .sound; some = omega (arith, s .starts .one); invariant = begins m root 0 walk s .invariant }
 
 pub again : (words slots : List ℕ) (walk : Walk) (words′ slots′ : List ℕ) (r : Walk) → Steps words slots walk words′ slots′ r
-    → r .progress .status ≡ Going → 1 ≤ r .progress .frames → Ready (memoryOf words′ slots′ r) (r .limit) (stackOf r)
+    → r .progress .status ≡ Going → 1 ≤ r .progress .frames → Turnable (memoryOf words′ slots′ r) (r .limit) (stackOf r)
 again words slots walk words′ slots′ r s going some = record {
   sound = s .turns .kept .whole;
   some = some;

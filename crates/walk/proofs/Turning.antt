@@ -16,19 +16,19 @@ use Rattle.definitions.specs.Walk.{Mode, Frame, frame, Turn, go, stop, turn, de
 use Rattle.arena.specs.declared.DagArena.{DagArena}
 use Rattle.store.specs.View.{Low}
 use Rattle.store.specs.Lookup.{Lookup}
-use Rattle.store.specs.declared.Answer.{Answer}
-use Rattle.store.specs.declared.Answer.the-variants.{Id, Refused}
+use Rattle.store.specs.declared.NodeAnswer.{NodeAnswer}
+use Rattle.store.specs.declared.NodeAnswer.the-variants.{Id, Refused}
 use Rattle.store.proofs.Reading as R
 use Rattle.store.proofs.Viewing.{plain-length}
 use Rattle.store.proofs.Keeping.{kept-refl}
-use Rattle.walk.specs.declared.state.Progress.{Progress}
+use Rattle.walk.specs.declared.state.WalkProgress.{WalkProgress}
 use Rattle.walk.specs.declared.state.Status.{Status}
 use Rattle.walk.specs.declared.state.Status.the-variants.{Going}
-use Rattle.rebuild.specs.Memory.{Memory, memory, Sound, nodesOf, lentOf, Keeps}
+use Rattle.rebuild.specs.Memory.{Memory, memory, SoundMemory, nodesOf, lentOf, Keeps}
 use Rattle.patterns.specs.declared.firing.Fired.{Fired}
 use Rattle.rebuild.specs.Rebuild.{Rebuildable, finished, Finishes}
 use Rattle.walk.specs.Stack.{mostFrames, mostValues, Stack, stack, framesOf, valuesOf, framesIn, valuesIn, topId, topCursor, topFrame, framesUnder, ValuesBelow, held, Valid, Whole, Invariant}
-use Rattle.walk.specs.Turns.{Descendable, Descends, Settleable, settledValues, settledProgress, Settles, Ready, turned, turnOf, Turns}
+use Rattle.walk.specs.Turns.{Descendable, Descends, Settleable, settledValues, settledProgress, Settles, Turnable, turned, turnOf, Turns}
 use Rattle.walk.proofs.Stacks as S
 use Rattle.walk.proofs.Descending.{frames-are}
 
@@ -63,7 +63,7 @@ module _ (mode : Mode) (l : Lent) (limit : ℕ) (ns : List Node) (f : Frame) (fs
 
 -- ---- what a turn knows
 
-module _ (m : Memory) (limit : ℕ) (k : Stack) (r : Ready m limit k) where
+module _ (m : Memory) (limit : ℕ) (k : Stack) (r : Turnable m limit k) where
   abbrev ns : List Node
   ns = nodesOf m
 
@@ -174,11 +174,11 @@ module _ (m : Memory) (limit : ℕ) (k : Stack) (r : Ready m limit k) where
         (S.waiting-up ns ms grown (λ j p. kept .children j (omega (arith, count-is))) fs (valid .2))
         under-length (S.below-up (length ns) (length ms) grown (valuesOf (k .values) from) under-below)
 
-    leaves : turn mode (lentOf m) limit ns (topFrame k) fs vs ≡ go ms fs (i ∷ valuesOf (k .values) from) → (q : Progress)
+    leaves : turn mode (lentOf m) limit ns (topFrame k) fs vs ≡ go ms fs (i ∷ valuesOf (k .values) from) → (q : WalkProgress)
         → q ≡ record { frames = k .frames - 1; filled = k .filled - topCursor k + 1; arena = m′ .arena; status = Going }
         → Turns mode m limit k (memory (m′ .words) (m′ .slots) (q .arena)) (stack (k .ids) (k .cursors) (set (k .values) (k .filled - topCursor k) i) (q .frames) (q .filled)) (q .status)
     leaves t q e =
-        subst (λ (x : Progress). Turns mode m limit k (memory (m′ .words) (m′ .slots) (x .arena)) (stack (k .ids) (k .cursors) (set (k .values) from i) (x .frames) (x .filled)) (x .status)) (sym e)
+        subst (λ (x : WalkProgress). Turns mode m limit k (memory (m′ .words) (m′ .slots) (x .arena)) (stack (k .ids) (k .cursors) (set (k .values) from i) (x .frames) (x .filled)) (x .status)) (sym e)
         (record {
           plainly = ap (go ms fs) values ∙ sym (turn-is mode ∙ t);
           kept = kept;
@@ -195,7 +195,7 @@ module _ (m : Memory) (limit : ℕ) (k : Stack) (r : Ready m limit k) where
 
   -- ---- a frame at the limit
 
-  pub at-limit : (mode : Mode) → limit ≤ k .frames - 1 → (q : Progress)
+  pub at-limit : (mode : Mode) → limit ≤ k .frames - 1 → (q : WalkProgress)
       → q ≡ record { frames = k .frames - 1; filled = k .filled - topCursor k + 1; arena = m .arena; status = Going }
       → Turns mode m limit k (memory (m .words) (m .slots) (q .arena)) (stack (k .ids) (k .cursors) (set (k .values) (k .filled - topCursor k) (topId k)) (q .frames) (q .filled)) (q .status)
   at-limit mode h = leaves mode m unchanged id below (limited mode (lentOf m) limit ns (topFrame k) fs vs h ∙ ap (λ (x : List ℕ). go ns fs (id ∷ x)) under)
@@ -214,7 +214,7 @@ module _ (m : Memory) (limit : ℕ) (k : Stack) (r : Ready m limit k) where
       free = bounds .room;
     }
 
-    pub descended : (mode : Mode) → topCursor k < arity → (p : Progress) → p .arena ≡ m .arena → (k′ : Stack) (q : Progress) → Descends mode (nodesOf m) k p k′ q
+    pub descended : (mode : Mode) → topCursor k < arity → (p : WalkProgress) → p .arena ≡ m .arena → (k′ : Stack) (q : WalkProgress) → Descends mode (nodesOf m) k p k′ q
         → Turns mode m limit k (memory (m .words) (m .slots) (q .arena)) k′ (q .status)
     descended mode c p a k′ q d =
         subst (λ (s : Status). Turns mode m limit k (memory (m .words) (m .slots) (q .arena)) k′ s) (sym (d .status))
@@ -262,7 +262,7 @@ module _ (m : Memory) (limit : ℕ) (k : Stack) (r : Ready m limit k) where
           children-taken ∙ S.lent-values (k .values) from cursor (let b = bounds in omega (arith, from-on))
           ∙ ap (λ (x : ℕ). reverseOnto (take cursor (valuesOf (k .values) x)) []) from-on
 
-      module _ (mode : Mode) (m′ : Memory) (answer : Answer) (fired : Fired)
+      module _ (mode : Mode) (m′ : Memory) (answer : NodeAnswer) (fired : Fired)
           (f : Finishes mode m (topId k) (take (k .filled - (k .filled - topCursor k)) (drop (k .filled - topCursor k) (k .values))) answer fired m′) where
         finishing : turn mode (lentOf m) limit ns (topFrame k) fs vs ≡ finished answer (nodesOf m′) fs (valuesOf (k .values) from)
         finishing =
@@ -271,14 +271,14 @@ module _ (m : Memory) (limit : ℕ) (k : Stack) (r : Ready m limit k) where
             ∙ ap (λ (x : List ℕ). finish mode fs x (rebuildAs mode (lentOf m) ns id children)) under
             ∙ sym (f .plainly fs (valuesOf (k .values) from))
 
-        answered : (x : Answer) → answer ≡ x → turn mode (lentOf m) limit ns (topFrame k) fs vs ≡ finished x (nodesOf m′) fs (valuesOf (k .values) from)
-        answered x e = finishing ∙ ap (λ (y : Answer). finished y (nodesOf m′) fs (valuesOf (k .values) from)) e
+        answered : (x : NodeAnswer) → answer ≡ x → turn mode (lentOf m) limit ns (topFrame k) fs vs ≡ finished x (nodesOf m′) fs (valuesOf (k .values) from)
+        answered x e = finishing ∙ ap (λ (y : NodeAnswer). finished y (nodesOf m′) fs (valuesOf (k .values) from)) e
 
-        low-up : (x : Answer) → Low x (m′ .arena .count) → Low x mostNodes
+        low-up : (x : NodeAnswer) → Low x (m′ .arena .count) → Low x mostNodes
         low-up (Id i) l = omega (arith, f .kept .whole .nodes .formed .many)
         low-up (Refused number) l = tt
 
-        pub settleable : (p : Progress) → p .frames ≡ k .frames → Settleable (k .values) (k .filled - topCursor k) (record { answer = answer; arena = m′ .arena; fired = fired }) p
+        pub settleable : (p : WalkProgress) → p .frames ≡ k .frames → Settleable (k .values) (k .filled - topCursor k) (record { answer = answer; arena = m′ .arena; fired = fired }) p
         settleable p e = record {
           some = omega (arith, r .some, e);
           whole = I .whole .values;
@@ -287,23 +287,23 @@ module _ (m : Memory) (limit : ℕ) (k : Stack) (r : Ready m limit k) where
         }
 
         -- the frame with its result as a value, or stopped
-        settling : (p : Progress) → p .frames ≡ k .frames → (x : Answer) → answer ≡ x
+        settling : (p : WalkProgress) → p .frames ≡ k .frames → (x : NodeAnswer) → answer ≡ x
             → Turns mode m limit k (memory (m′ .words) (m′ .slots) (settledProgress x from (m′ .arena) p .arena))
             (stack (k .ids) (k .cursors) (settledValues x (k .values) from) (settledProgress x from (m′ .arena) p .frames) (settledProgress x from (m′ .arena) p .filled))
             (settledProgress x from (m′ .arena) p .status)
         settling p ef (Id i) e =
             subst (λ (n : ℕ). Turns mode m limit k m′ (stack (k .ids) (k .cursors) (set (k .values) from i) (n - 1) (from + 1)) Going) (sym ef)
-            (leaves mode m′ (f .kept) i (subst (λ (x : Answer). Low x (m′ .arena .count)) e (f .low)) (answered _ e) _ refl)
+            (leaves mode m′ (f .kept) i (subst (λ (x : NodeAnswer). Low x (m′ .arena .count)) e (f .low)) (answered _ e) _ refl)
         settling p ef (Refused number) e = record {
           plainly = sym (turn-is mode ∙ answered _ e);
           kept = f .kept;
           goes = λ z. let zero-one : _≡_ {A = ℕ} 0 1 = cc in absurd (omega arith);
         }
 
-        pub settled : (p : Progress) → p .frames ≡ k .frames → (values′ : List ℕ) (q : Progress)
+        pub settled : (p : WalkProgress) → p .frames ≡ k .frames → (values′ : List ℕ) (q : WalkProgress)
             → Settles (k .values) (k .filled - topCursor k) (record { answer = answer; arena = m′ .arena; fired = fired }) p values′ q
             → Turns mode m limit k (memory (m′ .words) (m′ .slots) (q .arena)) (stack (k .ids) (k .cursors) values′ (q .frames) (q .filled)) (q .status)
         settled p ef values′ q s =
             subst (λ (v : List ℕ). Turns mode m limit k (memory (m′ .words) (m′ .slots) (q .arena)) (stack (k .ids) (k .cursors) v (q .frames) (q .filled)) (q .status)) (sym (s .values-are))
-            (subst (λ (x : Progress). Turns mode m limit k (memory (m′ .words) (m′ .slots) (x .arena)) (stack (k .ids) (k .cursors) (settledValues answer (k .values) from) (x .frames) (x .filled)) (x .status))
+            (subst (λ (x : WalkProgress). Turns mode m limit k (memory (m′ .words) (m′ .slots) (x .arena)) (stack (k .ids) (k .cursors) (settledValues answer (k .values) from) (x .frames) (x .filled)) (x .status))
             (sym (s .progress-is)) (settling p ef answer refl))

@@ -14,17 +14,17 @@ use Rattle.definitions.specs.Machine as M
 use Rattle.arena.specs.declared.DagArena.{DagArena}
 use Rattle.store.specs.View.{nodesIn, Low}
 use Rattle.store.specs.Lookup.{Lookup}
-use Rattle.store.specs.declared.Answer.{Answer}
-use Rattle.store.specs.declared.Answer.the-variants as A
+use Rattle.store.specs.declared.NodeAnswer.{NodeAnswer}
+use Rattle.store.specs.declared.NodeAnswer.the-variants as A
 use Rattle.rebuild.specs.declared.Finished.{Finished}
-use Rattle.walk.specs.declared.state.Progress.{Progress}
+use Rattle.walk.specs.declared.state.WalkProgress.{WalkProgress}
 use Rattle.walk.specs.declared.state.Walk.{Walk}
 use Rattle.walk.specs.declared.state.Status.{Status}
 use Rattle.walk.specs.declared.state.Status.the-variants.{Going, Stopped}
-use Rattle.walk.specs.declared.Answer as Walks
-use Rattle.walk.specs.declared.Answer.the-variants.{Simplified, Spent}
-use Rattle.walk.specs.declared.Outcome.{Outcome}
-use Rattle.rebuild.specs.Memory.{Memory, memory, Sound, nodesOf, lentOf, Keeps}
+use Rattle.walk.specs.declared.WalkAnswer as Walks
+use Rattle.walk.specs.declared.WalkAnswer.the-variants.{Simplified, Spent}
+use Rattle.walk.specs.declared.WalkOutcome.{WalkOutcome}
+use Rattle.rebuild.specs.Memory.{Memory, memory, SoundMemory, nodesOf, lentOf, Keeps}
 use Rattle.walk.specs.Answers.{meaning}
 use Rattle.walk.specs.Stack.{mostFrames, mostValues, Stack, stack, framesIn, valuesIn, topId, topCursor, topFrame, framesUnder, Valid, Whole, Invariant}
 
@@ -41,7 +41,7 @@ pub record Descendable (words : List ℕ) (count : ℕ) (k : Stack) : Type 0 whe
   pub free : k .filled < mostValues
 
 -- "A child that is a leaf or marked is taken unwalked"; another gets a frame
-pub record Descends (mode : Mode) (ns : List Node) (k : Stack) (progress : Progress) (k′ : Stack) (r : Progress) : Type 0 where
+pub record Descends (mode : Mode) (ns : List Node) (k : Stack) (progress : WalkProgress) (k′ : Stack) (r : WalkProgress) : Type 0 where
   pub plainly : go ns (framesIn k′) (valuesIn k′) ≡ W.descend mode ns (topFrame k) (framesUnder k) (valuesIn k)
   pub near : k′ .frames ≤ k .frames + 1
   pub whole : Whole k′
@@ -52,31 +52,31 @@ pub record Descends (mode : Mode) (ns : List Node) (k : Stack) (progress : Progr
 -- ---- a finished frame
 
 -- a frame is left, its result is an id, and there is a place for it
-pub record Settleable (values : List ℕ) (base : ℕ) (finished : Finished) (progress : Progress) : Type 0 where
+pub record Settleable (values : List ℕ) (base : ℕ) (finished : Finished) (progress : WalkProgress) : Type 0 where
   pub some : 1 ≤ progress .frames
   pub whole : length values ≡ mostValues
   pub room : base < mostValues
   pub low : Low (finished .answer) mostNodes
 
-abbrev pub settledValues : Answer → List ℕ → ℕ → List ℕ
+abbrev pub settledValues : NodeAnswer → List ℕ → ℕ → List ℕ
 settledValues (A.Id result) values base = set values base result
 settledValues (A.Refused number) values base = values
 
-abbrev pub settledProgress : Answer → ℕ → DagArena → Progress → Progress
+abbrev pub settledProgress : NodeAnswer → ℕ → DagArena → WalkProgress → WalkProgress
 settledProgress (A.Id result) base arena progress = record { frames = progress .frames - 1; filled = base + 1; arena = arena; status = Going }
 settledProgress (A.Refused number) base arena progress =
     record { frames = progress .frames; filled = progress .filled; arena = arena; status = Stopped number }
 
 -- the result as a value in the frame's place, or the refusal
-pub record Settles (values : List ℕ) (base : ℕ) (finished : Finished) (progress : Progress) (values′ : List ℕ) (r : Progress) : Type 0 where
+pub record Settles (values : List ℕ) (base : ℕ) (finished : Finished) (progress : WalkProgress) (values′ : List ℕ) (r : WalkProgress) : Type 0 where
   pub values-are : values′ ≡ settledValues (finished .answer) values base
   pub progress-is : r ≡ settledProgress (finished .answer) base (finished .arena) progress
 
 -- ---- a turn
 
 -- a walk with a frame left
-pub record Ready (m : Memory) (limit : ℕ) (k : Stack) : Type 0 where
-  pub sound : Sound m
+pub record Turnable (m : Memory) (limit : ℕ) (k : Stack) : Type 0 where
+  pub sound : SoundMemory m
   pub some : 1 ≤ k .frames
   pub invariant : Invariant (nodesOf m) limit k
 
@@ -126,17 +126,17 @@ pub record Steps (words slots : List ℕ) (walk : Walk) (words′ slots′ : Lis
 
 -- a state that a run goes on from
 pub record Startable (m : Memory) (root : ℕ) (walk : Walk) : Type 0 where
-  pub sound : Sound m
+  pub sound : SoundMemory m
   pub below : root < m .arena .count
   pub listed : walk .limit ≤ mostDepth
   pub starts : Starts (walk .mode) root (walk .limit) (m .arena) walk
 
 -- "Exactly if the budget is used up with frames left, the answer is the root, 'spent'"
-pub record Ends (frames result root steps : ℕ) (r : Walks.Answer) : Type 0 where
+pub record Ends (frames result root steps : ℕ) (r : Walks.WalkAnswer) : Type 0 where
   pub finished : frames ≡ 0 → r ≡ Simplified result steps
   pub spent : (frames ≡ 0 → ⊥) → r ≡ Spent root steps
 
 -- the whole walk of a root, with the budget
-pub record WalksRoot (mode : Mode) (m : Memory) (root limit budget : ℕ) (m′ : Memory) (r : Outcome) : Type 0 where
+pub record WalksRoot (mode : Mode) (m : Memory) (root limit budget : ℕ) (m′ : Memory) (r : WalkOutcome) : Type 0 where
   pub plainly : M.outcome (meaning (r .answer)) (nodesOf m′) ≡ M.walkedAs root (walkRoot mode (lentOf m) limit budget (nodesOf m) root)
   pub kept : Keeps m m′

@@ -4,7 +4,7 @@ ghost use mathlib.Core.Path.{_≡_};
 ghost use Rattle.definitions.specs.Machine as M;
 ghost use Rattle.definitions.specs.Modes.{modeOf};
 ghost use Rattle.store.specs.Memory.{memory, Leaves};
-ghost use Rattle.rebuild.specs.Memory.{Sound};
+ghost use Rattle.rebuild.specs.Memory.{SoundMemory};
 ghost use Rattle.walk.specs.Answers.{meaning};
 
 mod run;
@@ -19,7 +19,7 @@ use definitions::refusals::NOT_SOUND;
 use state::MOST_DEPTH;
 use state::Walk;
 
-pub enum Answer {
+pub enum WalkAnswer {
     // What the root was simplified to.
     Simplified { id: u64, steps: u64 },
     // The root, with the budget used up and frames left.
@@ -29,16 +29,16 @@ pub enum Answer {
 }
 
 // An answer, and the store's count and size after it.
-pub struct Outcome {
-    pub answer: Answer,
+pub struct WalkOutcome {
+    pub answer: WalkAnswer,
     pub arena: DagArena,
 }
 
-fn refuse(number: u64, arena: DagArena) -> Outcome
-    ensures { λ r. ⌜ r ≡ record { answer = Answer.Refused number; arena = arena } ⌝ }
+fn refuse(number: u64, arena: DagArena) -> WalkOutcome
+    ensures { λ r. ⌜ r ≡ record { answer = WalkAnswer.Refused number; arena = arena } ⌝ }
 {
-    Outcome {
-        answer: Answer::Refused(number),
+    WalkOutcome {
+        answer: WalkAnswer::Refused(number),
         arena,
     }
 }
@@ -52,8 +52,8 @@ pub fn simplify_sound(
     root: u32,
     depth: u32,
     budget: u64,
-) -> Outcome
-    requires { ⌜ Sound (memory (now nodes) (now slots) arena) ⌝ }
+) -> WalkOutcome
+    requires { ⌜ SoundMemory (memory (now nodes) (now slots) arena) ⌝ }
     ensures { λ r. ⌜ Leaves (M.simplify (modeOf mode) root depth budget) (memory (now (nodes .entry)) (now (slots .entry)) arena)
         (meaning (r .answer)) (memory (now (nodes .exit)) (now (slots .exit)) (r .arena)) ⌝ }
 {
@@ -77,7 +77,7 @@ pub fn simplify(
     root: u32,
     depth: u32,
     budget: u64,
-) -> Outcome
+) -> WalkOutcome
     ensures { λ r. ⌜ Leaves (M.simplify (modeOf mode) root depth budget) (memory (now (nodes .entry)) (now (slots .entry)) arena)
         (meaning (r .answer)) (memory (now (nodes .exit)) (now (slots .exit)) (r .arena)) ⌝ }
 {

@@ -3,21 +3,21 @@ ghost use mathlib.Core.Path.{_≡_};
 ghost use Rattle.definitions.specs.Modes.{modeOf};
 ghost use Rattle.rebuild.specs.Memory.{memory};
 ghost use Rattle.walk.specs.Turns.{Startable, Ends, WalksRoot, memoryOf};
-use crate::Answer;
-use crate::Outcome;
+use crate::WalkAnswer;
+use crate::WalkOutcome;
 use crate::state::Status;
 use crate::state::Walk;
 use crate::turn;
 
 // The answer once no turn is left to do. 01: "Exactly if the budget is used up with frames left, the answer is the root,
 // 'spent'".
-fn ending(frames: usize, result: u64, root: u64, steps: u64) -> Answer
+fn ending(frames: usize, result: u64, root: u64, steps: u64) -> WalkAnswer
     ensures { λ r. ⌜ Ends frames result root steps r ⌝ }
 {
     if frames == 0 {
-        return Answer::Simplified { id: result, steps };
+        return WalkAnswer::Simplified { id: result, steps };
     }
-    Answer::Spent { id: root, steps }
+    WalkAnswer::Spent { id: root, steps }
 }
 
 fn wide(value: u32) -> u64
@@ -33,7 +33,7 @@ pub(crate) fn run(
     walk: Walk,
     root: u64,
     budget: u64,
-) -> Outcome
+) -> WalkOutcome
     requires { ⌜ Startable (memoryOf (now nodes) (now slots) walk) root walk ⌝ }
     ensures { λ r. ⌜ WalksRoot (modeOf (walk .mode)) (memoryOf (now (nodes .entry)) (now (slots .entry)) walk) root (walk .limit) budget
         (memory (now (nodes .exit)) (now (slots .exit)) (r .arena)) r ⌝ }
@@ -62,8 +62,8 @@ pub(crate) fn run(
         let status = progress.status;
         if let Status::Stopped(number) = status {
             let arena = progress.arena;
-            return Outcome {
-                answer: Answer::Refused(number),
+            return WalkOutcome {
+                answer: WalkAnswer::Refused(number),
                 arena,
             };
         }
@@ -71,5 +71,5 @@ pub(crate) fn run(
     }
     let arena = progress.arena;
     let answer = ending(progress.frames, wide(values[0]), root, steps);
-    Outcome { answer, arena }
+    WalkOutcome { answer, arena }
 }

@@ -1,5 +1,5 @@
 // The state of a walk.
-ghost use Rattle.walk.specs.Turns.{Ready, Starts, Steps, memoryOf, stackOf};
+ghost use Rattle.walk.specs.Turns.{Turnable, Starts, Steps, memoryOf, stackOf};
 use crate::turn;
 use arena::DagArena;
 use arena::MOST_CHILDREN;
@@ -21,7 +21,7 @@ pub enum Status {
 }
 
 // How many frames and values are in use, and the store's count and size.
-pub struct Progress {
+pub struct WalkProgress {
     pub frames: usize,
     pub filled: usize,
     pub arena: DagArena,
@@ -36,7 +36,7 @@ pub struct Walk {
     pub values: [u32; MOST_VALUES],
     pub mode: Mode,
     pub limit: usize,
-    pub progress: Progress,
+    pub progress: WalkProgress,
 }
 
 impl Walk {
@@ -52,7 +52,7 @@ impl Walk {
             values: [0u32; MOST_VALUES],
             mode,
             limit,
-            progress: Progress {
+            progress: WalkProgress {
                 frames: 1,
                 filled: 0,
                 arena,
@@ -63,7 +63,7 @@ impl Walk {
 
     // 01: "A walk goes on by taking its state and giving it back."
     pub fn step(mut self, nodes: &mut [u64], slots: &mut [u32]) -> Walk
-        requires { ⌜ Ready (memoryOf (now nodes) (now slots) self) (self .limit) (stackOf self) ⌝ }
+        requires { ⌜ Turnable (memoryOf (now nodes) (now slots) self) (self .limit) (stackOf self) ⌝ }
         ensures { λ r. ⌜ Steps (now (nodes .entry)) (now (slots .entry)) self (now (nodes .exit)) (now (slots .exit)) r ⌝ }
     {
         let mut ids = self.ids;

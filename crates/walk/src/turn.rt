@@ -7,15 +7,15 @@ ghost use Rattle.store.specs.View.{nodesIn};
 ghost use Rattle.store.specs.Lookup.{Lookup};
 ghost use Rattle.rebuild.specs.Memory.{memory};
 ghost use Rattle.walk.specs.Stack.{stack};
-ghost use Rattle.walk.specs.Turns.{Descendable, Descends, Settleable, Settles, Ready, Turns};
+ghost use Rattle.walk.specs.Turns.{Descendable, Descends, Settleable, Settles, Turnable, Turns};
 use crate::state::MOST_FRAMES;
 use crate::state::MOST_VALUES;
-use crate::state::Progress;
 use crate::state::Status;
+use crate::state::WalkProgress;
 use arena::DagArena;
 use definitions::mode::Mode;
 use rebuild::Finished;
-use store::Answer;
+use store::NodeAnswer;
 
 // 01: "A child that is a leaf or marked is taken unwalked"; a leaf has no children, and a strict walk heeds no marks (02 i).
 fn is_taken_unwalked(nodes: &[u64], count: u64, mode: Mode, id: u64) -> bool
@@ -32,10 +32,10 @@ fn is_taken_unwalked(nodes: &[u64], count: u64, mode: Mode, id: u64) -> bool
 }
 
 // A walk that goes on with so many frames and values.
-fn going(frames: usize, filled: usize, arena: DagArena) -> Progress
+fn going(frames: usize, filled: usize, arena: DagArena) -> WalkProgress
     ensures { λ r. ⌜ r ≡ record { frames = frames; filled = filled; arena = arena; status = Status.Going } ⌝ }
 {
-    Progress {
+    WalkProgress {
         frames,
         filled,
         arena,
@@ -50,8 +50,8 @@ fn descend(
     cursors: &mut [usize; MOST_FRAMES],
     values: &mut [u32; MOST_VALUES],
     mode: Mode,
-    progress: Progress,
-) -> Progress
+    progress: WalkProgress,
+) -> WalkProgress
     requires { ⌜ Descendable (now nodes) (progress .arena .count)
         (stack (now ids) (now cursors) (now values) (progress .frames) (progress .filled)) ⌝ }
     ensures { λ r. ⌜ Descends (modeOf mode) (nodesIn (now (nodes .entry)) (progress .arena .count))
@@ -80,19 +80,19 @@ fn settle(
     values: &mut [u32; MOST_VALUES],
     base: usize,
     finished: Finished,
-    progress: Progress,
-) -> Progress
+    progress: WalkProgress,
+) -> WalkProgress
     requires { ⌜ Settleable (now values) base finished progress ⌝ }
     ensures { λ r. ⌜ Settles (now (values .entry)) base finished progress (now (values .exit)) r ⌝ }
 {
     let arena = finished.arena;
     let answer = finished.answer;
     match answer {
-        Answer::Id(result) => {
+        NodeAnswer::Id(result) => {
             values[base] = result as u32;
             going(progress.frames - 1, base + 1, arena)
         }
-        Answer::Refused(number) => Progress {
+        NodeAnswer::Refused(number) => WalkProgress {
             frames: progress.frames,
             filled: progress.filled,
             arena,
@@ -110,9 +110,9 @@ pub(crate) fn turn(
     values: &mut [u32; MOST_VALUES],
     mode: Mode,
     limit: usize,
-    progress: Progress,
-) -> Progress
-    requires { ⌜ Ready (memory (now nodes) (now slots) (progress .arena)) limit
+    progress: WalkProgress,
+) -> WalkProgress
+    requires { ⌜ Turnable (memory (now nodes) (now slots) (progress .arena)) limit
         (stack (now ids) (now cursors) (now values) (progress .frames) (progress .filled)) ⌝ }
     ensures { λ r. ⌜ Turns (modeOf mode) (memory (now (nodes .entry)) (now (slots .entry)) (progress .arena)) limit
         (stack (now (ids .entry)) (now (cursors .entry)) (now (values .entry)) (progress .frames) (progress .filled))

@@ -17,13 +17,13 @@ use Rattle.definitions.proofs.Intern.{Sound}
 use Rattle.store.specs.Memory.{model}
 use Rattle.names.specs.Memory.{nameModel}
 use Rattle.text.specs.Memory.{ControllerMemory, controllerOf, BothSound}
-use Rattle.writer.specs.declared.Answer.the-variants as write
+use Rattle.writer.specs.declared.WriteAnswer.the-variants as write
 use Rattle.writer.proofs.ReadTexts.{whole, read-to}
 use Rattle.write_back.specs.declared.Pruning.{Pruning}
-use Rattle.write_back.specs.declared.Outcome.{Outcome}
-use Rattle.write_back.specs.declared.Outcome.the-variants.{Written}
+use Rattle.write_back.specs.declared.FormulaOutcome.{FormulaOutcome}
+use Rattle.write_back.specs.declared.FormulaOutcome.the-variants.{Written}
 use Rattle.write_back.specs.Ids.{idOf}
-use Rattle.write_back.specs.Answers.{depthLimit, mayBeDeeper, Calls, Finishes, unpruned, finished, Simplifies, unsimplified, walked, Answers, unread, read}
+use Rattle.write_back.specs.Answers.{depthLimit, mayBeDeeper, Calls, FinishesFormula, unpruned, finished, Simplifies, unsimplified, walked, Answers, unread, read}
 use Rattle.write_back.specs.Depth.{levels, levelsOver, ShallowText, Shallow}
 use Rattle.write_back.proofs.Stages.{id-same}
 
@@ -59,18 +59,18 @@ shallow-read typed m after id h c e =
 
 -- ---- from the cases of `Answers`
 
-finished-so : {pruning : Pruning} {m m′ : ControllerMemory} {i steps′ : ℕ} {spent′ deep : Bool} {buffer buffer′ : List ℕ} {o : Outcome} (size steps kept dropped : ℕ) (spent : Bool)
-    → Finishes pruning steps′ spent′ deep m i buffer o m′ buffer′ → o ≡ Written size steps spent false kept dropped → deep ≡ false
+finished-so : {pruning : Pruning} {m m′ : ControllerMemory} {i steps′ : ℕ} {spent′ deep : Bool} {buffer buffer′ : List ℕ} {o : FormulaOutcome} (size steps kept dropped : ℕ) (spent : Bool)
+    → FinishesFormula pruning steps′ spent′ deep m i buffer o m′ buffer′ → o ≡ Written size steps spent false kept dropped → deep ≡ false
 finished-so size steps kept dropped spent (unpruned p) e = let z : _≡_ {A = ℕ} 0 1 = cc in absurd (omega arith)
 finished-so size steps kept dropped spent (finished {a = write.Refused number} p w) e = let z : _≡_ {A = ℕ} 0 1 = cc in absurd (omega arith)
 finished-so size steps kept dropped spent (finished {a = write.Length n} p w) e = cc
 
-simplified-so : {pruning : Pruning} {m m′ : ControllerMemory} {id : ℕ} {buffer buffer′ : List ℕ} {o : Outcome} (size steps kept dropped : ℕ) (spent : Bool)
+simplified-so : {pruning : Pruning} {m m′ : ControllerMemory} {id : ℕ} {buffer buffer′ : List ℕ} {o : FormulaOutcome} (size steps kept dropped : ℕ) (spent : Bool)
     → Simplifies pruning m id buffer o m′ buffer′ → o ≡ Written size steps spent false kept dropped → mayBeDeeper id ≡ false
 simplified-so size steps kept dropped spent (unsimplified c) e = let z : _≡_ {A = ℕ} 0 1 = cc in absurd (omega arith)
 simplified-so size steps kept dropped spent (walked c f) e = finished-so size steps kept dropped spent f e
 
-answered-so : {typed : List ℕ} {pruning : Pruning} {m m′ : ControllerMemory} {buffer buffer′ : List ℕ} {o : Outcome} (size steps kept dropped : ℕ) (spent : Bool) → BothSound m
+answered-so : {typed : List ℕ} {pruning : Pruning} {m m′ : ControllerMemory} {buffer buffer′ : List ℕ} {o : FormulaOutcome} (size steps kept dropped : ℕ) (spent : Bool) → BothSound m
     → Answers typed pruning m buffer o m′ buffer′ → o ≡ Written size steps spent false kept dropped → ShallowText typed m
 answered-so size steps kept dropped spent h (unread c) e = let z : _≡_ {A = ℕ} 0 1 = cc in absurd (omega arith)
 answered-so {typed} {m = m} size steps kept dropped spent h (read {id = id} {m′ = after} c f) e =

@@ -24,7 +24,7 @@ use Rattle.definitions.proofs.Lifting.{lift-store}
 use Rattle.store.specs.Memory.{Memory, model, Leaves}
 use Rattle.names.specs.Memory.{nameModel}
 use Rattle.text.specs.Memory.{ControllerMemory, lentController, controllerOf, lentOf}
-use Rattle.pruner.specs.declared.Answer.the-variants as prune
+use Rattle.pruner.specs.declared.PruneAnswer.the-variants as prune
 use Rattle.writer.specs.Writing.{WrittenText}
 use Rattle.write_back.specs.declared.Pruning.the-variants.{BySetting}
 use Rattle.write_back.specs.Ids.{idOf}

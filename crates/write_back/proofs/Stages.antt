@@ -25,15 +25,15 @@ use Rattle.store.specs.Memory.{Memory, model}
 use Rattle.store.proofs.Viewing.{plain-length}
 use Rattle.names.specs.Memory.{nameModel}
 use Rattle.text.specs.Memory.{ControllerMemory, lentController, controllerOf, lentOf}
-use Rattle.pruner.specs.declared.Answer.the-variants as prune
-use Rattle.writer.specs.declared.Answer as Write
-use Rattle.writer.specs.declared.Answer.the-variants as write
+use Rattle.pruner.specs.declared.PruneAnswer.the-variants as prune
+use Rattle.writer.specs.declared.WriteAnswer as Write
+use Rattle.writer.specs.declared.WriteAnswer.the-variants as write
 use Rattle.writer.specs.Writing.{WrittenText, Writes, unsound, unknown, textless, tooLong, written}
 use Rattle.write_back.specs.declared.Pruning.{Pruning}
-use Rattle.write_back.specs.declared.Outcome.{Outcome}
-use Rattle.write_back.specs.declared.Outcome.the-variants.{Written}
+use Rattle.write_back.specs.declared.FormulaOutcome.{FormulaOutcome}
+use Rattle.write_back.specs.declared.FormulaOutcome.the-variants.{Written}
 use Rattle.write_back.specs.Ids.{idOf}
-use Rattle.write_back.specs.Answers.{depthLimit, ampleBudget, mayBeDeeper, Calls, Pruned, Finishes, unpruned, finished, Simplifies, unsimplified, walked, Answers, unread, read}
+use Rattle.write_back.specs.Answers.{depthLimit, ampleBudget, mayBeDeeper, Calls, Pruned, FinishesFormula, unpruned, finished, Simplifies, unsimplified, walked, Answers, unread, read}
 
 -- ---- ids
 
@@ -61,7 +61,7 @@ empty-whole = record { nodes = λ i h. absurd (omega arith); names = none-listed
 
 -- ---- the text that stands in the buffer
 
-text-in : {m : ControllerMemory} {id : ℕ} {buffer buffer′ : List ℕ} {r : Write.Answer} (size : ℕ) → Writes m id buffer r buffer′ → r ≡ write.Length size → WrittenText (controllerOf m) id (take size buffer′)
+text-in : {m : ControllerMemory} {id : ℕ} {buffer buffer′ : List ℕ} {r : Write.WriteAnswer} (size : ℕ) → Writes m id buffer r buffer′ → r ≡ write.Length size → WrittenText (controllerOf m) id (take size buffer′)
 text-in size (unsound n) e = let z : _≡_ {A = ℕ} 0 1 = cc in absurd (omega arith)
 text-in size (unknown h l) e = let z : _≡_ {A = ℕ} 0 1 = cc in absurd (omega arith)
 text-in size (textless h l n) e = let z : _≡_ {A = ℕ} 0 1 = cc in absurd (omega arith)
@@ -89,9 +89,9 @@ pub record Stages (typed : List ℕ) (pruning : Pruning) (m : ControllerMemory) 
   pub writes : WrittenText (controllerOf (beside model nameModel s (m2 .names))) (idOf j) text
 
 module _ (typed : List ℕ) (pruning : Pruning) (m : ControllerMemory) (buffer : List ℕ) (size steps kept dropped : ℕ) (spent deep : Bool) where
-  finishes : {m1 m2 m′ : ControllerMemory} {buffer′ : List ℕ} {o : Outcome} (id i steps′ : ℕ) (spent′ deep′ : Bool)
+  finishes : {m1 m2 m′ : ControllerMemory} {buffer′ : List ℕ} {o : FormulaOutcome} (id i steps′ : ℕ) (spent′ deep′ : Bool)
       → Calls (reading typed) m (stored id) m1 → Calls (simplifying standard (idOf id) depthLimit ampleBudget) m1 (simplified i spent′ steps′) m2
-      → Finishes pruning steps′ spent′ deep′ m2 i buffer o m′ buffer′ → o ≡ Written size steps spent deep kept dropped → Stages typed pruning m (take size buffer′) dropped
+      → FinishesFormula pruning steps′ spent′ deep′ m2 i buffer o m′ buffer′ → o ≡ Written size steps spent deep kept dropped → Stages typed pruning m (take size buffer′) dropped
   finishes id i steps′ spent′ deep′ c1 c2 (unpruned p) e = let z : _≡_ {A = ℕ} 0 1 = cc in absurd (omega arith)
   finishes id i steps′ spent′ deep′ c1 c2 (finished {a = write.Refused number} p w) e = let z : _≡_ {A = ℕ} 0 1 = cc in absurd (omega arith)
   finishes {m1} {m2} {buffer′ = buffer′} id i steps′ spent′ deep′ c1 c2 (finished {i = j} {kept = kept′} {dropped = dropped′} {s = s} {a = write.Length n} p w) e =
@@ -114,12 +114,12 @@ module _ (typed : List ℕ) (pruning : Pruning) (m : ControllerMemory) (buffer :
         writes = text-in size w (ap write.Length same);
       })
 
-  simplified-so : {m1 m′ : ControllerMemory} {buffer′ : List ℕ} {o : Outcome} (id : ℕ) → Calls (reading typed) m (stored id) m1
+  simplified-so : {m1 m′ : ControllerMemory} {buffer′ : List ℕ} {o : FormulaOutcome} (id : ℕ) → Calls (reading typed) m (stored id) m1
       → Simplifies pruning m1 id buffer o m′ buffer′ → o ≡ Written size steps spent deep kept dropped → Stages typed pruning m (take size buffer′) dropped
   simplified-so id c1 (unsimplified c) e = let z : _≡_ {A = ℕ} 0 1 = cc in absurd (omega arith)
   simplified-so id c1 (walked {i = i} {steps = steps′} {spent = spent′} c2 f) e = finishes id i steps′ spent′ (mayBeDeeper id) c1 c2 f e
 
-  answered-so : {m′ : ControllerMemory} {buffer′ : List ℕ} {o : Outcome} → Answers typed pruning m buffer o m′ buffer′
+  answered-so : {m′ : ControllerMemory} {buffer′ : List ℕ} {o : FormulaOutcome} → Answers typed pruning m buffer o m′ buffer′
       → o ≡ Written size steps spent deep kept dropped → Stages typed pruning m (take size buffer′) dropped
   answered-so (unread c) e = let z : _≡_ {A = ℕ} 0 1 = cc in absurd (omega arith)
   answered-so (read {id = id} c1 f) e = simplified-so id c1 f e

@@ -18,7 +18,7 @@ use Rattle.definitions.specs.Beside.{beside}
 use Rattle.store.specs.Memory.{Memory, model, Leaves}
 use Rattle.names.specs.Memory.{nameModel}
 use Rattle.text.specs.Memory.{ControllerMemory, lentController, controllerOf}
-use Rattle.pruner.specs.declared.Answer.the-variants as prune
+use Rattle.pruner.specs.declared.PruneAnswer.the-variants as prune
 use Rattle.writer.specs.Writing.{WrittenText}
 use Rattle.write_back.specs.declared.Pruning.{Pruning}
 use Rattle.write_back.specs.declared.Pruning.the-variants.{BySetting}

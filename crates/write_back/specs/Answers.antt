@@ -12,16 +12,16 @@ use Rattle.definitions.specs.Beside.{beside, controllerModel}
 use Rattle.store.specs.Memory.{Memory, model, Leaves}
 use Rattle.names.specs.Memory.{nameModel}
 use Rattle.text.specs.Memory.{ControllerMemory, lentController}
-use Rattle.pruner.specs.declared.Answer as Prune
-use Rattle.pruner.specs.declared.Answer.the-variants as prune
+use Rattle.pruner.specs.declared.PruneAnswer as Prune
+use Rattle.pruner.specs.declared.PruneAnswer.the-variants as prune
 use Rattle.pruner.specs.Answers.{meaning}
-use Rattle.writer.specs.declared.Answer as Write
-use Rattle.writer.specs.declared.Answer.the-variants as write
+use Rattle.writer.specs.declared.WriteAnswer as Write
+use Rattle.writer.specs.declared.WriteAnswer.the-variants as write
 use Rattle.writer.specs.Writing.{Writes}
 use Rattle.write_back.specs.declared.Pruning.{Pruning}
 use Rattle.write_back.specs.declared.Pruning.the-variants.{Skipped, BySetting}
-use Rattle.write_back.specs.declared.Outcome.{Outcome}
-use Rattle.write_back.specs.declared.Outcome.the-variants.{Written, Refused}
+use Rattle.write_back.specs.declared.FormulaOutcome.{FormulaOutcome}
+use Rattle.write_back.specs.declared.FormulaOutcome.the-variants.{Written, Refused}
 use Rattle.write_back.specs.Ids.{idOf}
 
 -- the depth limit and the budget of the walk
@@ -36,25 +36,25 @@ abbrev pub Calls : ControllerCall → ControllerMemory → ControllerAnswer → 
 Calls c m a m′ = ControllerCalled lentController c m a m′
 
 -- without a setting nothing is pruned
-pub data Pruned (pruning : Pruning) (m : Memory) (id : ℕ) : Prune.Answer → Memory → Type 0 where
+pub data Pruned (pruning : Pruning) (m : Memory) (id : ℕ) : Prune.PruneAnswer → Memory → Type 0 where
   off : pruning ≡ Skipped → Pruned pruning m id (prune.Pruned id 1 0) m
-  by : {setting : ℕ} {a : Prune.Answer} {m′ : Memory} → pruning ≡ BySetting setting
+  by : {setting : ℕ} {a : Prune.PruneAnswer} {m′ : Memory} → pruning ≡ BySetting setting
       → Leaves (M.pruneBySetting (idOf id) setting) m (meaning a) m′ → Pruned pruning m id a m′
 
 -- the length of the text, the walk's steps, whether its budget was used up, whether the formula may be deeper than it went, the two counts
-abbrev pub outcomeOf : Write.Answer → ℕ → Bool → Bool → ℕ → ℕ → Outcome
+abbrev pub outcomeOf : Write.WriteAnswer → ℕ → Bool → Bool → ℕ → ℕ → FormulaOutcome
 outcomeOf (write.Length length) steps spent deep kept dropped = Written length steps spent deep kept dropped
 outcomeOf (write.Refused number) steps spent deep kept dropped = Refused number
 
 -- the prune and the write: what the prune answered is written, and the lists are those that it left
-pub data Finishes (pruning : Pruning) (steps : ℕ) (spent deep : Bool) (m : ControllerMemory) (id : ℕ) (buffer : List ℕ)
-    : Outcome → ControllerMemory → List ℕ → Type 0 where
+pub data FinishesFormula (pruning : Pruning) (steps : ℕ) (spent deep : Bool) (m : ControllerMemory) (id : ℕ) (buffer : List ℕ)
+    : FormulaOutcome → ControllerMemory → List ℕ → Type 0 where
   unpruned : {number : ℕ} {s : Memory} → Pruned pruning (m .store) id (prune.Refused number) s
-      → Finishes pruning steps spent deep m id buffer (Refused number) (beside model nameModel s (m .names)) buffer
-  finished : {i kept dropped : ℕ} {s : Memory} {a : Write.Answer} {buffer′ : List ℕ}
+      → FinishesFormula pruning steps spent deep m id buffer (Refused number) (beside model nameModel s (m .names)) buffer
+  finished : {i kept dropped : ℕ} {s : Memory} {a : Write.WriteAnswer} {buffer′ : List ℕ}
       → Pruned pruning (m .store) id (prune.Pruned i kept dropped) s
       → Writes (beside model nameModel s (m .names)) (idOf i) buffer a buffer′
-      → Finishes pruning steps spent deep m id buffer (outcomeOf a steps spent deep kept dropped)
+      → FinishesFormula pruning steps spent deep m id buffer (outcomeOf a steps spent deep kept dropped)
       (beside model nameModel s (m .names)) buffer′
 
 -- an id over the walk's depth limit may have a formula that goes deeper than the walk; no other has one (`Shallow` of Depth.antt)
@@ -63,17 +63,17 @@ mayBeDeeper id = ltb depthLimit (idOf id)
 
 -- the walk, and then these
 pub data Simplifies (pruning : Pruning) (m : ControllerMemory) (id : ℕ) (buffer : List ℕ)
-    : Outcome → ControllerMemory → List ℕ → Type 0 where
+    : FormulaOutcome → ControllerMemory → List ℕ → Type 0 where
   unsimplified : {number : ℕ} {m′ : ControllerMemory} → Calls (simplifying standard (idOf id) depthLimit ampleBudget) m (refused number) m′
       → Simplifies pruning m id buffer (Refused number) m′ buffer
-  walked : {i steps : ℕ} {spent : Bool} {m′ m″ : ControllerMemory} {o : Outcome} {buffer′ : List ℕ}
+  walked : {i steps : ℕ} {spent : Bool} {m′ m″ : ControllerMemory} {o : FormulaOutcome} {buffer′ : List ℕ}
       → Calls (simplifying standard (idOf id) depthLimit ampleBudget) m (simplified i spent steps) m′
-      → Finishes pruning steps spent (mayBeDeeper id) m′ i buffer o m″ buffer′ → Simplifies pruning m id buffer o m″ buffer′
+      → FinishesFormula pruning steps spent (mayBeDeeper id) m′ i buffer o m″ buffer′ → Simplifies pruning m id buffer o m″ buffer′
 
 -- the reading, and then these: a refusal leaves the buffer as it was, and the lists as the refused call left them
 pub data Answers (typed : List ℕ) (pruning : Pruning) (m : ControllerMemory) (buffer : List ℕ)
-    : Outcome → ControllerMemory → List ℕ → Type 0 where
+    : FormulaOutcome → ControllerMemory → List ℕ → Type 0 where
   unread : {number : ℕ} {m′ : ControllerMemory} → Calls (reading typed) m (refused number) m′
       → Answers typed pruning m buffer (Refused number) m′ buffer
-  read : {id : ℕ} {m′ m″ : ControllerMemory} {o : Outcome} {buffer′ : List ℕ} → Calls (reading typed) m (stored id) m′
+  read : {id : ℕ} {m′ m″ : ControllerMemory} {o : FormulaOutcome} {buffer′ : List ℕ} → Calls (reading typed) m (stored id) m′
       → Simplifies pruning m′ id buffer o m″ buffer′ → Answers typed pruning m buffer o m″ buffer′

@@ -6,7 +6,7 @@ use Rattle.definitions.specs.Formula.{Tree, tree, Forest, nil, cons, formula}
 use Rattle.definitions.specs.Controller.{reading, stored}
 use Rattle.text.specs.Memory.{ControllerMemory, controllerOf, BothSound}
 use Rattle.write_back.specs.declared.Pruning.{Pruning}
-use Rattle.write_back.specs.declared.Outcome.the-variants.{Written}
+use Rattle.write_back.specs.declared.FormulaOutcome.the-variants.{Written}
 use Rattle.write_back.specs.Answers.{depthLimit, Calls, Answers}
 
 -- the levels of nodes that have children

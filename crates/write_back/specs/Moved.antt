@@ -25,7 +25,7 @@ use Rattle.text.specs.Memory.{ControllerMemory, lentController}
 use Rattle.writer.specs.Writing.{WrittenText}
 use Rattle.write_back.specs.declared.Pruning.{Pruning}
 use Rattle.write_back.specs.declared.Pruning.the-variants.{Skipped, BySetting}
-use Rattle.write_back.specs.declared.Outcome.the-variants.{Written}
+use Rattle.write_back.specs.declared.FormulaOutcome.the-variants.{Written}
 use Rattle.write_back.specs.Answers.{Answers}
 
 -- no setting, or one from 0 to 19

@@ -4,10 +4,10 @@ ghost use mathlib.Core.Path.{_≡_};
 ghost use Rattle.store.specs.Memory.{memory};
 ghost use Rattle.text.specs.Memory.{controllerMemory};
 ghost use Rattle.write_back.specs.Ids.{idOf};
-ghost use Rattle.write_back.specs.Answers.{Pruned, Finishes, Simplifies, Answers};
+ghost use Rattle.write_back.specs.Answers.{Pruned, FinishesFormula, Simplifies, Answers};
 use arena::DagArena;
 use definitions::mode::Mode;
-use writer::Answer;
+use writer::WriteAnswer;
 
 // 01's greatest depth limit, and a budget; a walk that uses it up says so. A second walk would seldom go deeper: what the first finished is
 // marked.
@@ -23,7 +23,7 @@ pub enum Pruning {
 
 // The length of the text that was written, the walk's steps, whether its budget was used up, whether the formula may be deeper than it
 // went, and the terms kept and dropped; or a refusal.
-pub enum Outcome {
+pub enum FormulaOutcome {
     Written {
         length: usize,
         steps: u64,
@@ -37,7 +37,7 @@ pub enum Outcome {
 
 // An outcome, with the counts of the store and of the names after it.
 pub struct Answered {
-    pub outcome: Outcome,
+    pub outcome: FormulaOutcome,
     pub arena: DagArena,
     pub names: usize,
 }
@@ -56,13 +56,13 @@ fn prune(
     arena: DagArena,
     id: u64,
     pruning: Pruning,
-) -> pruner::Outcome
+) -> pruner::PruneOutcome
     ensures { λ r. ⌜ Pruned pruning (memory (now (nodes .entry)) (now (slots .entry)) arena) id (r .answer)
         (memory (now (nodes .exit)) (now (slots .exit)) (r .arena)) ⌝ }
 {
     match pruning {
-        Pruning::Skipped => pruner::Outcome {
-            answer: pruner::Answer::Pruned {
+        Pruning::Skipped => pruner::PruneOutcome {
+            answer: pruner::PruneAnswer::Pruned {
                 id,
                 kept: 1,
                 dropped: 0,
@@ -89,7 +89,7 @@ fn finish(
     deep: bool,
     text: &mut [u8],
 ) -> Answered
-    ensures { λ r. ⌜ Finishes pruning steps spent deep
+    ensures { λ r. ⌜ FinishesFormula pruning steps spent deep
         (controllerMemory (now (nodes .entry)) (now (slots .entry)) arena (now (entries .entry)) names) id (now (text .entry)) (r .outcome)
         (controllerMemory (now (nodes .exit)) (now (slots .exit)) (r .arena) (now (entries .entry)) (r .names)) (now (text .exit)) ⌝ }
 {
@@ -97,11 +97,11 @@ fn finish(
     let after = pruned.arena;
     let answer = pruned.answer;
     match answer {
-        pruner::Answer::Pruned { id, kept, dropped } => {
+        pruner::PruneAnswer::Pruned { id, kept, dropped } => {
             let written = writer::write(nodes, slots, after, entries, names, id_of(id), text);
             match written {
-                Answer::Length(length) => Answered {
-                    outcome: Outcome::Written {
+                WriteAnswer::Length(length) => Answered {
+                    outcome: FormulaOutcome::Written {
                         length,
                         steps,
                         spent,
@@ -112,15 +112,15 @@ fn finish(
                     arena: after,
                     names,
                 },
-                Answer::Refused(number) => Answered {
-                    outcome: Outcome::Refused(number),
+                WriteAnswer::Refused(number) => Answered {
+                    outcome: FormulaOutcome::Refused(number),
                     arena: after,
                     names,
                 },
             }
         }
-        pruner::Answer::Refused(number) => Answered {
-            outcome: Outcome::Refused(number),
+        pruner::PruneAnswer::Refused(number) => Answered {
+            outcome: FormulaOutcome::Refused(number),
             arena: after,
             names,
         },
@@ -148,7 +148,7 @@ fn simplify(
     let after = walked.arena;
     let answer = walked.answer;
     match answer {
-        walk::Answer::Simplified { id, steps } => finish(
+        walk::WalkAnswer::Simplified { id, steps } => finish(
             nodes,
             slots,
             after,
@@ -161,7 +161,7 @@ fn simplify(
             deep,
             text,
         ),
-        walk::Answer::Spent { id, steps } => finish(
+        walk::WalkAnswer::Spent { id, steps } => finish(
             nodes,
             slots,
             after,
@@ -174,8 +174,8 @@ fn simplify(
             deep,
             text,
         ),
-        walk::Answer::Refused(number) => Answered {
-            outcome: Outcome::Refused(number),
+        walk::WalkAnswer::Refused(number) => Answered {
+            outcome: FormulaOutcome::Refused(number),
             arena: after,
             names,
         },
@@ -202,9 +202,18 @@ pub fn answer(
     let known = made.names;
     let answer = made.answer;
     match answer {
-        store::Answer::Id(id) => simplify(nodes, slots, after, entries, known, id, pruning, text),
-        store::Answer::Refused(number) => Answered {
-            outcome: Outcome::Refused(number),
+        store::NodeAnswer::Id(id) => simplify(
+            nodes,
+            slots,
+            after,
+            entries,
+            known,
+            id,
+            pruning,
+            text,
+        ),
+        store::NodeAnswer::Refused(number) => Answered {
+            outcome: FormulaOutcome::Refused(number),
             arena: after,
             names: known,
         },

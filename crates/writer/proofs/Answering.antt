@@ -24,11 +24,11 @@ use Rattle.expression_text.specs.Proper.{Proper}
 use Rattle.expression_text.specs.Listed.{TextFacts}
 use Rattle.expression_text.proofs.Texts.{writes}
 use Rattle.expression_text.proofs.Forms.{has-text}
-use Rattle.writer.specs.Placing.{Known, expressionAt}
+use Rattle.writer.specs.Placing.{KnownText, expressionAt}
 use Rattle.writer.specs.Sweeping.{Texted, WritesExpression}
 use Rattle.writer.specs.Writing.{NodeText, WrittenText, TooLong, ReadsBack, Writes, unsound, unknown, textless, tooLong, written, Covers}
-use Rattle.writer.specs.declared.Answer.{Answer}
-use Rattle.writer.specs.declared.Answer.the-variants.{Length, Refused}
+use Rattle.writer.specs.declared.WriteAnswer.{WriteAnswer}
+use Rattle.writer.specs.declared.WriteAnswer.the-variants.{Length, Refused}
 use Rattle.writer.proofs.Spelling.{spelled, only-one}
 use Rattle.writer.proofs.ReadsBack.{reads-back}
 
@@ -36,7 +36,7 @@ use Rattle.writer.proofs.ReadsBack.{reads-back}
 pub proper-of : {s : Controller} {id : ℕ} {t : List ℕ} (n : NodeText s id t) → Proper (n .expr)
 proper-of {t = t} n = has-text (n .expr) (record { text = t; depth = n .depth; reads = n .text; numbers = n .numbers })
 
-pub known-of : {w slots : List ℕ} {a : DagArena} {es : List ℕ} {named : ℕ} {b d : Bool} → Says b (Sound w slots a) → b ≡ true → Says d (Names.Sound es named) → d ≡ true → Known w (a .count) es named
+pub known-of : {w slots : List ℕ} {a : DagArena} {es : List ℕ} {named : ℕ} {b d : Bool} → Says b (Sound w slots a) → b ≡ true → Says d (Names.SoundNames es named) → d ≡ true → KnownText w (a .count) es named
 known-of s e t f = record { nodes = s .yes e .nodes; names = t .yes f }
 
 module _ (w slots : List ℕ) (a : DagArena) (es : List ℕ) (named id : ℕ) (buffer : List ℕ) where
@@ -46,10 +46,10 @@ module _ (w slots : List ℕ) (a : DagArena) (es : List ℕ) (named id : ℕ) (b
   pub no-store : {b : Bool} → Says b (Sound w slots a) → b ≡ false → Writes m id buffer (Refused notSound) buffer
   no-store s e = unsound (λ h. s .no e (h .store))
 
-  pub no-names : {b : Bool} → Says b (Names.Sound es named) → b ≡ false → Writes m id buffer (Refused notSound) buffer
+  pub no-names : {b : Bool} → Says b (Names.SoundNames es named) → b ≡ false → Writes m id buffer (Refused notSound) buffer
   no-names s e = unsound (λ h. s .no e (h .names))
 
-  module _ (s : Sound w slots a) (t : Names.Sound es named) where
+  module _ (s : Sound w slots a) (t : Names.SoundNames es named) where
     sound : BothSound m
     sound = record { store = s; names = t }
 
@@ -94,12 +94,12 @@ module _ (w slots : List ℕ) (a : DagArena) (es : List ℕ) (named id : ℕ) (b
             (verdict-denotes (record { sized = record { some = says .some; short = long }; depth = depthOf e; text = says .reads; shallow = deep; numbers = says .numbers }))
             ∙ ap fromMade (reads-back w slots a s es named t (lentOf m) id l e q)
 
-        too-long : TooLong its-text buffer → {r : Answer} {buffer′ : List ℕ} → Texted e buffer r buffer′ → Writes m id buffer r buffer′
+        too-long : TooLong its-text buffer → {r : WriteAnswer} {buffer′ : List ℕ} → Texted e buffer r buffer′ → Writes m id buffer r buffer′
         too-long x {r} {buffer′} y =
             let z = y .refused x in
             subst (λ v. Writes m id buffer v buffer′) (sym (z .0)) (subst (λ v. Writes m id buffer (Refused textTooLong) v) (sym (z .1)) (tooLong sound below its-text x))
 
-        fits : length (textOf e) ≤ mostBytes → length (textOf e) ≤ length buffer → depthOf e ≤ mostNested → {r : Answer} {buffer′ : List ℕ} → Texted e buffer r buffer′ → Writes m id buffer r buffer′
+        fits : length (textOf e) ≤ mostBytes → length (textOf e) ≤ length buffer → depthOf e ≤ mostNested → {r : WriteAnswer} {buffer′ : List ℕ} → Texted e buffer r buffer′ → Writes m id buffer r buffer′
         fits x y d {r} {buffer′} h =
             let z = h .written x y d in
             subst (λ v. Writes m id buffer v buffer′) (sym (z .0))
@@ -110,7 +110,7 @@ module _ (w slots : List ℕ) (a : DagArena) (es : List ℕ) (named id : ℕ) (b
             none-long (inr (inl b)) = omega arith
             none-long (inr (inr b)) = omega arith
 
-        has-own : {r : Answer} {buffer′ : List ℕ} → Texted e buffer r buffer′ → Writes m id buffer r buffer′
+        has-own : {r : WriteAnswer} {buffer′ : List ℕ} → Texted e buffer r buffer′ → Writes m id buffer r buffer′
         has-own {r} {buffer′} h = go (decLe (length (textOf e)) mostBytes) (decLe (length (textOf e)) (length buffer)) (decLe (depthOf e) mostNested)
           where
             go : Dec (length (textOf e) ≤ mostBytes) → Dec (length (textOf e) ≤ length buffer) → Dec (depthOf e ≤ mostNested) → Writes m id buffer r buffer′
@@ -119,7 +119,7 @@ module _ (w slots : List ℕ) (a : DagArena) (es : List ℕ) (named id : ℕ) (b
             go (yes x) (yes y) (no z) = too-long (inr (inr (omega arith))) h
             go (yes x) (yes y) (yes z) = fits x y z h
 
-      with-own : {r : Answer} {buffer′ : List ℕ} → WritesExpression (expressionAt w (a .count) es named id) buffer r buffer′ → Writes m id buffer r buffer′
+      with-own : {r : WriteAnswer} {buffer′ : List ℕ} → WritesExpression (expressionAt w (a .count) es named id) buffer r buffer′ → Writes m id buffer r buffer′
       unfolding WritesExpression
       with-own {r} {buffer′} h = go (expressionAt w (a .count) es named id) refl h
         where
@@ -128,11 +128,11 @@ module _ (w slots : List ℕ) (a : DagArena) (es : List ℕ) (named id : ℕ) (b
               subst (λ v. Writes m id buffer v buffer′) (sym (y .0)) (subst (λ v. Writes m id buffer (Refused noText) v) (sym (y .1)) (textless sound below (no-text q)))
           go (some e) q y = has-own e q y
 
-  module _ {b d : Bool} (s : Says b (Sound w slots a)) (e : b ≡ true) (t : Says d (Names.Sound es named)) (f : d ≡ true) where
+  module _ {b d : Bool} (s : Says b (Sound w slots a)) (e : b ≡ true) (t : Says d (Names.SoundNames es named)) (f : d ≡ true) where
     pub no-id : a .count ≤ id → Writes m id buffer (Refused badOperand) buffer
     no-id l = no-node (s .yes e) (t .yes f) l
 
-    pub with-text : id < a .count → {r : Answer} {buffer′ : List ℕ} → WritesExpression (expressionAt w (a .count) es named id) buffer r buffer′ → Writes m id buffer r buffer′
+    pub with-text : id < a .count → {r : WriteAnswer} {buffer′ : List ℕ} → WritesExpression (expressionAt w (a .count) es named id) buffer r buffer′ → Writes m id buffer r buffer′
     with-text l h = with-own (s .yes e) (t .yes f) l h
 
 -- ---- which nodes have a text

@@ -12,12 +12,12 @@ use Rattle.text_language.specs.Grammar.{Expr}
 use Rattle.expression_text.specs.Written.{textOf, depthOf}
 use Rattle.writer.specs.Expression.{isSome, orAny}
 use Rattle.text_language.specs.Reading.{mostBytes, mostNested}
-use Rattle.writer.specs.Placing.{spare, space, placed, Placed, Open}
+use Rattle.writer.specs.Placing.{spare, space, placed, PlacedText, Open}
 use Rattle.writer.specs.Sweeping.{Copies, Texted, WritesExpression, Unreached}
 use Rattle.names.specs.Sound as Names
 use Rattle.definitions.specs.Limits.{mostNodes}
 use Rattle.definitions.specs.Refusals.{noText, textTooLong}
-use Rattle.writer.specs.declared.Answer.the-variants.{Length, Refused}
+use Rattle.writer.specs.declared.WriteAnswer.the-variants.{Length, Refused}
 use Rattle.writer.proofs.Pieces.{placed-bare, deep-bare, rank-high}
 
 -- ---- copying
@@ -90,7 +90,7 @@ module _ (out₀ : List ℕ) (l : length out₀ ≡ space) where
   nothing-after : drop space out₀ ≡ []
   nothing-after = ap (λ (n : ℕ). drop n out₀) (sym l) ∙ drop-length out₀
 
-  module _ (e : Expr) (out : List ℕ) (place : ℕ) (w : Placed e 4 64 (drop space out₀) out place) where
+  module _ (e : Expr) (out : List ℕ) (place : ℕ) (w : PlacedText e 4 64 (drop space out₀) out place) where
     full-text : placed 4 e (drop space out₀) ≡ textOf e
     full-text = ap (placed 4 e) nothing-after ∙ whole-text e
 
@@ -125,12 +125,12 @@ module _ (out₀ : List ℕ) (l : length out₀ ≡ space) where
           written = λ a b d. (ap Length z, q ∙ ap (λ (x : List ℕ). x ++ drop (length x) buffer) (is-text h));
         }
 
-  module _ (t : Option Expr) {b : Bool} (eb : b ≡ isSome t) (f : b ≡ true) {out : List ℕ} {place : ℕ} (w : Placed (orAny t) 4 64 (drop space out₀) out place) (buffer : List ℕ) where
+  module _ (t : Option Expr) {b : Bool} (eb : b ≡ isSome t) (f : b ≡ true) {out : List ℕ} {place : ℕ} (w : PlacedText (orAny t) 4 64 (drop space out₀) out place) (buffer : List ℕ) where
     pub write-stop : place < spare → WritesExpression t buffer (Refused textTooLong) buffer
     unfolding WritesExpression
     write-stop h = go t (sym eb ∙ f) w
       where
-        go : (t : Option Expr) → isSome t ≡ true → Placed (orAny t) 4 64 (drop space out₀) out place → WritesExpression t buffer (Refused textTooLong) buffer
+        go : (t : Option Expr) → isSome t ≡ true → PlacedText (orAny t) 4 64 (drop space out₀) out place → WritesExpression t buffer (Refused textTooLong) buffer
         go none z w = absurd (false≢true z)
         go (some e) z w = texted-stop e out place w buffer h
 
@@ -138,7 +138,7 @@ module _ (out₀ : List ℕ) (l : length out₀ ≡ space) where
     unfolding WritesExpression
     write-short h s = go t (sym eb ∙ f) w
       where
-        go : (t : Option Expr) → isSome t ≡ true → Placed (orAny t) 4 64 (drop space out₀) out place → WritesExpression t buffer (Refused textTooLong) buffer
+        go : (t : Option Expr) → isSome t ≡ true → PlacedText (orAny t) 4 64 (drop space out₀) out place → WritesExpression t buffer (Refused textTooLong) buffer
         go none z w = absurd (false≢true z)
         go (some e) z w = texted-short e out place w buffer h s
 
@@ -146,7 +146,7 @@ module _ (out₀ : List ℕ) (l : length out₀ ≡ space) where
     unfolding WritesExpression
     write-done h s {buffer′} q = go t (sym eb ∙ f) w
       where
-        go : (t : Option Expr) → isSome t ≡ true → Placed (orAny t) 4 64 (drop space out₀) out place → WritesExpression t buffer (Length (space - place)) buffer′
+        go : (t : Option Expr) → isSome t ≡ true → PlacedText (orAny t) 4 64 (drop space out₀) out place → WritesExpression t buffer (Length (space - place)) buffer′
         go none z w = absurd (false≢true z)
         go (some e) z w = texted-done e out place w buffer buffer′ h s q
 

@@ -13,7 +13,7 @@ use Rattle.names.specs.Sound as Names
 use Rattle.names.specs.Entry.{entryAt}
 use Rattle.expression_text.specs.Numeral.{decimals, hexes, hexByte, numeral}
 use Rattle.expression_text.specs.Numeral.{mostWhole}
-use Rattle.writer.specs.Placing.{spare, space, IsWhole, Named, Open, Puts}
+use Rattle.writer.specs.Placing.{spare, space, IsWhole, Named, Open, PutsBytes}
 
 -- one byte more
 pub front : (l : List ℕ) (f v : ℕ) → 1 ≤ f → f ≤ length l → drop (f - 1) (set l (f - 1) v) ≡ v ∷ drop f l
@@ -24,7 +24,7 @@ front l (suc f) v h k =
     ∙ drop-cons (set l f v) f 0 (lt-length-set l f v (omega arith))
     ∙ ap₂ (λ (a : ℕ) (r : List ℕ). a ∷ r) (getD-set-same l f v 0 (omega arith)) (drop-set-lt (suc f) l f v (omega arith))
 
-pub push-is : (out : List ℕ) (at v : ℕ) → Open out at → Puts (v ∷ drop at out) 1 at (at - 1) (set out (at - 1) v) × (at - 1 + 1 ≡ at)
+pub push-is : (out : List ℕ) (at v : ℕ) → Open out at → PutsBytes (v ∷ drop at out) 1 at (at - 1) (set out (at - 1) v) × (at - 1 + 1 ≡ at)
 push-is out at v o =
     let l = o .low in
     let h = o .high in
@@ -67,7 +67,7 @@ module _ {n at : ℕ} {out₀ out : List ℕ} {place rest : ℕ} (d : DecimalsLe
         let l = d .long in
         front out place v (omega arith) (omega arith) ∙ ap (λ (x : ℕ). x ∷ drop place out) (e ∙ digit-byte (rest % 10) (omega arith))
 
-    pub decimals-end : rest / 10 ≡ 0 → Puts (decimals 9 n (drop at out₀)) spare at (place - 1) out′
+    pub decimals-end : rest / 10 ≡ 0 → PutsBytes (decimals 9 n (drop at out₀)) spare at (place - 1) out′
     unfolding decimals
     decimals-end z = record {
       is =
@@ -136,7 +136,7 @@ module _ {n at : ℕ} {out₀ out : List ℕ} {place rest left : ℕ} (d : Hexes
         free = d .free;
       }
 
-  pub hexes-end : left ≤ 0 → Puts (35 ∷ hexes 16 n (drop at out₀)) spare at (place - 1) (set out (place - 1) 35)
+  pub hexes-end : left ≤ 0 → PutsBytes (35 ∷ hexes 16 n (drop at out₀)) spare at (place - 1) (set out (place - 1) 35)
   unfolding hexes
   hexes-end h =
       let p = hexes-place in
@@ -168,12 +168,12 @@ unfolding hexes
 hexes-append zero n w r = refl
 hexes-append (suc k) n w r = hexes-append k (n / 16) (hexByte (n % 16) ∷ w) r
 
-pub number-whole : (bits n at p : ℕ) (r out : List ℕ) → IsWhole bits n → n ≤ mostWhole → Puts (decimals 9 n r) spare at p out → Puts (numeral bits ++ r) spare at p out
-number-whole bits n at p r out h l q = subst (λ (x : List ℕ). Puts x spare at p out) (decimals-append 9 n [] r ∙ ap (λ (x : List ℕ). x ++ r) (sym (h .whole l))) q
+pub number-whole : (bits n at p : ℕ) (r out : List ℕ) → IsWhole bits n → n ≤ mostWhole → PutsBytes (decimals 9 n r) spare at p out → PutsBytes (numeral bits ++ r) spare at p out
+number-whole bits n at p r out h l q = subst (λ (x : List ℕ). PutsBytes x spare at p out) (decimals-append 9 n [] r ∙ ap (λ (x : List ℕ). x ++ r) (sym (h .whole l))) q
 
-pub number-hex : (bits n at p : ℕ) (r out : List ℕ) → IsWhole bits n → mostWhole < n → Puts (35 ∷ hexes 16 bits r) spare at p out → Puts (numeral bits ++ r) spare at p out
+pub number-hex : (bits n at p : ℕ) (r out : List ℕ) → IsWhole bits n → mostWhole < n → PutsBytes (35 ∷ hexes 16 bits r) spare at p out → PutsBytes (numeral bits ++ r) spare at p out
 number-hex bits n at p r out h l q =
-    subst (λ (x : List ℕ). Puts x spare at p out) (ap (λ (x : List ℕ). 35 ∷ x) (hexes-append 16 bits [] r) ∙ ap (λ (x : List ℕ). x ++ r) (sym (h .other l))) q
+    subst (λ (x : List ℕ). PutsBytes x spare at p out) (ap (λ (x : List ℕ). 35 ∷ x) (hexes-append 16 bits [] r) ∙ ap (λ (x : List ℕ). x ++ r) (sym (h .other l))) q
 
 -- ---- names
 
@@ -251,7 +251,7 @@ module _ {es : List ℕ} {s at : ℕ} {out₀ out : List ℕ} {left place : ℕ}
         free = d .free;
       }
 
-  pub name-end : left ≤ 0 → Puts (Names.nameAt es s ++ drop at out₀) spare at place out
+  pub name-end : left ≤ 0 → PutsBytes (Names.nameAt es s ++ drop at out₀) spare at place out
   name-end h =
       let w = d .place-is in
       let g = d .named .short in

@@ -9,7 +9,7 @@ use Rattle.text_language.proofs.Sound.{and-both}
 use Rattle.store.specs.View.{listed}
 use Rattle.text_language.specs.Program.{Join, plus, minus, times, over, raise}
 use Rattle.writer.specs.Expression.{joinKind}
-use Rattle.writer.specs.Placing.{Joins, JoinsKind}
+use Rattle.writer.specs.Placing.{JoinsText, JoinsKind}
 use Rattle.writer.specs.declared.operators.Joint.{Joint}
 
 joinAt : ℕ → Join
@@ -30,13 +30,13 @@ join-back over = refl
 join-back raise = refl
 
 -- a kind is that of one operator alone
-pub by-kind : (p : Join) (kind : ℕ) (r : Joint) → kind ≡ joinKind p → Joins p r → JoinsKind kind r
-by-kind p kind r h j = record { told = λ o e. subst (λ (x : Join). Joins x r) (sym (join-back p) ∙ ap joinAt (sym h ∙ e) ∙ join-back o) j }
+pub by-kind : (p : Join) (kind : ℕ) (r : Joint) → kind ≡ joinKind p → JoinsText p r → JoinsKind kind r
+by-kind p kind r h j = record { told = λ o e. subst (λ (x : Join). JoinsText x r) (sym (join-back p) ∙ ap joinAt (sym h ∙ e) ∙ join-back o) j }
 
-pub by-rest : (kind : ℕ) (r : Joint) → (kind ≡ 2 → ⊥) → (kind ≡ 3 → ⊥) → (kind ≡ 4 → ⊥) → (kind ≡ 5 → ⊥) → Joins raise r → JoinsKind kind r
+pub by-rest : (kind : ℕ) (r : Joint) → (kind ≡ 2 → ⊥) → (kind ≡ 3 → ⊥) → (kind ≡ 4 → ⊥) → (kind ≡ 5 → ⊥) → JoinsText raise r → JoinsKind kind r
 by-rest kind r a b c d j = record { told = go }
   where
-    go : (o : Join) → kind ≡ joinKind o → Joins o r
+    go : (o : Join) → kind ≡ joinKind o → JoinsText o r
     go plus e = absurd (a e)
     go minus e = absurd (b e)
     go times e = absurd (c e)

@@ -17,7 +17,7 @@ use Rattle.expression_text.specs.Numeral.{numeral}
 use Rattle.expression_text.specs.Written.{bare}
 use Rattle.expression_text.specs.Proper.{isName}
 use Rattle.writer.specs.Expression.{symbolName}
-use Rattle.writer.specs.Placing.{spare, Named, Puts, Writable, meant}
+use Rattle.writer.specs.Placing.{spare, Named, PutsBytes, Writable, meant}
 use Rattle.writer.proofs.Walking.{at-name, at-number}
 
 past : (l : List (List ℕ)) (i : ℕ) → length l ≤ i → getD l i [] ≡ []
@@ -25,7 +25,7 @@ past [] i h = refl
 past (x ∷ l) zero h = absurd (omega arith)
 past (x ∷ l) (suc i) h = past l i (omega arith)
 
-module _ (es : List ℕ) (named : ℕ) (s : Names.Sound es named) where
+module _ (es : List ℕ) (named : ℕ) (s : Names.SoundNames es named) where
   -- a sound list's names can be read
   pub named-at : (i : ℕ) → i < named → Named es i
   named-at i h =
@@ -44,10 +44,10 @@ module _ (es : List ℕ) (named : ℕ) (s : Names.Sound es named) where
 
 module _ {w : List ℕ} {count : ℕ} {es : List ℕ} {named i : ℕ} (v : Writable w count es named i) {kind p : ℕ}
     (ek : kind ≡ at (nodesIn w count) i .kind) (ep : p ≡ at (nodesIn w count) i .payload) where
-  pub leaf-number : kind ≡ 1 → {place q : ℕ} (r : List ℕ) {out : List ℕ} → Puts (numeral p ++ r) spare place q out → Puts (bare (meant w count es named i) r) spare place q out
+  pub leaf-number : kind ≡ 1 → {place q : ℕ} (r : List ℕ) {out : List ℕ} → PutsBytes (numeral p ++ r) spare place q out → PutsBytes (bare (meant w count es named i) r) spare place q out
   unfolding bare
   leaf-number h {place} {q} r {out} t =
-      subst (λ (x : Expr). Puts (bare x r) spare place q out) (ap constant ep ∙ sym (at-number w count es named i v (sym ek ∙ h))) t
+      subst (λ (x : Expr). PutsBytes (bare x r) spare place q out) (ap constant ep ∙ sym (at-number w count es named i v (sym ek ∙ h))) t
 
   module _ (h : at (nodesIn w count) i .kind ≤ 1) (n : kind ≡ 1 → ⊥) where
     zero-kind : at (nodesIn w count) i .kind ≡ 0
@@ -64,8 +64,8 @@ module _ {w : List ℕ} {count : ℕ} {es : List ℕ} {named i : ℕ} (v : Writa
     pub leaf-named : Named es p
     leaf-named = named-at es named (v .known .names) p known
 
-    pub leaf-name : {place q : ℕ} (r : List ℕ) {out : List ℕ} → Puts (Names.nameAt es p ++ r) spare place q out → Puts (bare (meant w count es named i) r) spare place q out
+    pub leaf-name : {place q : ℕ} (r : List ℕ) {out : List ℕ} → PutsBytes (Names.nameAt es p ++ r) spare place q out → PutsBytes (bare (meant w count es named i) r) spare place q out
     unfolding bare
     leaf-name {place} {q} r {out} t =
-        subst (λ (x : Expr). Puts (bare x r) spare place q out)
+        subst (λ (x : Expr). PutsBytes (bare x r) spare place q out)
         (ap variable (sym (names-at es named p known) ∙ ap (λ (x : ℕ). symbolName (Names.namesOf es named) x) ep) ∙ sym (at-name w count es named i v zero-kind .0)) t

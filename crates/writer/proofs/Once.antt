@@ -8,7 +8,7 @@ use lib.ListN.{length}
 use native.Mathlib.Omega.{arith}
 use Rattle.expression_text.specs.Written.{textOf}
 use Rattle.writer.specs.Writing.{NodeText, WrittenText, TooLong, inBuffer, unsound, unknown, textless, tooLong, written, WritesOnce}
-use Rattle.writer.specs.declared.Answer.the-variants.{Length}
+use Rattle.writer.specs.declared.WriteAnswer.the-variants.{Length}
 use Rattle.writer.proofs.Spelling.{only-one}
 use Rattle.writer.proofs.Answering.{proper-of}
 use Rattle.text.specs.Memory.{ControllerMemory, controllerOf, BothSound}

@@ -15,7 +15,7 @@ use Rattle.expression_text.specs.Written.{natural, fits, wrap, bare, deeper, de
 use Rattle.text_language.specs.Program.{Join, plus, minus, times, over, raise}
 use Rattle.writer.specs.Expression.{joinExprs}
 use Rattle.text_language.specs.Reading.{mostBytes}
-use Rattle.writer.specs.Placing.{spare, space, placed, deep, signOf, ownRank, leftRank, rightRank, nests, Open, Puts, Placed}
+use Rattle.writer.specs.Placing.{spare, space, placed, deep, signOf, ownRank, leftRank, rightRank, nests, Open, PutsBytes, PlacedText}
 
 -- ---- nothing gets shorter
 
@@ -103,7 +103,7 @@ rest out at h = length-drop at out ∙ ap (λ (n : ℕ). n - at) h
 
 -- written as it should be, if it is not too long
 pub exactly : (h : ℕ) (e : Expr) (left : ℕ) (r out : List ℕ) (p : ℕ) → length out ≡ space → p ≤ space → drop p out ≡ placed h e r → deep h e ≤ left
-    → Placed e h left r out p
+    → PlacedText e h left r out p
 exactly h e left r out p l w d f = record {
   long = l;
   stopped = λ s. inl (let z = rest out p l in let y = ap length d in omega arith);
@@ -112,7 +112,7 @@ exactly h e left r out p l w d f = record {
 }
 
 -- stopped
-halted : (h : ℕ) (e : Expr) (left : ℕ) (r out : List ℕ) → length out ≡ space → (mostBytes < length (placed h e r)) ⊎ (left < deep h e) → Placed e h left r out 0
+halted : (h : ℕ) (e : Expr) (left : ℕ) (r out : List ℕ) → length out ≡ space → (mostBytes < length (placed h e r)) ⊎ (left < deep h e) → PlacedText e h left r out 0
 halted h e left r out l s = record { long = l; stopped = λ z. s; done = λ z. absurd (omega arith); within = omega arith }
 
 module _ (h : ℕ) (e : Expr) (left : ℕ) (out₀ : List ℕ) (first : ℕ) (o : Open out₀ first) where
@@ -120,16 +120,16 @@ module _ (h : ℕ) (e : Expr) (left : ℕ) (out₀ : List ℕ) (first : ℕ) (o 
   r = drop first out₀
 
   module _ (b : h < rank (natural e)) where
-    pub bracket-none : left ≡ 0 → Placed e h left r out₀ 0
+    pub bracket-none : left ≡ 0 → PlacedText e h left r out₀ 0
     bracket-none z = halted h e left r out₀ (o .long) (inr (let d = deep-bracket h e b in omega arith))
 
-    pub bracket-full : (out : List ℕ) (p : ℕ) → Puts (41 ∷ r) 1 first p out → p + 1 ≡ first → p < spare → Placed e h left r out 0
+    pub bracket-full : (out : List ℕ) (p : ℕ) → PutsBytes (41 ∷ r) 1 first p out → p + 1 ≡ first → p < spare → PlacedText e h left r out 0
     bracket-full out p q s z =
         halted h e left r out (q .long)
         (inl (let y = rest out₀ first (o .long) in let x = ap length (placed-bracket h e b r) in let w = bare-grows e (41 ∷ r) in let v = o .low in omega arith))
 
-    module _ (out : List ℕ) (p : ℕ) (q : Puts (41 ∷ r) 1 first p out) where
-      pub bracket-stop : (out′ : List ℕ) (p′ : ℕ) → 0 < left → Placed e 4 (left - 1) (drop p out) out′ p′ → p′ < spare → Placed e h left r out′ 0
+    module _ (out : List ℕ) (p : ℕ) (q : PutsBytes (41 ∷ r) 1 first p out) where
+      pub bracket-stop : (out′ : List ℕ) (p′ : ℕ) → 0 < left → PlacedText e 4 (left - 1) (drop p out) out′ p′ → p′ < spare → PlacedText e h left r out′ 0
       bracket-stop out′ p′ n w s =
           let m = rank-high e in
           halted h e left r out′ (w .long)
@@ -138,8 +138,8 @@ module _ (h : ℕ) (e : Expr) (left : ℕ) (out₀ : List ℕ) (first : ℕ) (o 
             | inr y ↦ inr (let x = deep-bracket h e b in let u = deep-bare 4 e m in omega arith)
           ])
 
-      pub bracket-done : (out′ : List ℕ) (p′ : ℕ) → 0 < left → Placed e 4 (left - 1) (drop p out) out′ p′ → spare ≤ p′
-          → (out″ : List ℕ) (p″ : ℕ) → Puts (40 ∷ drop p′ out′) 1 p′ p″ out″ → Placed e h left r out″ p″
+      pub bracket-done : (out′ : List ℕ) (p′ : ℕ) → 0 < left → PlacedText e 4 (left - 1) (drop p out) out′ p′ → spare ≤ p′
+          → (out″ : List ℕ) (p″ : ℕ) → PutsBytes (40 ∷ drop p′ out′) 1 p′ p″ out″ → PlacedText e h left r out″ p″
       bracket-done out′ p′ n w s out″ p″ t =
           let m = rank-high e in
           let d = w .done s in
@@ -148,7 +148,7 @@ module _ (h : ℕ) (e : Expr) (left : ℕ) (out₀ : List ℕ) (first : ℕ) (o 
           (let x = deep-bracket h e b in let u = deep-bare 4 e m in let y = d .1 in omega arith)
 
 -- a leaf
-pub leaf-done : (h : ℕ) (e : Expr) (left first : ℕ) (r out : List ℕ) (p : ℕ) → rank (natural e) ≤ h → depthOf e ≡ 0 → first ≤ space → Puts (bare e r) spare first p out → Placed e h left r out p
+pub leaf-done : (h : ℕ) (e : Expr) (left first : ℕ) (r out : List ℕ) (p : ℕ) → rank (natural e) ≤ h → depthOf e ≡ 0 → first ≤ space → PutsBytes (bare e r) spare first p out → PlacedText e h left r out p
 leaf-done h e left first r out p m z w q =
     exactly h e left r out p (q .long) (let y = q .high in omega arith) (q .is ∙ sym (placed-bare h e m r)) (let x = deep-bare h e m in omega arith)
 
@@ -160,10 +160,10 @@ module _ (h : ℕ) (a : Expr) (left : ℕ) (r : List ℕ) (m : 1 ≤ h) where
   minus-deep : deep h (negated a) ≡ suc (deep 1 a)
   minus-deep = deep-bare h (negated a) m ∙ depth-negated a
 
-  pub minus-none : (out : List ℕ) → length out ≡ space → left ≡ 0 → Placed (negated a) h left r out 0
+  pub minus-none : (out : List ℕ) → length out ≡ space → left ≡ 0 → PlacedText (negated a) h left r out 0
   minus-none out l z = halted h (negated a) left r out l (inr (let d = minus-deep in omega arith))
 
-  pub minus-stop : (out : List ℕ) (p : ℕ) → 0 < left → Placed a 1 (left - 1) r out p → p < spare → Placed (negated a) h left r out 0
+  pub minus-stop : (out : List ℕ) (p : ℕ) → 0 < left → PlacedText a 1 (left - 1) r out p → p < spare → PlacedText (negated a) h left r out 0
   minus-stop out p n w s =
       halted h (negated a) left r out (w .long)
       (elim (w .stopped s) [
@@ -171,8 +171,8 @@ module _ (h : ℕ) (a : Expr) (left : ℕ) (r : List ℕ) (m : 1 ≤ h) where
         | inr y ↦ inr (let x = minus-deep in omega arith)
       ])
 
-  pub minus-done : (out : List ℕ) (p : ℕ) → 0 < left → Placed a 1 (left - 1) r out p → spare ≤ p → (out′ : List ℕ) (p′ : ℕ) → Puts (45 ∷ drop p out) 1 p p′ out′
-      → Placed (negated a) h left r out′ p′
+  pub minus-done : (out : List ℕ) (p : ℕ) → 0 < left → PlacedText a 1 (left - 1) r out p → spare ≤ p → (out′ : List ℕ) (p′ : ℕ) → PutsBytes (45 ∷ drop p out) 1 p p′ out′
+      → PlacedText (negated a) h left r out′ p′
   minus-done out p n w s out′ p′ t =
       let d = w .done s in
       exactly h (negated a) left r out′ p′ (t .long) (let y = t .high in let x = w .within in omega arith)
@@ -187,8 +187,8 @@ pub record Going (level left : ℕ) (whole : Expr) (r : List ℕ) (high : ℕ) (
 pub going-self : (level left : ℕ) (e : Expr) (r : List ℕ) → Going level left e r level e r
 going-self level left e r = record { same = refl; up = λ h. h; down = λ h. h }
 
-pub finish : (level left : ℕ) (whole : Expr) (r : List ℕ) (high : ℕ) (e : Expr) (s : List ℕ) → Going level left whole r high e s → (out : List ℕ) (p : ℕ) → Placed e high left s out p
-    → Placed whole level left r out p
+pub finish : (level left : ℕ) (whole : Expr) (r : List ℕ) (high : ℕ) (e : Expr) (s : List ℕ) → Going level left whole r high e s → (out : List ℕ) (p : ℕ) → PlacedText e high left s out p
+    → PlacedText whole level left r out p
 finish level left whole r high e s g out p w = record {
   long = w .long;
   stopped = λ z. elim (w .stopped z) [ inl y ↦ inl (let x = ap length (g .same) in omega arith) | inr y ↦ inr (g .down y) ];
@@ -210,11 +210,11 @@ module _ (h : ℕ) (o : Join) (a b : Expr) (left : ℕ) (r : List ℕ) (m : ownR
   pair-deep : deep h e ≡ max (deep (leftRank o) a) (nests o + deep (rightRank o) b)
   pair-deep = deep-bare h e fit ∙ depth-joinExprs o a b
 
-  pub pair-none : (out : List ℕ) → length out ≡ space → left < nests o → Placed e h left r out 0
+  pub pair-none : (out : List ℕ) → length out ≡ space → left < nests o → PlacedText e h left r out 0
   pair-none out l z = halted h e left r out l (inr (let d = pair-deep in omega arith))
 
-  module _ (out : List ℕ) (p : ℕ) (n : nests o ≤ left) (w : Placed b (rightRank o) (left - nests o) r out p) where
-    pub pair-stop : p < spare → Placed e h left r out 0
+  module _ (out : List ℕ) (p : ℕ) (n : nests o ≤ left) (w : PlacedText b (rightRank o) (left - nests o) r out p) where
+    pub pair-stop : p < spare → PlacedText e h left r out 0
     pair-stop s =
         halted h e left r out (w .long)
         (elim (w .stopped s) [
@@ -222,11 +222,11 @@ module _ (h : ℕ) (o : Join) (a b : Expr) (left : ℕ) (r : List ℕ) (m : ownR
           | inr y ↦ inr (let x = pair-deep in omega arith)
         ])
 
-    module _ (s : spare ≤ p) (out′ : List ℕ) (p′ : ℕ) (t : Puts (signOf o ∷ drop p out) 1 p p′ out′) where
+    module _ (s : spare ≤ p) (out′ : List ℕ) (p′ : ℕ) (t : PutsBytes (signOf o ∷ drop p out) 1 p p′ out′) where
       signed : drop p′ out′ ≡ signOf o ∷ placed (rightRank o) b r
       signed = t .is ∙ ap (λ (x : List ℕ). signOf o ∷ x) (w .done s .0)
 
-      pub pair-full : p′ < spare → Placed e h left r out′ 0
+      pub pair-full : p′ < spare → PlacedText e h left r out′ 0
       pair-full z =
           halted h e left r out′ (t .long)
           (inl (let x = ap length pair-placed in let u = placed-grows (leftRank o) a (signOf o ∷ placed (rightRank o) b r) in let v = ap length signed in let y = rest out′ p′ (t .long) in omega arith))

@@ -27,7 +27,7 @@ use Rattle.definitions.specs.Limits.{mostChildren, mostNodes}
 use Rattle.writer.specs.Expression.{joinKind, joinFlags}
 use Rattle.expression_text.specs.Proper.{isName, allWords, numberBits}
 use Rattle.writer.specs.Expression.{symbolName, isSome, Standing, aName, aNumber, aMinus, aPair}
-use Rattle.writer.specs.Placing.{Named, Known, expressionAt}
+use Rattle.writer.specs.Placing.{Named, KnownText, expressionAt}
 use Rattle.writer.specs.Sweeping.{FormOf, Marks, Unreached}
 use Rattle.writer.specs.declared.sweeping.Form.{Form}
 use Rattle.writer.proofs.Parts.{All, standing-of, some-of, opened-up}
@@ -49,7 +49,7 @@ flags-is w count i k = sym (ap (λ (m : Node). m .flags) (at-plain w count i (k 
 
 -- ---- names
 
-module _ (es : List ℕ) (named : ℕ) (s : Names.Sound es named) (i : ℕ) where
+module _ (es : List ℕ) (named : ℕ) (s : Names.SoundNames es named) (i : ℕ) where
   abbrev the-name : List ℕ
   the-name = symbolName (Names.namesOf es named) i
 
@@ -293,13 +293,13 @@ at-all f (k ∷ ks) h (suc j) z = at-all f ks (h .1) j (omega arith)
 
 -- the root has an expression exactly if all that are reached and not yet looked at have
 pub record Swept (w : List ℕ) (count : ℕ) (es : List ℕ) (named root : ℕ) (reached : List ℕ) (i : ℕ) : Type 0 where
-  pub known : Known w count es named
+  pub known : KnownText w count es named
   pub long : length reached ≡ mostNodes
   pub low : i ≤ count
   pub down : isSome (expressionAt w count es named root) ≡ true → (j : ℕ) → j < i → (getD reached j 0 ≡ 0 → ⊥) → isSome (expressionAt w count es named j) ≡ true
   pub up : ((j : ℕ) → j < i → (getD reached j 0 ≡ 0 → ⊥) → isSome (expressionAt w count es named j) ≡ true) → isSome (expressionAt w count es named root) ≡ true
 
-pub swept-start : (w : List ℕ) (count : ℕ) (es : List ℕ) (named root : ℕ) (reached : List ℕ) → Known w count es named → root < count → Unreached reached
+pub swept-start : (w : List ℕ) (count : ℕ) (es : List ℕ) (named root : ℕ) (reached : List ℕ) → KnownText w count es named → root < count → Unreached reached
     → Swept w count es named root (set reached root 1) (root + 1)
 swept-start w count es named root reached s l u =
     let m = s .nodes .formed .many in
@@ -400,7 +400,7 @@ module _ {w : List ℕ} {count : ℕ} {es : List ℕ} {named root : ℕ} {reache
 
 -- where the loop over a name's bytes stands
 pub record Wording (es : List ℕ) (named i start size j : ℕ) : Type 0 where
-  pub sound : Names.Sound es named
+  pub sound : Names.SoundNames es named
   pub below : i < named
   pub words : Words es named sound i below j
   pub start-is : start ≡ i * 33
@@ -408,7 +408,7 @@ pub record Wording (es : List ℕ) (named i start size j : ℕ) : Type 0 where
   pub inside : i * 33 + 33 ≤ length es
   pub short : size ≤ 32
 
-pub wording : (es : List ℕ) (named i start size : ℕ) (s : Names.Sound es named) (l : i < named) → start ≡ i * 33 → size ≡ getD es (i * 33) 0 → {b : Bool} → b ≡ isLetter (getD es (start + 1) 0) → b ≡ true
+pub wording : (es : List ℕ) (named i start size : ℕ) (s : Names.SoundNames es named) (l : i < named) → start ≡ i * 33 → size ≡ getD es (i * 33) 0 → {b : Bool} → b ≡ isLetter (getD es (start + 1) 0) → b ≡ true
     → Wording es named i start size 1
 wording es named i start size s l e z {b} q t = record {
   sound = s;

@@ -29,8 +29,8 @@ use Rattle.pruned_again.proofs.Fitting.{fitting}
 use Rattle.pruned_again.proofs.SoundStores.{sound-plainly}
 use Rattle.expression_text.specs.Written.{bracketPairs}
 use Rattle.writer.specs.Writing.{NodeText, WrittenText, Writes, unsound, unknown, textless, tooLong, written, ReadTexts, FewestRead}
-use Rattle.writer.specs.declared.Answer.{Answer}
-use Rattle.writer.specs.declared.Answer.the-variants.{Length}
+use Rattle.writer.specs.declared.WriteAnswer.{WriteAnswer}
+use Rattle.writer.specs.declared.WriteAnswer.the-variants.{Length}
 use Rattle.writer.proofs.Spelling.{nth-is}
 use Rattle.writer.proofs.Leaves.{named-at}
 
@@ -41,7 +41,7 @@ nth-below [] i w e = let z : _≡_ {A = ℕ} 0 1 = cc in absurd (omega arith)
 nth-below (x ∷ names) zero w e = omega arith
 nth-below (x ∷ names) (suc i) w e = let z = nth-below names i w e in omega arith
 
-module _ (es : List ℕ) (named : ℕ) (s : NameList.Sound es named) where
+module _ (es : List ℕ) (named : ℕ) (s : NameList.SoundNames es named) where
   abbrev names : List (List ℕ)
   names = NameList.namesOf es named
 
@@ -107,7 +107,7 @@ read-texts m m′ id t h below c same =
 
 module _ (m m′ : ControllerMemory) (id size : ℕ) (buffer t : List ℕ) (c : ControllerCalled lentController (reading t) m (stored id) m′)
     (same : controllerOf m′ .names ≡ controllerOf m .names) where
-  goes : {r : Answer} {buffer′ : List ℕ} → Writes m id buffer r buffer′ → r ≡ Length size → bracketPairs (take size buffer′) ≤ bracketPairs t
+  goes : {r : WriteAnswer} {buffer′ : List ℕ} → Writes m id buffer r buffer′ → r ≡ Length size → bracketPairs (take size buffer′) ≤ bracketPairs t
   goes (unsound n) e = let z : _≡_ {A = ℕ} 0 1 = cc in absurd (omega arith)
   goes (unknown h l) e = let z : _≡_ {A = ℕ} 0 1 = cc in absurd (omega arith)
   goes (textless h l n) e = let z : _≡_ {A = ℕ} 0 1 = cc in absurd (omega arith)

@@ -28,7 +28,7 @@ use Rattle.names.specs.Sound as NameList
 use Rattle.names.proofs.Listing.{names-length, names-at, number-found}
 use Rattle.expression_text.specs.Proper.{isName, allWords}
 use Rattle.writer.specs.Expression.{joinExprs, symbolName, isSome, orAny, Standing, aName, aNumber, aMinus, aPair}
-use Rattle.writer.specs.Placing.{Known, Writable, expressionAt, meant}
+use Rattle.writer.specs.Placing.{KnownText, Writable, expressionAt, meant}
 use Rattle.writer.proofs.Walking.{stands, at-minus, at-pair, at-name, at-number}
 use Rattle.writer.proofs.Joining.{kind-one, two-up, minus-payload, pair-payload}
 use Rattle.writer.proofs.Leaves.{name-known}
@@ -59,7 +59,7 @@ like m n h =
 alike : (m n : N.Node) → Like m n → N.same m n ≡ true
 alike m n l = T-true (N.same m n) (eq-same m n (l .kind) (l .payload) (l .flags) (l .children))
 
-module _ (w slots : List ℕ) (a : DagArena) (s : Sound w slots a) (es : List ℕ) (named : ℕ) (t : NameList.Sound es named) (l : LentLists) where
+module _ (w slots : List ℕ) (a : DagArena) (s : Sound w slots a) (es : List ℕ) (named : ℕ) (t : NameList.SoundNames es named) (l : LentLists) where
   abbrev count : ℕ
   count = a .count
 
@@ -163,7 +163,7 @@ module _ (w slots : List ℕ) (a : DagArena) (s : Sound w slots a) (es : List �
       (ap (λ (b : Bool). cond b (Names.internAt (l .names) names (symbolName names p) (Names.numberFrom names 0 (symbolName names p))) (Names.answers (Names.refused 9) names)) (allowed (symbolName names p) h)
       ∙ ap (Names.internAt (l .names) names (symbolName names p)) (number-own p h))
 
-  known : Known w count es named
+  known : KnownText w count es named
   known = record { nodes = s .nodes; names = t }
 
   -- by rising id

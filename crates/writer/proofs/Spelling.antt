@@ -23,7 +23,7 @@ use Rattle.names.specs.Sound as NameList
 use Rattle.names.proofs.Listing.{names-length}
 use Rattle.expression_text.specs.Proper.{isName, Proper}
 use Rattle.writer.specs.Expression.{joinExprs, unary, pairOf, symbolName, overOperands, expressionIn, expressionsIn, expressionOf, isSome, orAny, Standing, aName, aNumber, aMinus, aPair}
-use Rattle.writer.specs.Placing.{Known, Writable, expressionAt, meant}
+use Rattle.writer.specs.Placing.{KnownText, Writable, expressionAt, meant}
 use Rattle.writer.proofs.Parts.{lower}
 use Rattle.writer.proofs.Walking.{stands, at-minus, at-pair, at-name, at-number}
 use Rattle.writer.proofs.Joining.{kind-one, two-up, minus-payload, pair-payload}
@@ -79,7 +79,7 @@ pub record Spelled (names : List (List ℕ)) (e : Expr) (t : Tree) : Type 0 wher
 spelled-as : {names : List (List ℕ)} {e e′ : Expr} {t t′ : Tree} → e′ ≡ e → t′ ≡ t → Spelled names e t → Spelled names e′ t′
 spelled-as {names} {e} {e′} {t} {t′} p q s = subst (λ x. Spelled names x t′) (sym p) (subst (Spelled names e) (sym q) s)
 
-module _ (w slots : List ℕ) (a : DagArena) (s : Sound w slots a) (es : List ℕ) (named : ℕ) (t : NameList.Sound es named) where
+module _ (w slots : List ℕ) (a : DagArena) (s : Sound w slots a) (es : List ℕ) (named : ℕ) (t : NameList.SoundNames es named) where
   abbrev count : ℕ
   count = a .count
 
@@ -89,7 +89,7 @@ module _ (w slots : List ℕ) (a : DagArena) (s : Sound w slots a) (es : List �
   abbrev names : List (List ℕ)
   names = NameList.namesOf es named
 
-  known : Known w count es named
+  known : KnownText w count es named
   known = record { nodes = s .nodes; names = t }
 
   -- a node's formula by its parts

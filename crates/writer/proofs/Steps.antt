@@ -12,7 +12,7 @@ use Rattle.text_language.specs.Reader.{rank}
 use Rattle.expression_text.specs.Written.{natural, bare}
 use Rattle.text_language.specs.Program.{Join}
 use Rattle.writer.specs.Expression.{joinExprs}
-use Rattle.writer.specs.Placing.{spare, space, signOf, ownRank, leftRank, rightRank, nests, Open, Puts, Ranked, Joins, JoinsKind, Writable, Placed, meant}
+use Rattle.writer.specs.Placing.{spare, space, signOf, ownRank, leftRank, rightRank, nests, Open, PutsBytes, Ranked, JoinsText, JoinsKind, Writable, PlacedText, meant}
 use Rattle.writer.specs.declared.operators.Joint.{Joint}
 use Rattle.writer.proofs.Walking.{Pair, Minus, look, at-minus, at-pair, leaf-is, pair-rank, rank-is}
 use Rattle.writer.proofs.Pieces.{Going, going-self, going-on, finish, bracket-none, bracket-full, bracket-stop, bracket-done, leaf-done, minus-none, minus-stop, minus-done, pair-none, pair-stop, pair-full, pair-on}
@@ -28,10 +28,10 @@ pub at-start : (w : List ℕ) (count : ℕ) (es : List ℕ) (named id level left
     → At w count es named id level left out from out id level from
 at-start w count es named id level left out from v o = record { below = omega arith; here = v; free = o; going = going-self level left (meant w count es named id) (drop from out) }
 
-pub pushed : (bytes : List ℕ) (most at r : ℕ) (out : List ℕ) → Puts bytes most at r out → at ≤ space → spare ≤ r → Open out r
+pub pushed : (bytes : List ℕ) (most at r : ℕ) (out : List ℕ) → PutsBytes bytes most at r out → at ≤ space → spare ≤ r → Open out r
 pushed bytes most at r out p h l = record { long = p .long; low = l; high = let z = p .high in omega arith }
 
-pub written-free : (e : Expr) (level left : ℕ) (r out : List ℕ) (p : ℕ) → Placed e level left r out p → spare ≤ p → Open out p
+pub written-free : (e : Expr) (level left : ℕ) (r out : List ℕ) (p : ℕ) → PlacedText e level left r out p → spare ≤ p → Open out p
 written-free e level left r out p w l = record { long = w .long; low = l; high = w .within }
 
 module _ {w : List ℕ} {count : ℕ} {es : List ℕ} {named id level left : ℕ} {out₀ : List ℕ} {from : ℕ} {out : List ℕ} {node high first : ℕ}
@@ -43,9 +43,9 @@ module _ {w : List ℕ} {count : ℕ} {es : List ℕ} {named id level left : ℕ
   r = drop first out
 
   abbrev Ends : List ℕ → ℕ → Type 0
-  Ends out′ p = Placed (meant w count es named id) level left (drop from out₀) out′ p
+  Ends out′ p = PlacedText (meant w count es named id) level left (drop from out₀) out′ p
 
-  ends : (out′ : List ℕ) (p : ℕ) → Placed e high left r out′ p → Ends out′ p
+  ends : (out′ : List ℕ) (p : ℕ) → PlacedText e high left r out′ p → Ends out′ p
   ends out′ p x = finish level left (meant w count es named id) (drop from out₀) high e r (v .going) out′ p x
 
   pub at-look : Lookup w count node
@@ -61,20 +61,20 @@ module _ {w : List ℕ} {count : ℕ} {es : List ℕ} {named id level left : ℕ
     pub end-1 : high < own → left ≡ 0 → Ends out 0
     end-1 h z = ends out 0 (bracket-none high e left out first (v .free) (higher h) z)
 
-    pub end-2 : high < own → {p : ℕ} {out′ : List ℕ} → Puts (41 ∷ r) 1 first p out′ × (p + 1 ≡ first) → p < spare → Ends out′ 0
+    pub end-2 : high < own → {p : ℕ} {out′ : List ℕ} → PutsBytes (41 ∷ r) 1 first p out′ × (p + 1 ≡ first) → p < spare → Ends out′ 0
     end-2 h {p} {out′} t s = ends out′ 0 (bracket-full high e left out first (v .free) (higher h) out′ p (t .0) (t .1) s)
 
-    pub end-3 : high < own → {p : ℕ} {out′ : List ℕ} → Puts (41 ∷ r) 1 first p out′ × (p + 1 ≡ first) → 0 < left
-        → {p₂ : ℕ} {out₂ : List ℕ} → Placed e 4 (left - 1) (drop p out′) out₂ p₂ → p₂ < spare → Ends out₂ 0
+    pub end-3 : high < own → {p : ℕ} {out′ : List ℕ} → PutsBytes (41 ∷ r) 1 first p out′ × (p + 1 ≡ first) → 0 < left
+        → {p₂ : ℕ} {out₂ : List ℕ} → PlacedText e 4 (left - 1) (drop p out′) out₂ p₂ → p₂ < spare → Ends out₂ 0
     end-3 h {p} {out′} t n {p₂} {out₂} x s = ends out₂ 0 (bracket-stop high e left out first (v .free) (higher h) out′ p (t .0) out₂ p₂ n x s)
 
-    pub end-4 : high < own → {p : ℕ} {out′ : List ℕ} → Puts (41 ∷ r) 1 first p out′ × (p + 1 ≡ first) → 0 < left
-        → {p₂ : ℕ} {out₂ : List ℕ} → Placed e 4 (left - 1) (drop p out′) out₂ p₂ → spare ≤ p₂
-        → {p₃ : ℕ} {out₃ : List ℕ} → Puts (40 ∷ drop p₂ out₂) 1 p₂ p₃ out₃ × (p₃ + 1 ≡ p₂) → Ends out₃ p₃
+    pub end-4 : high < own → {p : ℕ} {out′ : List ℕ} → PutsBytes (41 ∷ r) 1 first p out′ × (p + 1 ≡ first) → 0 < left
+        → {p₂ : ℕ} {out₂ : List ℕ} → PlacedText e 4 (left - 1) (drop p out′) out₂ p₂ → spare ≤ p₂
+        → {p₃ : ℕ} {out₃ : List ℕ} → PutsBytes (40 ∷ drop p₂ out₂) 1 p₂ p₃ out₃ × (p₃ + 1 ≡ p₂) → Ends out₃ p₃
     end-4 h {p} {out′} t n {p₂} {out₂} x s {p₃} {out₃} y =
         ends out₃ p₃ (bracket-done high e left out first (v .free) (higher h) out′ p (t .0) out₂ p₂ n x s out₃ p₃ (y .0))
 
-    pub end-5 : own ≤ high → kind ≤ 1 → {p : ℕ} {out′ : List ℕ} → Puts (bare e r) spare first p out′ → Ends out′ p
+    pub end-5 : own ≤ high → kind ≤ 1 → {p : ℕ} {out′ : List ℕ} → PutsBytes (bare e r) spare first p out′ → Ends out′ p
     end-5 h k {p} {out′} t =
         ends out′ p (leaf-done high e left first r out′ p (fit h) (leaf-is w count es named node (v .here) (omega arith) .1) (v .free .high) t)
 
@@ -92,8 +92,8 @@ module _ {w : List ℕ} {count : ℕ} {es : List ℕ} {named id level left : ℕ
       low : 1 ≤ high
       low = let z = q .minus k in omega arith
 
-      minus-ends : (out′ : List ℕ) (p : ℕ) → Placed (negated ea) high left r out′ p → Ends out′ p
-      minus-ends out′ p x = ends out′ p (subst (λ (y : Expr). Placed y high left r out′ p) (sym (m .is)) x)
+      minus-ends : (out′ : List ℕ) (p : ℕ) → PlacedText (negated ea) high left r out′ p → Ends out′ p
+      minus-ends out′ p x = ends out′ p (subst (λ (y : Expr). PlacedText y high left r out′ p) (sym (m .is)) x)
 
       pub minus-one : 0 < length (at (nodesIn w count) node .children)
       minus-one = let z = m .one in omega arith
@@ -104,14 +104,14 @@ module _ {w : List ℕ} {count : ℕ} {es : List ℕ} {named id level left : ℕ
       pub end-6 : left ≡ 0 → Ends out 0
       end-6 z = minus-ends out 0 (minus-none high ea left r low out (v .free .long) z)
 
-      pub end-7 : {x : ℕ} → x ≡ a → 0 < left → {p : ℕ} {out′ : List ℕ} → Placed (meant w count es named x) 1 (left - 1) r out′ p → p < spare → Ends out′ 0
+      pub end-7 : {x : ℕ} → x ≡ a → 0 < left → {p : ℕ} {out′ : List ℕ} → PlacedText (meant w count es named x) 1 (left - 1) r out′ p → p < spare → Ends out′ 0
       end-7 {x} g n {p} {out′} t s =
-          minus-ends out′ 0 (minus-stop high ea left r low out′ p n (subst (λ (y : ℕ). Placed (meant w count es named y) 1 (left - 1) r out′ p) g t) s)
+          minus-ends out′ 0 (minus-stop high ea left r low out′ p n (subst (λ (y : ℕ). PlacedText (meant w count es named y) 1 (left - 1) r out′ p) g t) s)
 
-      pub end-8 : {x : ℕ} → x ≡ a → 0 < left → {p : ℕ} {out′ : List ℕ} → Placed (meant w count es named x) 1 (left - 1) r out′ p → spare ≤ p
-          → {p₂ : ℕ} {out₂ : List ℕ} → Puts (45 ∷ drop p out′) 1 p p₂ out₂ × (p₂ + 1 ≡ p) → Ends out₂ p₂
+      pub end-8 : {x : ℕ} → x ≡ a → 0 < left → {p : ℕ} {out′ : List ℕ} → PlacedText (meant w count es named x) 1 (left - 1) r out′ p → spare ≤ p
+          → {p₂ : ℕ} {out₂ : List ℕ} → PutsBytes (45 ∷ drop p out′) 1 p p₂ out₂ × (p₂ + 1 ≡ p) → Ends out₂ p₂
       end-8 {x} g n {p} {out′} t s {p₂} {out₂} y =
-          minus-ends out₂ p₂ (minus-done high ea left r low out′ p n (subst (λ (y : ℕ). Placed (meant w count es named y) 1 (left - 1) r out′ p) g t) s out₂ p₂ (y .0))
+          minus-ends out₂ p₂ (minus-done high ea left r low out′ p n (subst (λ (y : ℕ). PlacedText (meant w count es named y) 1 (left - 1) r out′ p) g t) s out₂ p₂ (y .0))
 
     -- an operator of two operands
     module _ (h : own ≤ high) (k : 1 < kind) (k′ : kind ≡ 8 → ⊥) where
@@ -130,11 +130,11 @@ module _ {w : List ℕ} {count : ℕ} {es : List ℕ} {named id level left : ℕ
       wide : ownRank o ≤ high
       wide = let z = pair-rank w count es named node (v .here) own (subst (λ (x : ℕ). Ranked x own) ek q) both in omega arith
 
-      pair-ends : (out′ : List ℕ) (p : ℕ) → Placed (joinExprs o (meant w count es named c₀) (meant w count es named c₁)) high left r out′ p → Ends out′ p
-      pair-ends out′ p x = ends out′ p (subst (λ (y : Expr). Placed y high left r out′ p) (sym (both .is)) x)
+      pair-ends : (out′ : List ℕ) (p : ℕ) → PlacedText (joinExprs o (meant w count es named c₀) (meant w count es named c₁)) high left r out′ p → Ends out′ p
+      pair-ends out′ p x = ends out′ p (subst (λ (y : Expr). PlacedText y high left r out′ p) (sym (both .is)) x)
 
       module _ {j : Joint} (jk : JoinsKind kind j) where
-        joins : Joins o j
+        joins : JoinsText o j
         joins = jk .told o (ek ∙ both .kind)
 
         pub end-9 : left < j .nesting → Ends out 0
@@ -149,12 +149,12 @@ module _ {w : List ℕ} {count : ℕ} {es : List ℕ} {named id level left : ℕ
         pub second-here : {x : ℕ} → x ≡ c₁ → Writable w count es named x × (x < id)
         second-here {x} g = (subst (λ (y : ℕ). Writable w count es named y) (sym g) (both .second), let z = both .second-low in let y = v .below in omega arith)
 
-        module _ (n : j .nesting ≤ left) {x : ℕ} (g : x ≡ c₁) {p : ℕ} {out′ : List ℕ} (t : Placed (meant w count es named x) (j .right) (left - j .nesting) r out′ p) where
-          t′ : Placed (meant w count es named c₁) (rightRank o) (left - nests o) r out′ p
+        module _ (n : j .nesting ≤ left) {x : ℕ} (g : x ≡ c₁) {p : ℕ} {out′ : List ℕ} (t : PlacedText (meant w count es named x) (j .right) (left - j .nesting) r out′ p) where
+          t′ : PlacedText (meant w count es named c₁) (rightRank o) (left - nests o) r out′ p
           t′ =
-              subst (λ (y : ℕ). Placed (meant w count es named c₁) (rightRank o) (left - y) r out′ p) (joins .nesting)
-              (subst (λ (y : ℕ). Placed (meant w count es named c₁) y (left - j .nesting) r out′ p) (joins .right)
-              (subst (λ (y : ℕ). Placed (meant w count es named y) (j .right) (left - j .nesting) r out′ p) g t))
+              subst (λ (y : ℕ). PlacedText (meant w count es named c₁) (rightRank o) (left - y) r out′ p) (joins .nesting)
+              (subst (λ (y : ℕ). PlacedText (meant w count es named c₁) y (left - j .nesting) r out′ p) (joins .right)
+              (subst (λ (y : ℕ). PlacedText (meant w count es named y) (j .right) (left - j .nesting) r out′ p) g t))
 
           n′ : nests o ≤ left
           n′ = let y = joins .nesting in omega arith
@@ -162,9 +162,9 @@ module _ {w : List ℕ} {count : ℕ} {es : List ℕ} {named id level left : ℕ
           pub end-10 : p < spare → Ends out′ 0
           end-10 s = pair-ends out′ 0 (pair-stop high o (meant w count es named c₀) (meant w count es named c₁) left r wide out′ p n′ t′ s)
 
-          module _ (s : spare ≤ p) {p₂ : ℕ} {out₂ : List ℕ} (y : Puts (j .sign ∷ drop p out′) 1 p p₂ out₂ × (p₂ + 1 ≡ p)) where
-            y′ : Puts (signOf o ∷ drop p out′) 1 p p₂ out₂
-            y′ = subst (λ (b : ℕ). Puts (b ∷ drop p out′) 1 p p₂ out₂) (joins .sign) (y .0)
+          module _ (s : spare ≤ p) {p₂ : ℕ} {out₂ : List ℕ} (y : PutsBytes (j .sign ∷ drop p out′) 1 p p₂ out₂ × (p₂ + 1 ≡ p)) where
+            y′ : PutsBytes (signOf o ∷ drop p out′) 1 p p₂ out₂
+            y′ = subst (λ (b : ℕ). PutsBytes (b ∷ drop p out′) 1 p p₂ out₂) (joins .sign) (y .0)
 
             pub end-11 : p₂ < spare → Ends out₂ 0
             end-11 z = pair-ends out₂ 0 (pair-full high o (meant w count es named c₀) (meant w count es named c₁) left r wide out′ p n′ t′ s out₂ p₂ y′ z)

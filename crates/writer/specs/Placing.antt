@@ -68,14 +68,14 @@ ownRank times = 3
 ownRank over = 3
 ownRank raise = 2
 
-pub record Joins (o : Join) (r : Joint) : Type 0 where
+pub record JoinsText (o : Join) (r : Joint) : Type 0 where
   pub sign : r .sign ≡ signOf o
   pub left : r .left ≡ leftRank o
   pub right : r .right ≡ rightRank o
   pub nesting : r .nesting ≡ nests o
 
 pub record JoinsKind (kind : ℕ) (r : Joint) : Type 0 where
-  pub told : (o : Join) → kind ≡ joinKind o → Joins o r
+  pub told : (o : Join) → kind ≡ joinKind o → JoinsText o r
 
 pub record Ranked (kind r : ℕ) : Type 0 where
   pub leaf : kind ≤ 1 → r ≡ 1
@@ -93,7 +93,7 @@ pub record Open (out : List ℕ) (at : ℕ) : Type 0 where
   pub high : at ≤ space
 
 -- the bytes from r on are these; at most so many were put
-pub record Puts (bytes : List ℕ) (most at r : ℕ) (out : List ℕ) : Type 0 where
+pub record PutsBytes (bytes : List ℕ) (most at r : ℕ) (out : List ℕ) : Type 0 where
   pub is : drop r out ≡ bytes
   pub long : length out ≡ space
   pub low : at ≤ r + most
@@ -114,9 +114,9 @@ pub record Named (entries : List ℕ) (symbol : ℕ) : Type 0 where
 -- ---- nodes
 
 -- sound nodes and names
-pub record Known (words : List ℕ) (count : ℕ) (entries : List ℕ) (named : ℕ) : Type 0 where
+pub record KnownText (words : List ℕ) (count : ℕ) (entries : List ℕ) (named : ℕ) : Type 0 where
   pub nodes : Nodes words count
-  pub names : Names.Sound entries named
+  pub names : Names.SoundNames entries named
 
 abbrev pub expressionAt : List ℕ → ℕ → List ℕ → ℕ → ℕ → Option Expr
 expressionAt words count entries named id = expressionOf (Names.namesOf entries named) (nodesIn words count) id
@@ -126,12 +126,12 @@ abbrev pub meant : List ℕ → ℕ → List ℕ → ℕ → ℕ → Expr
 meant words count entries named id = orAny (expressionAt words count entries named id)
 
 pub record Writable (words : List ℕ) (count : ℕ) (entries : List ℕ) (named id : ℕ) : Type 0 where
-  pub known : Known words count entries named
+  pub known : KnownText words count entries named
   pub below : id < count
   pub has : isSome (expressionAt words count entries named id) ≡ true
 
 -- an expression put in front of the bytes r, if there is a place for it and it nests no deeper than left; else a place below `spare`
-pub record Placed (e : Expr) (level left : ℕ) (r : List ℕ) (out : List ℕ) (place : ℕ) : Type 0 where
+pub record PlacedText (e : Expr) (level left : ℕ) (r : List ℕ) (out : List ℕ) (place : ℕ) : Type 0 where
   pub long : length out ≡ space
   pub stopped : place < spare → (mostBytes < length (placed level e r)) ⊎ (left < deep level e)
   pub done : spare ≤ place → (drop place out ≡ placed level e r) × (deep level e ≤ left)

@@ -13,8 +13,8 @@ use Rattle.expression_text.specs.Written.{textOf, depthOf}
 use Rattle.writer.specs.Placing.{space}
 use Rattle.writer.specs.Writing.{inBuffer}
 use Rattle.writer.specs.declared.sweeping.Form.{Form}
-use Rattle.writer.specs.declared.Answer.{Answer}
-use Rattle.writer.specs.declared.Answer.the-variants.{Length, Refused}
+use Rattle.writer.specs.declared.WriteAnswer.{WriteAnswer}
+use Rattle.writer.specs.declared.WriteAnswer.the-variants.{Length, Refused}
 
 -- more children than a node has
 abbrev pub noForm : ℕ
@@ -53,12 +53,12 @@ pub record Copies (out : List ℕ) (place : ℕ) (buffer : List ℕ) : Type 0 wh
   pub within : place ≤ space
   pub room : space ≤ place + length buffer
 
-pub record Texted (e : Expr) (buffer : List ℕ) (r : Answer) (buffer′ : List ℕ) : Type 0 where
+pub record Texted (e : Expr) (buffer : List ℕ) (r : WriteAnswer) (buffer′ : List ℕ) : Type 0 where
   pub refused : (mostBytes < length (textOf e)) ⊎ ((length buffer < length (textOf e)) ⊎ (mostNested < depthOf e)) → (r ≡ Refused textTooLong) × (buffer′ ≡ buffer)
   pub written : length (textOf e) ≤ mostBytes → length (textOf e) ≤ length buffer → depthOf e ≤ mostNested
       → (r ≡ Length (length (textOf e))) × (buffer′ ≡ inBuffer (textOf e) buffer)
 
 -- 13, then 14, and all bytes stay; or the text at the start of the lent buffer, and its length
-unfoldable pub WritesExpression : Option Expr → List ℕ → Answer → List ℕ → Type 0
+unfoldable pub WritesExpression : Option Expr → List ℕ → WriteAnswer → List ℕ → Type 0
 WritesExpression none buffer r buffer′ = (r ≡ Refused noText) × (buffer′ ≡ buffer)
 WritesExpression (some e) buffer r buffer′ = Texted e buffer r buffer′

@@ -13,14 +13,14 @@ use Rattle.definitions.specs.Refusals.{notSound, badOperand, noText, textTooLon
 use Rattle.definitions.specs.Formula.{formula}
 use Rattle.definitions.specs.Controller.{LentLists, Controller, reading, stored, controllerCall}
 use Rattle.definitions.specs.Promise.{Spells, ControllerCalled}
-use Rattle.store.specs.declared.Answer as Store
-use Rattle.store.specs.declared.Answer.the-variants as store
+use Rattle.store.specs.declared.NodeAnswer as Store
+use Rattle.store.specs.declared.NodeAnswer.the-variants as store
 use Rattle.text.specs.Memory.{ControllerMemory, lentController, controllerOf, lentOf, BothSound}
-use Rattle.text.specs.Reading.{Reads}
+use Rattle.text.specs.Reading.{ReadsText}
 use Rattle.expression_text.specs.Written.{textOf, bracketPairs, blanks}
 use Rattle.writer.specs.Expression.{expressionOf}
-use Rattle.writer.specs.declared.Answer.{Answer}
-use Rattle.writer.specs.declared.Answer.the-variants.{Length, Refused}
+use Rattle.writer.specs.declared.WriteAnswer.{WriteAnswer}
+use Rattle.writer.specs.declared.WriteAnswer.the-variants.{Length, Refused}
 
 -- ---- the texts of a node
 
@@ -61,7 +61,7 @@ ReadsBack l s id t = controllerCall l s (reading t) ≡ record { answer = stored
 -- ---- the call
 
 -- 20, 4, 13 and 14, in this order: "on a refusal all [bytes] stay"; or the text and its length
-pub data Writes (m : ControllerMemory) (id : ℕ) (buffer : List ℕ) : Answer → List ℕ → Type 0 where
+pub data Writes (m : ControllerMemory) (id : ℕ) (buffer : List ℕ) : WriteAnswer → List ℕ → Type 0 where
   unsound : (BothSound m → ⊥) → Writes m id buffer (Refused notSound) buffer
   unknown : BothSound m → length (controllerOf m .nodes) ≤ id → Writes m id buffer (Refused badOperand) buffer
   textless : BothSound m → id < length (controllerOf m .nodes) → ((t : List ℕ) → NodeText (controllerOf m) id t → ⊥)
@@ -73,7 +73,7 @@ pub data Writes (m : ControllerMemory) (id : ℕ) (buffer : List ℕ) : Answer �
 
 -- no two of the five apply: each refusal is answered exactly in its case (proofs Once)
 abbrev pub WritesOnce : Type 0
-WritesOnce = (m : ControllerMemory) (id : ℕ) (buffer : List ℕ) (r r′ : Answer) (buffer′ buffer″ : List ℕ)
+WritesOnce = (m : ControllerMemory) (id : ℕ) (buffer : List ℕ) (r r′ : WriteAnswer) (buffer′ buffer″ : List ℕ)
     → Writes m id buffer r buffer′ → Writes m id buffer r′ buffer″ → (r ≡ r′) × (buffer′ ≡ buffer″)
 
 -- "It covers variables, constants, Neg and two-operand operators but Mod, with the constructors' flags, marks aside": a node with an
@@ -85,8 +85,8 @@ Covers = (m : ControllerMemory) (id : ℕ) → BothSound m → id < length (cont
 
 -- what a write left in the buffer, read on the same lists by the contract of c's call, answers the id and leaves every word, slot and byte
 abbrev pub ReadAfterWrite : Type 0
-ReadAfterWrite = (m m′ : ControllerMemory) (id size : ℕ) (buffer buffer′ : List ℕ) (a : Store.Answer)
-    → Writes m id buffer (Length size) buffer′ → Reads (take size buffer′) m a m′ → (a ≡ store.Id id) × (m′ ≡ m)
+ReadAfterWrite = (m m′ : ControllerMemory) (id size : ℕ) (buffer buffer′ : List ℕ) (a : Store.NodeAnswer)
+    → Writes m id buffer (Length size) buffer′ → ReadsText (take size buffer′) m a m′ → (a ≡ store.Id id) × (m′ ≡ m)
 
 -- every text that a reading on the same lists reads to a node that is there, without a new name, is one of the texts over which `fewest` is
 -- said. A text that makes a name is none of them: a symbol that stands in the store without a name may be the next number.

@@ -9,7 +9,7 @@ ghost use mathlib.Core.Path.{_≡_};
 ghost use mathlib.Core.List.{_++_};
 ghost use Prim.Native.Nat.{_<_};
 ghost use lib.ListN.{length, drop};
-ghost use Rattle.writer.specs.Placing.{Known, expressionAt};
+ghost use Rattle.writer.specs.Placing.{KnownText, expressionAt};
 ghost use Rattle.writer.specs.Sweeping.{Copies, WritesExpression};
 ghost use Rattle.writer.specs.Writing.{Writes};
 ghost use Rattle.text.specs.Memory.{controllerMemory};
@@ -26,7 +26,7 @@ use sweeping::has_text;
 use text_language::MOST_NESTED;
 
 // The length of a text, or a refusal.
-pub enum Answer {
+pub enum WriteAnswer {
     Length(usize),
     Refused(u64),
 }
@@ -53,13 +53,13 @@ pub fn write_sound(
     named: usize,
     id: u64,
     buffer: &mut [u8],
-) -> Answer
-    requires { ⌜ Known (now nodes) count (now entries) named × (id < count) ⌝ }
+) -> WriteAnswer
+    requires { ⌜ KnownText (now nodes) count (now entries) named × (id < count) ⌝ }
     ensures { λ r. ⌜ WritesExpression (expressionAt (now (nodes .entry)) count (now (entries .entry)) named id) (now (buffer .entry)) r
         (now (buffer .exit)) ⌝ }
 {
     if !has_text(nodes, count, entries, named, id) {
-        return Answer::Refused(NO_TEXT);
+        return WriteAnswer::Refused(NO_TEXT);
     }
     let mut out = [0u8; SPACE];
     let place = put(
@@ -74,14 +74,14 @@ pub fn write_sound(
         SPACE,
     );
     if place < SPARE {
-        return Answer::Refused(TEXT_TOO_LONG);
+        return WriteAnswer::Refused(TEXT_TOO_LONG);
     }
     let size = SPACE - place;
     if buffer.len() < size {
-        return Answer::Refused(TEXT_TOO_LONG);
+        return WriteAnswer::Refused(TEXT_TOO_LONG);
     }
     copy(&out, place, buffer);
-    Answer::Length(size)
+    WriteAnswer::Length(size)
 }
 
 // A node's text in a lent buffer, on any store and any name list.
@@ -93,19 +93,19 @@ pub fn write(
     named: usize,
     id: u32,
     buffer: &mut [u8],
-) -> Answer
+) -> WriteAnswer
     ensures { λ r. ⌜ Writes (controllerMemory (now (nodes .entry)) (now (slots .entry)) arena (now (entries .entry)) named) id
         (now (buffer .entry)) r (now (buffer .exit)) ⌝ }
 {
     if !store::audit(nodes, slots, arena) {
-        return Answer::Refused(NOT_SOUND);
+        return WriteAnswer::Refused(NOT_SOUND);
     }
     if !names::is_sound(entries, named) {
-        return Answer::Refused(NOT_SOUND);
+        return WriteAnswer::Refused(NOT_SOUND);
     }
     let node = id as u64;
     if arena.count <= node {
-        return Answer::Refused(BAD_OPERAND);
+        return WriteAnswer::Refused(BAD_OPERAND);
     }
     write_sound(nodes, arena.count, entries, named, node, buffer)
 }

@@ -5,7 +5,7 @@ ghost use Prim.Native.Nat.{_≤_, _<_};
 ghost use lib.ListN.{drop};
 ghost use Rattle.expression_text.specs.Numeral.{mostWhole, mostDigits, hexDigits, numberSign, numeral, decimals, hexes, hexByte};
 ghost use Rattle.expression_text.specs.Proper.{numberBits};
-ghost use Rattle.writer.specs.Placing.{spare, IsWhole, Open, Puts};
+ghost use Rattle.writer.specs.Placing.{spare, IsWhole, Open, PutsBytes};
 use crate::placing::SPACE;
 use expression_text::MOST_WHOLE;
 use expression_text::NUMBER_SIGN;
@@ -34,7 +34,7 @@ fn digit(value: u64) -> u8
 // A whole number in fewest digits, in front.
 fn put_decimal(out: &mut [u8; SPACE], at: usize, n: u64) -> usize
     requires { ⌜ Open (now out) at × (n ≤ mostWhole) ⌝ }
-    ensures { λ r. ⌜ Puts (decimals mostDigits n (drop at (now (out .entry)))) spare at r (now (out .exit)) ⌝ }
+    ensures { λ r. ⌜ PutsBytes (decimals mostDigits n (drop at (now (out .entry)))) spare at r (now (out .exit)) ⌝ }
 {
     let mut place = at;
     let mut rest = n;
@@ -51,7 +51,7 @@ fn put_decimal(out: &mut [u8; SPACE], at: usize, n: u64) -> usize
 // # and 16 hex digits, in front.
 fn put_hex(out: &mut [u8; SPACE], at: usize, bits: u64) -> usize
     requires { ⌜ Open (now out) at ⌝ }
-    ensures { λ r. ⌜ Puts (numberSign ∷ hexes hexDigits bits (drop at (now (out .entry)))) spare at r (now (out .exit)) ⌝ }
+    ensures { λ r. ⌜ PutsBytes (numberSign ∷ hexes hexDigits bits (drop at (now (out .entry)))) spare at r (now (out .exit)) ⌝ }
 {
     let mut place = at;
     let mut rest = bits;
@@ -102,7 +102,7 @@ fn whole(bits: u64) -> u64
 // A constant in front.
 pub(crate) fn put_number(out: &mut [u8; SPACE], at: usize, bits: u64) -> usize
     requires { ⌜ Open (now out) at ⌝ }
-    ensures { λ r. ⌜ Puts (numeral bits ++ drop at (now (out .entry))) spare at r (now (out .exit)) ⌝ }
+    ensures { λ r. ⌜ PutsBytes (numeral bits ++ drop at (now (out .entry))) spare at r (now (out .exit)) ⌝ }
 {
     let n = whole(bits);
     if n <= MOST_WHOLE {

@@ -7,7 +7,7 @@ ghost use Rattle.definitions.specs.Node as N;
 ghost use Rattle.store.specs.View.{nodesIn};
 ghost use Rattle.names.specs.Sound as Names;
 ghost use Rattle.expression_text.specs.Written.{bare};
-ghost use Rattle.writer.specs.Placing.{spare, Named, Open, Puts, Writable, Placed, meant};
+ghost use Rattle.writer.specs.Placing.{spare, Named, Open, PutsBytes, Writable, PlacedText, meant};
 use crate::bytes::index;
 use crate::numerals::put_number;
 use crate::operators::FACTOR;
@@ -32,7 +32,7 @@ pub(crate) const ENTRY_BYTES: usize = 33;
 // One byte more in front.
 fn push(out: &mut [u8; SPACE], at: usize, byte: u8) -> usize
     requires { ⌜ Open (now out) at ⌝ }
-    ensures { λ r. ⌜ Puts (byte ∷ drop at (now (out .entry))) 1 at r (now (out .exit)) × (r + 1 ≡ at) ⌝ }
+    ensures { λ r. ⌜ PutsBytes (byte ∷ drop at (now (out .entry))) 1 at r (now (out .exit)) × (r + 1 ≡ at) ⌝ }
 {
     let place = at - 1;
     out[place] = byte;
@@ -42,7 +42,7 @@ fn push(out: &mut [u8; SPACE], at: usize, byte: u8) -> usize
 // A name in front.
 fn put_name(entries: &[u8], symbol: usize, out: &mut [u8; SPACE], at: usize) -> usize
     requires { ⌜ Named (now entries) symbol × Open (now out) at ⌝ }
-    ensures { λ r. ⌜ Puts (Names.nameAt (now (entries .entry)) symbol ++ drop at (now (out .entry))) spare at r (now (out .exit)) ⌝ }
+    ensures { λ r. ⌜ PutsBytes (Names.nameAt (now (entries .entry)) symbol ++ drop at (now (out .entry))) spare at r (now (out .exit)) ⌝ }
 {
     let start = symbol * ENTRY_BYTES;
     let mut left = index(entries[start]);
@@ -66,7 +66,7 @@ fn put_leaf(
     at: usize,
 ) -> usize
     requires { ⌜ Writable (now nodes) count (now entries) named id × (N.at (nodesIn (now nodes) count) id .kind ≤ 1) × Open (now out) at ⌝ }
-    ensures { λ r. ⌜ Puts (bare (meant (now (nodes .entry)) count (now (entries .entry)) named id) (drop at (now (out .entry)))) spare at r
+    ensures { λ r. ⌜ PutsBytes (bare (meant (now (nodes .entry)) count (now (entries .entry)) named id) (drop at (now (out .entry)))) spare at r
         (now (out .exit)) ⌝ }
 {
     let payload = store::payload(nodes, count, id);
@@ -89,7 +89,7 @@ pub(crate) fn put(
     from: usize,
 ) -> usize
     requires { ⌜ Writable (now nodes) count (now entries) named id × Open (now out) from ⌝ }
-    ensures { λ r. ⌜ Placed (meant (now (nodes .entry)) count (now (entries .entry)) named id) level left (drop from (now (out .entry)))
+    ensures { λ r. ⌜ PlacedText (meant (now (nodes .entry)) count (now (entries .entry)) named id) level left (drop from (now (out .entry)))
         (now (out .exit)) r ⌝ }
 {
     let mut node = id;

@@ -10,7 +10,7 @@ ghost use Rattle.store.specs.Lookup.{Lookup};
 ghost use Rattle.names.specs.Sound as Names;
 ghost use Rattle.expression_text.specs.Proper.{isName};
 ghost use Rattle.writer.specs.Expression.{Standing, isSome, symbolName};
-ghost use Rattle.writer.specs.Placing.{Known, expressionAt};
+ghost use Rattle.writer.specs.Placing.{KnownText, expressionAt};
 ghost use Rattle.writer.specs.Sweeping.{FormOf, Marks, Unreached};
 use crate::bytes::index;
 use crate::bytes::is_letter;
@@ -80,7 +80,7 @@ fn flags(nodes: &[u64], count: u64, id: u64) -> u64
 
 // Whether a symbol has a name of the text's form.
 fn is_named(entries: &[u8], named: usize, symbol: u64) -> bool
-    requires { ⌜ Names.Sound (now entries) named ⌝ }
+    requires { ⌜ Names.SoundNames (now entries) named ⌝ }
     ensures { λ r. ⌜ r ≡ isName (symbolName (Names.namesOf (now (entries .entry)) named) symbol) ⌝ }
 {
     if named as u64 <= symbol {
@@ -103,7 +103,7 @@ fn is_named(entries: &[u8], named: usize, symbol: u64) -> bool
 
 // Whether a node's kind, flags and number of children are such as texts have, its operands aside.
 fn stands(nodes: &[u64], count: u64, entries: &[u8], named: usize, id: u64) -> bool
-    requires { ⌜ Known (now nodes) count (now entries) named × (id < count) ⌝ }
+    requires { ⌜ KnownText (now nodes) count (now entries) named × (id < count) ⌝ }
     ensures { λ r. ⌜ Says r (Standing (Names.namesOf (now (entries .entry)) named) (N.at (nodesIn (now (nodes .entry)) count) id)) ⌝ }
 {
     let kind = store::kind(nodes, count, id);
@@ -152,7 +152,7 @@ fn sweep(
     root: u64,
     reached: &mut [u8; NODES],
 ) -> bool
-    requires { ⌜ Known (now nodes) count (now entries) named × (root < count) × Unreached (now reached) ⌝ }
+    requires { ⌜ KnownText (now nodes) count (now entries) named × (root < count) × Unreached (now reached) ⌝ }
     ensures { λ r. ⌜ r ≡ isSome (expressionAt (now (nodes .entry)) count (now (entries .entry)) named root) ⌝ }
 {
     reached[root as usize] = 1;
@@ -170,7 +170,7 @@ fn sweep(
 }
 
 pub(crate) fn has_text(nodes: &[u64], count: u64, entries: &[u8], named: usize, root: u64) -> bool
-    requires { ⌜ Known (now nodes) count (now entries) named × (root < count) ⌝ }
+    requires { ⌜ KnownText (now nodes) count (now entries) named × (root < count) ⌝ }
     ensures { λ r. ⌜ r ≡ isSome (expressionAt (now (nodes .entry)) count (now (entries .entry)) named root) ⌝ }
 {
     let mut reached = [0u8; NODES];

@@ -63,10 +63,10 @@ fn over_last(nodes: &mut [u64; WORDS], slots: &mut [u32; SLOTS], state: State, c
 }
 
 // The id that was answered, or another.
-fn id_or(answer: store::Answer, other: u32) -> u32 {
+fn id_or(answer: store::NodeAnswer, other: u32) -> u32 {
     match answer {
-        store::Answer::Id(id) => low(id),
-        store::Answer::Refused(_) => other,
+        store::NodeAnswer::Id(id) => low(id),
+        store::NodeAnswer::Refused(_) => other,
     }
 }
 

@@ -31,13 +31,13 @@ pub(crate) fn intern_name(entries: &mut [u8; ENTRIES], state: State, name: &[u8]
     let interned = names::intern(entries, state.names, name);
     let answer = interned.answer;
     match answer {
-        names::Answer::Numbered(number) => {
+        names::NameReply::Numbered(number) => {
             say(b"number ");
             say_number(number as u64);
         }
-        names::Answer::Unknown => say(b"unknown"),
-        names::Answer::Named(_) => say(b"unknown"),
-        names::Answer::Refused(number) => {
+        names::NameReply::Unknown => say(b"unknown"),
+        names::NameReply::Named(_) => say(b"unknown"),
+        names::NameReply::Refused(number) => {
             say(b"refused ");
             say_number(number);
         }

@@ -24,7 +24,7 @@ pub(crate) fn after(built: Built, state: State) -> State {
     let arena = built.arena;
     let answer = built.answer;
     match answer {
-        store::Answer::Id(id) => {
+        store::NodeAnswer::Id(id) => {
             say(b"id ");
             say_number(id);
             State {
@@ -33,7 +33,7 @@ pub(crate) fn after(built: Built, state: State) -> State {
                 last: low(id),
             }
         }
-        store::Answer::Refused(number) => {
+        store::NodeAnswer::Refused(number) => {
             say(b"refused ");
             say_number(number);
             State {

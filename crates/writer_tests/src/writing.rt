@@ -49,14 +49,14 @@ fn write_last(
         buffer,
     );
     match answer {
-        writer::Answer::Length(bytes) => {
+        writer::WriteAnswer::Length(bytes) => {
             say_number(bytes as u64);
             say(b" ");
             say_first(buffer, bytes);
             say_whether_touched(buffer, bytes);
             bytes
         }
-        writer::Answer::Refused(number) => {
+        writer::WriteAnswer::Refused(number) => {
             say(b"refused ");
             say_number(number);
             say_whether_touched(buffer, 0);

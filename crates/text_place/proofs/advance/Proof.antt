@@ -1,7 +1,7 @@
 use Prim.Native.Nat.{ℕ, _<_}
 use native.Mathlib.Omega.{arith}
 use mathlib.Core.Path.{subst}
-use Rattle.text_place.specs.declared.Progress.{Progress}
+use Rattle.text_place.specs.declared.ScanProgress.{ScanProgress}
 use Rattle.text_place.specs.Progress.{openIn}
 use Rattle.text_place.proofs.Bytes.{digits-on, digits-end, name-on, name-end, wanted-on, bits-on, ended-on, still-short}
 use borrow.Author.Needs.{needs}
@@ -12,7 +12,7 @@ enum-known-progress : tie.Need-enum-known-progress
 enum-known-progress c = search needs
 
 operand-byte-requires : tie.Need-operand-byte-requires
-operand-byte-requires c κs = subst (λ (p : Progress). openIn p < 18446744073709551615) (c .before .progress .given .1) (c .before .before .before .pre)
+operand-byte-requires c κs = subst (λ (p : ScanProgress). openIn p < 18446744073709551615) (c .before .progress .given .1) (c .before .before .before .pre)
 
 enum-known-progress-2 : tie.Need-enum-known-progress-2
 enum-known-progress-2 c = search needs

@@ -1,5 +1,5 @@
 -- `store::interning::intern_counted` meets its contract: the table's answer, seen as the store's.
-use Rattle.dedup.specs.declared.Answer.the-variants.{Old, New, Refused}
+use Rattle.dedup.specs.declared.Insertion.the-variants.{Old, New, Refused}
 use Rattle.store.proofs.NewNodes.{new-formed, new-plain, new-places, new-key}
 use Rattle.store.proofs.Refining.{seen}
 use borrow.Author.Needs.{needs}

@@ -1,7 +1,7 @@
 -- `sums::sum::add` meets its contract: the store's answer, seen as a number.
 use native.Mathlib.Omega.{arith}
 use Rattle.definitions.specs.Patterns.{internAdd}
-use Rattle.store.specs.declared.Answer.the-variants.{Id, Refused}
+use Rattle.store.specs.declared.NodeAnswer.the-variants.{Id, Refused}
 use Rattle.sums.proofs.Adding.{add-fits}
 use Rattle.sums.proofs.Stopping.{refusal-small}
 use Rattle.sums.proofs.Numbers.{as-number, id-small}
