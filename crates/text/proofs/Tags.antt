@@ -5,7 +5,7 @@ use mathlib.Core.List.{[], _∷_}
 use native.Mathlib.Omega.{arith}
 use types.Run.{OneOf}
 use denote.Enum.Declared.{tagOf}
-use Rattle.names.proofs.Answer as names
+use Rattle.names.proofs.NameReply as names
 use Rattle.names.specs.declared.NameReply.{NameReply}
 use Rattle.names.specs.declared.NameReply.the-variants.{Numbered, Unknown, Named, Refused}
 use Rattle.text.proofs.Performing.{NotNumbered}
