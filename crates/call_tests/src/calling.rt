@@ -31,7 +31,7 @@ fn given(line: &[u8], code: u32, turn: u32) -> Values
     }
 }
 
-fn arguments(code: u32, a: u64, b: u64, wide: u64, first: usize) -> Arguments
+fn arguments_from(code: u32, a: u64, b: u64, wide: u64, first: usize) -> Arguments
     ensures { λ r. ⌜ r .header .code ≡ code ⌝ }
 {
     Arguments {
@@ -51,11 +51,11 @@ fn arguments_of(code: u32, list: [u64; MOST_VALUES]) -> Arguments
     ensures { λ r. ⌜ r .header .code ≡ code ⌝ }
 {
     match code {
-        codes::CONSTANT => arguments(code, 0, 0, list[1], MOST_VALUES),
-        codes::PRUNE => arguments(code, list[1], 0, list[2], MOST_VALUES),
-        codes::OPERATOR => arguments(code, list[1], list[2], 0, 3),
-        codes::FUNCTION | codes::CONTROL => arguments(code, list[1], 0, 0, 2),
-        codes::INTERN | codes::LOOKUP | codes::READ => arguments(code, 0, 0, 0, 1),
+        codes::CONSTANT => arguments_from(code, 0, 0, list[1], MOST_VALUES),
+        codes::PRUNE => arguments_from(code, list[1], 0, list[2], MOST_VALUES),
+        codes::OPERATOR => arguments_from(code, list[1], list[2], 0, 3),
+        codes::FUNCTION | codes::CONTROL => arguments_from(code, list[1], 0, 0, 2),
+        codes::INTERN | codes::LOOKUP | codes::READ => arguments_from(code, 0, 0, 0, 1),
         codes::SELECT | codes::IF_ELSE | codes::FOR_LOOP => Arguments {
             header: Header {
                 code,
@@ -66,7 +66,7 @@ fn arguments_of(code: u32, list: [u64; MOST_VALUES]) -> Arguments
             },
             first: MOST_VALUES,
         },
-        _ => arguments(code, list[1], list[2], list[3], MOST_VALUES),
+        _ => arguments_from(code, list[1], list[2], list[3], MOST_VALUES),
     }
 }
 
