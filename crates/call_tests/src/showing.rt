@@ -6,10 +6,10 @@ use scripts::printing::number;
 use scripts::printing::refused;
 use scripts::printing::text;
 use store_calls::Answer;
-use store_calls::Pruned;
-use store_calls::Walked;
+use store_calls::PruneResult;
+use store_calls::WalkResult;
 
-fn walked(answer: Walked) {
+fn walked(answer: WalkResult) {
     if answer.spent {
         text(b" spent");
     }
@@ -18,7 +18,7 @@ fn walked(answer: Walked) {
     number(answer.steps);
 }
 
-fn pruned(answer: Pruned) {
+fn pruned(answer: PruneResult) {
     number(answer.id);
     text(b" kept");
     number(answer.kept);

@@ -23,14 +23,14 @@ use Rattle.text.specs.Calling as Text
 use Rattle.calls.specs.declared.handing.CallResult.{CallResult}
 use Rattle.calls.specs.declared.handing.LastReply.{LastReply}
 use Rattle.calls.specs.declared.handing.LastReply.the-variants as Last
-use Rattle.calls.specs.declared.naming.Named.{Named}
+use Rattle.calls.specs.declared.naming.NameCallResult.{NameCallResult}
 use Rattle.text.specs.Memory.{ControllerMemory, controllerMemory}
 use Rattle.definitions.specs.Beside.{beside}
 use Rattle.calls.specs.Memory.{CallLeaves, by-store, by-names, by-text}
 use Rattle.calls.specs.Calling.{lastReplyOf, NameBeside, RunsStoreCall, RunsNameCall, RunsCall}
 use Rattle.encoding.specs.declared.headers.Header.{Header}
-use Rattle.encoding.specs.declared.headers.Operands.{Operands}
-use Rattle.encoding.specs.declared.headers.Operands.the-variants.{InHeader}
+use Rattle.encoding.specs.declared.headers.HeaderOperands.{HeaderOperands}
+use Rattle.encoding.specs.declared.headers.HeaderOperands.the-variants.{InHeader}
 use Rattle.encoding.specs.declared.headers.StoreCall.{StoreCall}
 use Rattle.encoding.specs.Encoding.{firstNaming, firstReading, lastCode, bytesOf, callOfCode}
 use Rattle.encoding.specs.Headers.{headerCall, operandsOf, InNumbers, DecodesTo, DecodesHeader}
@@ -45,13 +45,13 @@ runs call c operands m m′ r d h = record {
 }
 
 -- where they stand
-pub placed : (h : Header) (r : StoreCall) (place : Operands) (operands : List ℕ) → DecodesHeader h r → r .operands ≡ place → DecodesTo (headerCall h operands) (r .call) (operandsOf h place operands)
-placed h r place operands d e = subst (λ (x : Operands). DecodesTo (headerCall h operands) (r .call) (operandsOf h x operands)) e (d .decodes operands)
+pub placed : (h : Header) (r : StoreCall) (place : HeaderOperands) (operands : List ℕ) → DecodesHeader h r → r .operands ≡ place → DecodesTo (headerCall h operands) (r .call) (operandsOf h place operands)
+placed h r place operands d e = subst (λ (x : HeaderOperands). DecodesTo (headerCall h operands) (r .call) (operandsOf h x operands)) e (d .decodes operands)
 
 pub few-numbers : (h : Header) (r : StoreCall) (n : ℕ) → DecodesHeader h r → r .operands ≡ InHeader n → n ≤ 4
 few-numbers h r n d e = subst InNumbers e (d .few)
 
-pub runs-names : (header : Header) (k : ℕ) (operands : List ℕ) (x : NameCall) (bytes bytes′ : List ℕ) (count : ℕ) (r : Named)
+pub runs-names : (header : Header) (k : ℕ) (operands : List ℕ) (x : NameCall) (bytes bytes′ : List ℕ) (count : ℕ) (r : NameCallResult)
     → header .code ≡ k → NameListCalled bytes count x (answerOf (r .answer) (r .bytes)) bytes′ (r .count) → NameBeside (Last.Names (r .answer)) (r .bytes)
     → callOfCode k (header .a) (header .b) (header .high) (header .low) operands ≡ some (naming x) → RunsNameCall (headerCall header operands) bytes count r bytes′
 runs-names header k operands x bytes bytes′ count r e h name table = record {
@@ -82,7 +82,7 @@ runs-store call m words slots bytes count r h f (same, zeros, kept, many) = reco
       (by-store (subst (λ y. Leaves (f .ran) m (Calls.answerOf (r .answer)) (memory words slots y)) (sym kept) (f .leaves)));
 }
 
-pub runs-naming : (call : Option ControllerCall) (m : Memory) (words slots bytes bytes′ : List ℕ) (arena : DagArena) (count : ℕ) (r : Named) (h : CallResult)
+pub runs-naming : (call : Option ControllerCall) (m : Memory) (words slots bytes bytes′ : List ℕ) (arena : DagArena) (count : ℕ) (r : NameCallResult) (h : CallResult)
     → m ≡ memory words slots arena → RunsNameCall call bytes count r bytes′
     → (h .reply ≡ Last.Names (r .answer)) × (h .name ≡ r .bytes) × (h .arena ≡ arena) × (h .names ≡ r .count)
     → RunsCall call (beside model nameModel m (nameMemory bytes count)) h (controllerMemory words slots (h .arena) bytes′ (h .names))

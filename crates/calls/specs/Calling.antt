@@ -14,7 +14,7 @@ use Rattle.names.specs.Calls.{answerOf, NameListCalled, bytesBeside, LengthFits
 use Rattle.calls.specs.declared.handing.LastReply.{LastReply}
 use Rattle.calls.specs.declared.handing.LastReply.the-variants as Last
 use Rattle.calls.specs.declared.handing.CallResult.{CallResult}
-use Rattle.calls.specs.declared.naming.Named.{Named}
+use Rattle.calls.specs.declared.naming.NameCallResult.{NameCallResult}
 use Rattle.text.specs.Memory.{ControllerMemory}
 use Rattle.calls.specs.Memory.{CallLeaves}
 
@@ -37,7 +37,7 @@ pub record RunsStoreCall (call : Option ControllerCall) (m : Memory) (r : Perfor
   pub leaves : Leaves ran m (Calls.answerOf (r .answer)) m′
 
 -- there is a name call, and it meets the contract of the public call that it stands for
-pub record RunsNameCall (call : Option ControllerCall) (bytes : List ℕ) (count : ℕ) (r : Named) (bytes′ : List ℕ) : Type 0 where
+pub record RunsNameCall (call : Option ControllerCall) (bytes : List ℕ) (count : ℕ) (r : NameCallResult) (bytes′ : List ℕ) : Type 0 where
   pub ran : NameCall
   pub is : call ≡ some (naming ran)
   pub called : NameListCalled bytes count ran (answerOf (r .answer) (r .bytes)) bytes′ (r .count)

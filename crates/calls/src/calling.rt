@@ -14,7 +14,7 @@ use crate::reading::call_reading;
 use arena::DagArena;
 use encoding::codes;
 use encoding::headers::Header;
-use encoding::headers::Operands;
+use encoding::headers::HeaderOperands;
 use encoding::headers::store_call;
 use store_calls::Performed;
 use store_calls::perform;
@@ -41,8 +41,8 @@ fn call_store(
     let call = decoded.call;
     let place = decoded.operands;
     match place {
-        Operands::Listed => perform(nodes, slots, arena, call, operands),
-        Operands::InHeader(count) => {
+        HeaderOperands::Listed => perform(nodes, slots, arena, call, operands),
+        HeaderOperands::InHeader(count) => {
             let numbers = [header.a, header.b, header.high, header.low];
             perform(nodes, slots, arena, call, &numbers[..count])
         }

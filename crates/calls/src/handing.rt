@@ -6,7 +6,7 @@ ghost use Rattle.definitions.specs.Names.{longestName};
 ghost use Rattle.text.specs.Calling as Text;
 ghost use Rattle.calls.specs.Calling.{lastReplyOf, NameBeside};
 ghost use Rattle.calls.specs.declared.handing.LastReply.the-variants as Last;
-use crate::naming::Named;
+use crate::naming::NameCallResult;
 use arena::DagArena;
 use encoding::spelling::LONGEST_NAME;
 use store::Built;
@@ -59,7 +59,7 @@ pub(crate) fn of_store(performed: Performed, names: usize) -> CallResult
 }
 
 // What a name call hands on.
-pub(crate) fn of_names(named: Named, arena: DagArena) -> CallResult
+pub(crate) fn of_names(named: NameCallResult, arena: DagArena) -> CallResult
     ensures { λ r. ⌜ (r .reply ≡ Last.Names (named .answer)) × (r .name ≡ named .bytes)
         × (r .arena ≡ arena) × (r .names ≡ named .count) ⌝ }
 {

@@ -9,7 +9,7 @@ use encoding::spelling::LONGEST_NAME;
 use encoding::spelling::spell_name;
 
 // An answer, the bytes of a name that it gives the length of, and how many names there are then.
-pub(crate) struct Named {
+pub(crate) struct NameCallResult {
     pub answer: names::NameReply,
     pub bytes: [u8; LONGEST_NAME],
     pub count: usize,
@@ -20,7 +20,7 @@ pub(crate) fn call_names(
     count: usize,
     header: Header,
     operands: &[u32],
-) -> Named
+) -> NameCallResult
     requires { ⌜ (firstNaming ≤ header .code) × (header .code < firstReading) ⌝ }
     ensures { λ r. ⌜ RunsNameCall (headerCall header (now (operands .entry))) (now (entries .entry)) count r (now (entries .exit)) ⌝ }
 {
@@ -29,7 +29,7 @@ pub(crate) fn call_names(
         let told = names::name(entries, count, header.a);
         let answer = told.answer;
         let bytes = told.bytes;
-        return Named {
+        return NameCallResult {
             answer,
             bytes,
             count,
@@ -42,14 +42,14 @@ pub(crate) fn call_names(
         let interned = names::intern(entries, count, &bytes[..length]);
         let answer = interned.answer;
         let next = interned.count;
-        return Named {
+        return NameCallResult {
             answer,
             bytes: [0u8; LONGEST_NAME],
             count: next,
         };
     }
     let answer = names::lookup(entries, count, &bytes[..length]);
-    Named {
+    NameCallResult {
         answer,
         bytes: [0u8; LONGEST_NAME],
         count,

@@ -13,6 +13,7 @@ use Rattle.chains.specs.declared.chain.Waiting.{Waiting}
 use Rattle.chains.specs.declared.chain.Waiting.the-variants.{Before, Nowhere}
 use Rattle.chains.specs.declared.chain.Flattened.{Flattened}
 use Rattle.chains.specs.declared.chain.Flattened.the-variants.{Terms, TooMany}
+pub use Rattle.arena.specs.Nodes.{AllBelow}
 
 -- the children of a node in memory
 abbrev pub childrenIn : List ℕ → ℕ → ℕ → List ℕ
@@ -22,10 +23,6 @@ childrenIn words count id = at (nodesIn words count) id .children
 pub record Readable (words : List ℕ) (count : ℕ) : Type 0 where
   pub lookup : (id : ℕ) → id < count → Lookup words count id
   pub filled : (id : ℕ) → id < count → at (nodesIn words count) id .kind ≡ addKind → 0 < length (childrenIn words count id)
-
--- every id of a list is one of the store
-abbrev pub AllBelow : ℕ → List ℕ → Type 0
-AllBelow count ids = (place : ℕ) → place < length ids → getD ids place 0 < count
 
 -- How the children of an Add before its last are put after the ids that wait before `top`: before a place, so that those from `free` on
 -- stay, or nowhere, since there are more children than places.

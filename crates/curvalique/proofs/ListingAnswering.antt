@@ -3,8 +3,8 @@ use Prim.Native.Nat.{ℕ}
 use mathlib.Core.Path.{_≡_, refl, sym, ap, _∙_, subst}
 use mathlib.Core.List.{List, [], _∷_}
 use lib.ListN.{getD}
-use Rattle.listing_lines.specs.declared.Outcome.{Outcome}
-use Rattle.listing_lines.specs.declared.Outcome.the-variants.{Ok, Empty, Spent, Refused}
+use Rattle.listing_lines.specs.declared.SheetOutcome.{SheetOutcome}
+use Rattle.listing_lines.specs.declared.SheetOutcome.the-variants.{Ok, Empty, Spent, Refused}
 use Rattle.listing_reader.specs.declared.ListingAnswer.{ListingAnswer}
 use Rattle.listing_reader.specs.declared.ListingAnswer.the-variants.{Read, Refused as RefusedLine, Full}
 use Rattle.listing_reader.specs.Listing.{ListingReading}

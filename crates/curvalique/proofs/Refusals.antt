@@ -23,11 +23,11 @@ use Rattle.definitions.proofs.Stopping.{NoPlace, StopsForPlace, intern-stops}
 use Rattle.store.specs.Memory.{Memory, model}
 use Rattle.walk.proofs.Refusing.{refused-full}
 use Rattle.sums.proofs.Halving.{sum-stops}
-use Rattle.curvalique.specs.Kinds.{Kind, making, walking, pruning, kindOf}
+use Rattle.curvalique.specs.Kinds.{CallKind, making, walking, pruning, kindOf}
 use Rattle.outputs.specs.Calls.{AnswersNode, AnswersWalk, AnswersPrune}
 
 -- an answer of its kind, or a refusal with a number from 1 on
-abbrev pub Numbered : Answer → Kind → Type 0
+abbrev pub Numbered : Answer → CallKind → Type 0
 Numbered (stored id) making = Unit {0}
 Numbered (stored id) walking = ⊥
 Numbered (stored id) pruning = ⊥
@@ -140,7 +140,7 @@ plain-numbered l s (M.prune i t) = prunes-numbered l (s .nodes) i (given t) (giv
 plain-numbered l s (M.pruneBySetting i n) = prunes-numbered l (s .nodes) i (setting n) (setting-numbered n)
 
 -- what cannot be otherwise is so
-certain : (a : Answer) (k : Kind) → ((Numbered a k → ⊥) → ⊥) → Numbered a k
+certain : (a : Answer) (k : CallKind) → ((Numbered a k → ⊥) → ⊥) → Numbered a k
 certain (stored id) making f = tt
 certain (stored id) walking f = absurd (f (λ x. x))
 certain (stored id) pruning f = absurd (f (λ x. x))
@@ -166,7 +166,7 @@ never-0 c m m′ h = call-numbered c m (refused 0) m′ h refl
 -- ---- the kind of an answer alone
 
 module _ (a : Answer) (m m′ : Memory) (c : Call) (h : Called model c m a m′) where
-  numbered : (k : Kind) → kindOf c ≡ k → Numbered a k
+  numbered : (k : CallKind) → kindOf c ≡ k → Numbered a k
   numbered k e = subst (Numbered a) e (call-numbered c m a m′ h)
 
   pub answers-node : kindOf c ≡ making → AnswersNode a

@@ -17,13 +17,13 @@ use Rattle.definitions.specs.Listing.{lastOf}
 use Rattle.arena.specs.declared.DagArena.{DagArena}
 use Rattle.store.specs.View.{lent}
 use Rattle.store.specs.Memory.{Memory, model}
-use Rattle.listing_lines.specs.declared.Outcome.{Outcome}
-use Rattle.listing_lines.specs.declared.Outcome.the-variants.{Ok, Empty, Spent, Refused}
+use Rattle.listing_lines.specs.declared.SheetOutcome.{SheetOutcome}
+use Rattle.listing_lines.specs.declared.SheetOutcome.the-variants.{Ok, Empty, Spent, Refused}
 use Rattle.listing_lines.specs.Outcome.{answeredAs, outcomeOf}
 use Rattle.sheet.specs.declared.Ran.{Ran}
 use Rattle.records.specs.Reading.{isSheet}
 use Rattle.sheet.specs.Sheets.{Ended, Runs, notOpened, RunsFresh}
-use Rattle.curvalique.specs.Kinds.{Kind, kindOf}
+use Rattle.curvalique.specs.Kinds.{CallKind, kindOf}
 use Rattle.curvalique.proofs.Refusals.{Numbered, plain-numbered}
 
 -- ---- the plain machine's sheet
@@ -37,7 +37,7 @@ abbrev RanNumbered : Sheet.Ran → Type 0
 RanNumbered ran = RefusalNumbered (ran .refusal)
 
 -- after a call
-called-numbered : (al : List M.Answer) (st : M.State) (a : M.Answer) (k : Kind) (more : Sheet.Ran) → Numbered a k → RanNumbered more → RanNumbered (elim (Sheet.refusalOf a) [ none ↦ more | some r ↦ Sheet.ran al (some (r, length al)) st ])
+called-numbered : (al : List M.Answer) (st : M.State) (a : M.Answer) (k : CallKind) (more : Sheet.Ran) → Numbered a k → RanNumbered more → RanNumbered (elim (Sheet.refusalOf a) [ none ↦ more | some r ↦ Sheet.ran al (some (r, length al)) st ])
 called-numbered al st (M.stored id) k more n h = h
 called-numbered al st (M.simplified id spent steps) k more n h = h
 called-numbered al st (M.pruned id kept dropped) k more n h = h
@@ -74,7 +74,7 @@ sheet-numbered l st (v ∷ bs) = by (eqb v 1 && leb (length (v ∷ bs)) mostShee
 
 -- ---- outcomes
 
-abbrev OutcomeNumbered : Outcome → Type 0
+abbrev OutcomeNumbered : SheetOutcome → Type 0
 OutcomeNumbered (Ok id) = Unit {0}
 OutcomeNumbered Empty = Unit {0}
 OutcomeNumbered (Spent id) = Unit {0}
@@ -96,7 +96,7 @@ numbers-differ : (at : ℕ) → Refused 0 at ≡ Refused notSound 0 → ⊥
 numbers-differ at e = let z : _≡_ {A = ℕ} 0 20 = cc in omega arith
 
 -- a sheet on any store: where the store is not sound, the number is 20
-pub runs-never-0 : (s : List ℕ) (m : Memory) (o : Outcome) (m′ : Memory) → Runs s m o m′ → (at : ℕ) → o ≡ Refused 0 at → ⊥
+pub runs-never-0 : (s : List ℕ) (m : Memory) (o : SheetOutcome) (m′ : Memory) → Runs s m o m′ → (at : ℕ) → o ≡ Refused 0 at → ⊥
 runs-never-0 s m o m′ h at e =
     let ran = Sheet.sheet (model .lent m) (model .view m) s in
     let not-sound : model .Sound m → ⊥ =

@@ -2,12 +2,12 @@
 use Rattle.definitions.specs.Machine as M
 
 -- a node, a walk or a prune
-pub data Kind : Type 0 where
-  making : Kind
-  walking : Kind
-  pruning : Kind
+pub data CallKind : Type 0 where
+  making : CallKind
+  walking : CallKind
+  pruning : CallKind
 
-abbrev pub kindOf : M.Call → Kind
+abbrev pub kindOf : M.Call → CallKind
 kindOf (M.store c) = making
 kindOf (M.simplify mode root depth budget) = walking
 kindOf (M.prune root threshold) = pruning

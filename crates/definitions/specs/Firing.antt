@@ -77,28 +77,40 @@ frameFiring m l ns i c = taken (rebuildAs m l ns i c) (firing m l ns (at ns i .k
 
 -- ---- cases, each computed
 
--- x, 0.0, -0.0, 2, 3, the infinities, 2·x, 2 + 3 and x + 0.0
+-- x, 0.0, -0.0, 2, 3, the infinities, 2·x, 2 + 3, x + 0.0, -x, 1, and x + 2
 abbrev nodes : List Node
 nodes =
     node variableKind 0 0 [] ∷ node constantKind plusZeroBits 0 [] ∷ node constantKind minusZeroBits 0 []
     ∷ node constantKind 0x4000000000000000 0 [] ∷ node constantKind 0x4008000000000000 0 []
     ∷ node constantKind 0x7FF0000000000000 0 [] ∷ node constantKind 0xFFF0000000000000 0 []
-    ∷ node mulKind 0 bothFlags (3 ∷ 0 ∷ []) ∷ node addKind 0 bothFlags (3 ∷ 4 ∷ []) ∷ node addKind 0 bothFlags (0 ∷ 1 ∷ []) ∷ []
+    ∷ node mulKind 0 bothFlags (3 ∷ 0 ∷ []) ∷ node addKind 0 bothFlags (3 ∷ 4 ∷ []) ∷ node addKind 0 bothFlags (0 ∷ 1 ∷ [])
+    ∷ node negKind 0 0 (0 ∷ []) ∷ node constantKind 0x3FF0000000000000 0 [] ∷ node addKind 0 bothFlags (0 ∷ 3 ∷ []) ∷ []
 
--- x + 0.0, 2 + 3, (2·x)·3, and inf + -inf, which folds to NaN; strictly 2 + (-0.0), an identity before a fold, 2 + 3, and x + 0.0
+-- each of the nine: x + 0.0, x - x, x · 1, x / 1, x ^ 1, -(-x), 2 + 3, (2·x)·3 and (x + 2) + 3
 pub cases : (l : Lent) → (firing standard l nodes addKind (0 ∷ 1 ∷ []) ≡ some addZero)
+    × (firing standard l nodes subKind (0 ∷ 0 ∷ []) ≡ some subIdentity)
+    × (firing standard l nodes mulKind (0 ∷ 11 ∷ []) ≡ some mulIdentity)
+    × (firing standard l nodes divKind (0 ∷ 11 ∷ []) ≡ some divIdentity)
+    × (firing standard l nodes powKind (0 ∷ 11 ∷ []) ≡ some powIdentity)
+    × (firing standard l nodes negKind (10 ∷ []) ≡ some negDouble)
     × (firing standard l nodes addKind (3 ∷ 4 ∷ []) ≡ some constantFold)
     × (firing standard l nodes mulKind (7 ∷ 4 ∷ []) ≡ some mulCoefMerge)
-    × (firing standard l nodes addKind (5 ∷ 6 ∷ []) ≡ none)
+    × (firing standard l nodes addKind (12 ∷ 4 ∷ []) ≡ some addCoefMerge)
+unfolding firing P.addZero P.subIdentity P.mulIdentity P.divIdentity P.powIdentity P.constantValue P.fold P.binary64Result P.mulCoefMerge P.addCoefMerge ofBits eq
+cases l = (refl, refl, refl, refl, refl, refl, refl, refl, refl)
+
+-- inf + -inf, which folds to NaN, fires nothing; strictly 2 + (-0.0), an identity before a fold, 2 + 3, -(-x), and x + 0.0, which is none
+pub other-cases : (l : Lent) → (firing standard l nodes addKind (5 ∷ 6 ∷ []) ≡ none)
     × (firing strict l nodes addKind (3 ∷ 2 ∷ []) ≡ some addZero)
     × (firing strict l nodes addKind (3 ∷ 4 ∷ []) ≡ some constantFold)
+    × (firing strict l nodes negKind (10 ∷ []) ≡ some negDouble)
     × (firing strict l nodes addKind (0 ∷ 1 ∷ []) ≡ none)
 unfolding firing P.addZero P.mulIdentity P.constantValue P.fold P.binary64Result P.mulCoefMerge ofBits eq
-cases l = (refl, refl, refl, refl, refl, refl, refl)
+other-cases l = (refl, refl, refl, refl, refl)
 
 -- a store without a place: the fold of 2 + 3 is stopped by 21, and x + 0.0 needs no place
 abbrev full : Lent
-full = record { nodes = 10; slots = 64 }
+full = record { nodes = 13; slots = 64 }
 
 pub stopped-cases : (frameFiring standard full nodes 8 (3 ∷ 4 ∷ []) ≡ none) × (frameFiring standard full nodes 9 (0 ∷ 1 ∷ []) ≡ some addZero)
 unfolding frameFiring

@@ -10,12 +10,12 @@ use Rattle.store_calls.specs.declared.Call.{Call}
 use Rattle.store_calls.specs.Calls.{callOf, SameCall}
 use Rattle.store_calls.proofs.Same.{same-equal, same-request}
 use Rattle.encoding.specs.declared.headers.Header.{Header}
-use Rattle.encoding.specs.declared.headers.Operands.{Operands}
+use Rattle.encoding.specs.declared.headers.HeaderOperands.{HeaderOperands}
 use Rattle.encoding.specs.declared.headers.StoreCall.{StoreCall}
 use Rattle.encoding.specs.Encoding.{firstWithOperands, firstRewriting, firstNaming, callOfCode}
 use Rattle.encoding.specs.Headers.{operandsOf, InNumbers, DecodesHeader}
 
-module _ (h : Header) (k : ℕ) (e : h .code ≡ k) (call : Call) (place : Operands) (r : StoreCall) (is : r ≡ record { call = call; operands = place }) (few : InNumbers place) where
+module _ (h : Header) (k : ℕ) (e : h .code ≡ k) (call : Call) (place : HeaderOperands) (r : StoreCall) (is : r ≡ record { call = call; operands = place }) (few : InNumbers place) where
   -- the line of a code's table, with a call that is the same
   decodes : (plain : List ℕ → M.Call) → ((operands : List ℕ) → callOfCode k (h .a) (h .b) (h .high) (h .low) operands ≡ some (asked (plain operands)))
       → ((operands : List ℕ) → SameCall (callOf call (operandsOf h place operands)) (plain operands)) → DecodesHeader h r

@@ -9,8 +9,8 @@ use Rattle.definitions.specs.Controller.{ControllerCall, asked}
 use Rattle.store_calls.specs.declared.Call.{Call}
 use Rattle.store_calls.specs.Calls.{callOf, SameCall}
 use Rattle.encoding.specs.declared.headers.Header.{Header}
-use Rattle.encoding.specs.declared.headers.Operands.{Operands}
-use Rattle.encoding.specs.declared.headers.Operands.the-variants.{Listed, InHeader}
+use Rattle.encoding.specs.declared.headers.HeaderOperands.{HeaderOperands}
+use Rattle.encoding.specs.declared.headers.HeaderOperands.the-variants.{Listed, InHeader}
 use Rattle.encoding.specs.declared.headers.StoreCall.{StoreCall}
 use Rattle.encoding.specs.Encoding.{callOfCode}
 
@@ -22,11 +22,11 @@ headerCall h operands = callOfCode (h .code) (h .a) (h .b) (h .high) (h .low) op
 abbrev pub headerNumbers : Header → List ℕ
 headerNumbers h = h .a ∷ h .b ∷ h .high ∷ h .low ∷ []
 
-abbrev pub operandsOf : Header → Operands → List ℕ → List ℕ
+abbrev pub operandsOf : Header → HeaderOperands → List ℕ → List ℕ
 operandsOf h Listed operands = operands
 operandsOf h (InHeader n) operands = take n (headerNumbers h)
 
-abbrev pub InNumbers : Operands → Type 0
+abbrev pub InNumbers : HeaderOperands → Type 0
 InNumbers Listed = Unit {0}
 InNumbers (InHeader n) = n ≤ 4
 

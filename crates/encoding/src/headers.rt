@@ -28,7 +28,7 @@ pub struct Header {
 }
 
 // Where the operands of a call stand.
-pub enum Operands {
+pub enum HeaderOperands {
     // Behind the header.
     Listed,
     // So many of the header's a, b, high and low.
@@ -37,7 +37,7 @@ pub enum Operands {
 
 pub struct StoreCall {
     pub call: Call,
-    pub operands: Operands,
+    pub operands: HeaderOperands,
 }
 
 // A number of 64 bits by its halves.
@@ -49,27 +49,27 @@ fn wide(high: u32, low: u32) -> u64
 
 // A call over the first numbers of the header.
 fn in_header(call: Call, count: usize) -> StoreCall
-    ensures { λ r. ⌜ r ≡ record { call = call; operands = Operands.InHeader count } ⌝ }
+    ensures { λ r. ⌜ r ≡ record { call = call; operands = HeaderOperands.InHeader count } ⌝ }
 {
     StoreCall {
         call,
-        operands: Operands::InHeader(count),
+        operands: HeaderOperands::InHeader(count),
     }
 }
 
 // A call over the operands behind the header.
 fn listed(call: Call) -> StoreCall
-    ensures { λ r. ⌜ r ≡ record { call = call; operands = Operands.Listed } ⌝ }
+    ensures { λ r. ⌜ r ≡ record { call = call; operands = HeaderOperands.Listed } ⌝ }
 {
     StoreCall {
         call,
-        operands: Operands::Listed,
+        operands: HeaderOperands::Listed,
     }
 }
 
 // An operator over the first numbers of the header.
 fn operator(code: u32, flags: u32, count: usize) -> StoreCall
-    ensures { λ r. ⌜ r ≡ record { call = Call.Operator code flags; operands = Operands.InHeader count } ⌝ }
+    ensures { λ r. ⌜ r ≡ record { call = Call.Operator code flags; operands = HeaderOperands.InHeader count } ⌝ }
 {
     in_header(Call::Operator { code, flags }, count)
 }

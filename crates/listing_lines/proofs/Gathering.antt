@@ -9,7 +9,7 @@ use native.Mathlib.Nat.{min-le-left}
 use Rattle.definitions.specs.Listing.{lineFeed}
 use Rattle.store.specs.View.{nodesIn}
 use Rattle.listing_lines.specs.declared.line.Line.{Line}
-use Rattle.listing_lines.specs.declared.Outcome.{Outcome}
+use Rattle.listing_lines.specs.declared.SheetOutcome.{SheetOutcome}
 use Rattle.listing_lines.specs.Line.{lineBytes, text, Holds}
 use Rattle.listing_lines.specs.Outcome.{firstLineOf, lineOf, joined, allLines}
 use Rattle.listing_lines.specs.Filling.{PutsLine, Fills}
@@ -61,7 +61,7 @@ module _ (from : ℕ) (first words : List ℕ) (count : ℕ) where
           ∙ joined-more (lineOf (nodesIn words count)) id 0
           ∙ ap (λ (k : ℕ). joined (lineOf (nodesIn words count)) id 0 ++ lineOf (nodesIn words count) k) (let e : 0 + id ≡ id = omega arith in e)
 
-  pub gathered-all : (entry before out : List ℕ) (at id : ℕ) → Gathered before out at id → length out ≡ length entry → drop from before ≡ drop from entry → count ≤ id → (count + 1) * lineBytes ≤ length out → (o : Outcome) → first ≡ firstLineOf o ++ (lineFeed ∷ []) → Fills (allLines o words count) at entry out
+  pub gathered-all : (entry before out : List ℕ) (at id : ℕ) → Gathered before out at id → length out ≡ length entry → drop from before ≡ drop from entry → count ≤ id → (count + 1) * lineBytes ≤ length out → (o : SheetOutcome) → first ≡ firstLineOf o ++ (lineFeed ∷ []) → Fills (allLines o words count) at entry out
   gathered-all entry before out at id g same past l room o f =
       let k = g .some in
       let e : id ≡ count = omega arith in
@@ -75,7 +75,7 @@ module _ (from : ℕ) (first words : List ℕ) (count : ℕ) where
       }
 
 -- the first line in an array
-module _ (o : Outcome) (line : Line) (h : Holds (firstLineOf o ++ (lineFeed ∷ [])) line) (out : List ℕ) (at : ℕ) (out′ : List ℕ) (p : PutsLine (text line) 0 out at out′) where
+module _ (o : SheetOutcome) (line : Line) (h : Holds (firstLineOf o ++ (lineFeed ∷ [])) line) (out : List ℕ) (at : ℕ) (out′ : List ℕ) (p : PutsLine (text line) 0 out at out′) where
   pub first-is : take at out′ ≡ firstLineOf o ++ (lineFeed ∷ [])
   first-is = p .is ∙ h .is
 

@@ -17,8 +17,8 @@ use Rattle.definitions.specs.Listing.{space, lineFeed, decimal, hex, okWord, sp
 use Rattle.store.specs.View.{nodesIn}
 use Rattle.store.proofs.Viewing.{plain-length}
 use Rattle.listing_lines.specs.declared.line.Line.{Line}
-use Rattle.listing_lines.specs.declared.Outcome.{Outcome}
-use Rattle.listing_lines.specs.declared.Outcome.the-variants.{Ok, Spent, Refused, Empty}
+use Rattle.listing_lines.specs.declared.SheetOutcome.{SheetOutcome}
+use Rattle.listing_lines.specs.declared.SheetOutcome.the-variants.{Ok, Spent, Refused, Empty}
 use Rattle.listing_lines.specs.Line.{lineBytes, mostDigits, numberBytes, childrenBytes, text, EmptyLine, ExtendsLine, Holds}
 use Rattle.listing_lines.specs.Outcome.{answeredAs, outcomeOf, firstLineOf, lineOf, joined, allLines}
 
@@ -145,8 +145,8 @@ module _ (base : Line) (children : List ℕ) (r : Line) (place : ℕ) (d : Liste
 
 -- ---- whole lines
 
-pub same-outcome : {o o′ : Outcome} {r : Line} → o′ ≡ o → Holds (firstLineOf o ++ (lineFeed ∷ [])) r → Holds (firstLineOf o′ ++ (lineFeed ∷ [])) r
-same-outcome {r = r} e h = subst (λ (o : Outcome). Holds (firstLineOf o ++ (lineFeed ∷ [])) r) (sym e) h
+pub same-outcome : {o o′ : SheetOutcome} {r : Line} → o′ ≡ o → Holds (firstLineOf o ++ (lineFeed ∷ [])) r → Holds (firstLineOf o′ ++ (lineFeed ∷ [])) r
+same-outcome {r = r} e h = subst (λ (o : SheetOutcome). Holds (firstLineOf o ++ (lineFeed ∷ [])) r) (sym e) h
 
 module _ {a b c d : Line} (i : ℕ) (e : EmptyLine a) (q : ExtendsLine b (space ∷ decimal i) numberBytes c) (r : ExtendsLine c (lineFeed ∷ []) 1 d) where
   pub ok-line : ExtendsLine a okWord 2 b → Holds (firstLineOf (Ok i) ++ (lineFeed ∷ [])) d
@@ -215,8 +215,8 @@ listing-by-lines r =
     ∙ ap₂ (λ (x y : List ℕ). x ++ lineFeed ∷ y) (first-line-is (r .refusal) (r .answers)) (sym (lines-from [] (r .left .nodes)))
 
 -- The same of the nodes in memory.
-pub listing-of-memory : (o : Outcome) (words : List ℕ) (count : ℕ) (r : Ran) → o ≡ outcomeOf (r .refusal) (r .answers) → nodesIn words count ≡ r .left .nodes → allLines o words count ≡ listing r
+pub listing-of-memory : (o : SheetOutcome) (words : List ℕ) (count : ℕ) (r : Ran) → o ≡ outcomeOf (r .refusal) (r .answers) → nodesIn words count ≡ r .left .nodes → allLines o words count ≡ listing r
 listing-of-memory o words count r f e =
-    ap (λ (x : Outcome). allLines x words count) f
+    ap (λ (x : SheetOutcome). allLines x words count) f
     ∙ ap₂ (λ (ns : List Node) (n : ℕ). (firstLineOf (outcomeOf (r .refusal) (r .answers)) ++ (lineFeed ∷ [])) ++ joined (lineOf ns) n 0) e (sym (plain-length words count) ∙ ap length e)
     ∙ listing-by-lines r

@@ -6,12 +6,12 @@ ghost use Rattle.arena.specs.Nodes.{Nodes};
 ghost use Rattle.listing_lines.specs.Line.{lineBytes, text};
 ghost use Rattle.listing_lines.specs.Outcome.{allLines};
 ghost use Rattle.listing_lines.specs.Filling.{PutsLine, Fills};
-use crate::Outcome;
+use crate::SheetOutcome;
 use crate::first_line;
 use crate::line::Line;
 use crate::node::node_line_sound;
 
-// PutsLine text into an array from a place on, and gives the place after it.
+// Puts text into an array from a place on, and gives the place after it.
 fn put(out: &mut [u8], at: usize, more: &[u8]) -> usize
     requires { ⌜ at + length (now more) ≤ length (now out) ⌝ }
     ensures { λ r. ⌜ PutsLine (now (more .entry)) at (now (out .entry)) r (now (out .exit)) ⌝ }
@@ -24,7 +24,7 @@ fn put(out: &mut [u8], at: usize, more: &[u8]) -> usize
     at + i
 }
 
-// PutsLine a line into an array from a place on, and gives the place after it.
+// Puts a line into an array from a place on, and gives the place after it.
 pub fn put_line(out: &mut [u8], at: usize, line: Line) -> usize
     requires { ⌜ (line .length ≤ lineBytes) × (at + lineBytes ≤ length (now out)) ⌝ }
     ensures { λ r. ⌜ PutsLine (text line) at (now (out .entry)) r (now (out .exit)) ⌝ }
@@ -36,7 +36,7 @@ pub fn put_line(out: &mut [u8], at: usize, line: Line) -> usize
 
 // The first line and the line of each id by rising id, at the start of an array with room for so many of the longest lines; the number
 // of bytes that they take. The bytes past them stay.
-pub fn all_lines(outcome: Outcome, nodes: &[u64], count: u64, out: &mut [u8]) -> usize
+pub fn all_lines(outcome: SheetOutcome, nodes: &[u64], count: u64, out: &mut [u8]) -> usize
     requires { ⌜ Nodes (now nodes) count × ((count + 1) * lineBytes ≤ length (now out)) ⌝ }
     ensures { λ r. ⌜ Fills (allLines outcome (now (nodes .entry)) count) r (now (out .entry)) (now (out .exit)) ⌝ }
     ensures { λ r. ⌜ r ≤ (count + 1) * lineBytes ⌝ }

@@ -30,7 +30,7 @@ use node::node_line_sound;
 
 // What a sheet's first line says: the last answer's id, no records, the id of a last record that ran out, or a refusal and
 // its record.
-pub enum Outcome {
+pub enum SheetOutcome {
     Ok(u64),
     Empty,
     Spent(u64),
@@ -39,14 +39,14 @@ pub enum Outcome {
 
 // "`ok` and the last answer's id (`-` without records), or `spent` and the id if the last record ran out, or `refused` number
 // `at` record".
-pub fn first_line(outcome: Outcome) -> Line
+pub fn first_line(outcome: SheetOutcome) -> Line
     ensures { λ r. ⌜ Holds (firstLineOf outcome ++ (lineFeed ∷ [])) r ⌝ }
 {
     match outcome {
-        Outcome::Ok(id) => with_bytes(with_number(with_bytes(new(), b"ok"), id), b"\n"),
-        Outcome::Empty => with_bytes(new(), b"ok -\n"),
-        Outcome::Spent(id) => with_bytes(with_number(with_bytes(new(), b"spent"), id), b"\n"),
-        Outcome::Refused { number, at } => {
+        SheetOutcome::Ok(id) => with_bytes(with_number(with_bytes(new(), b"ok"), id), b"\n"),
+        SheetOutcome::Empty => with_bytes(new(), b"ok -\n"),
+        SheetOutcome::Spent(id) => with_bytes(with_number(with_bytes(new(), b"spent"), id), b"\n"),
+        SheetOutcome::Refused { number, at } => {
             let refused = with_number(with_bytes(new(), b"refused"), number);
             with_bytes(with_number(with_bytes(refused, b" at"), at), b"\n")
         }

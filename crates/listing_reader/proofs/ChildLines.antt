@@ -12,8 +12,8 @@ use borrow.Author.Tests.{eqb-true, eqb-false}
 use Rattle.definitions.specs.Listing.{space, lineFeed, decimal, childrenPart}
 use Rattle.arena.specs.Layout.{mostChildren}
 use Rattle.store.proofs.Fitting.{no-children}
-use Rattle.listing_reader.specs.declared.number.Number as N
-use Rattle.listing_reader.specs.declared.number.Number.the-variants as NV
+use Rattle.listing_reader.specs.declared.number.NumberRead as N
+use Rattle.listing_reader.specs.declared.number.NumberRead.the-variants as NV
 use Rattle.listing_reader.specs.declared.node.Children.{Children}
 use Rattle.listing_reader.specs.Numbers.{wordEnd, EndsDigits, Spelled, ReadsNumber}
 use Rattle.listing_reader.specs.Line.{ReadsEnd, PlacedChildren, ReadsChildren}
@@ -84,7 +84,7 @@ module _ {bytes : List ℕ} {at : ℕ} {places : List ℕ} {count next : ℕ} (c
   done-long : length (take count places) ≡ count
   done-long = let f = c .placed .four in let l = c .placed .few in length-take-le count places (omega arith)
 
-  module _ {r : N.Number} (d : ReadsNumber (λ n rest. space ∷ (decimal n ++ rest)) EndsDigits bytes next r) {v to : ℕ} (e : r ≡ NV.Found v to) (l : count < mostChildren) where
+  module _ {r : N.NumberRead} (d : ReadsNumber (λ n rest. space ∷ (decimal n ++ rest)) EndsDigits bytes next r) {v to : ℕ} (e : r ≡ NV.Found v to) (l : count < mostChildren) where
     s : Spelled (λ n rest. space ∷ (decimal n ++ rest)) EndsDigits bytes next v to
     s = d .found v to e
 
@@ -148,7 +148,7 @@ module _ {bytes : List ℕ} {at : ℕ} {places : List ℕ} {count next : ℕ} (c
         go e cs rest few small (m ∷ more) p q = stop m more cs rest few small p q
 
     -- no further child
-    pub children-stop : {a : N.Number} → ReadsNumber (λ n rest. space ∷ (decimal n ++ rest)) EndsDigits bytes next a → a ≡ NV.Nothing → ReadsChildren bytes at r
+    pub children-stop : {a : N.NumberRead} → ReadsNumber (λ n rest. space ∷ (decimal n ++ rest)) EndsDigits bytes next a → a ≡ NV.Nothing → ReadsChildren bytes at r
     children-stop da ea = ending (λ m more cs rest few small p q.
         let low : m < wordEnd = subst (λ (x : ℕ). x < wordEnd) (ap (λ (x : List ℕ). getD x count 0) p ∙ getD-at (take count places) m more 0 count done-long) (small count) in
         da .nothing ea m (childrenPart more ++ lineFeed ∷ rest) low (children-end-digits more rest) (q ∙ children-cons m more (lineFeed ∷ rest)))

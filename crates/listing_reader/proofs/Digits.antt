@@ -11,8 +11,8 @@ use native.Mathlib.Omega.{arith}
 use native.Mathlib.Numerals.{add-one}
 use native.Mathlib.Nat.{pow-suc, pow-le-pow-right}
 use Rattle.definitions.specs.Listing.{decimal, hex, hexFrom, hexDigit, space}
-use Rattle.listing_reader.specs.declared.number.Number.{Number}
-use Rattle.listing_reader.specs.declared.number.Number.the-variants.{Found, Nothing}
+use Rattle.listing_reader.specs.declared.number.NumberRead.{NumberRead}
+use Rattle.listing_reader.specs.declared.number.NumberRead.the-variants.{Found, Nothing}
 use Rattle.listing_reader.specs.Numbers.{wordEnd, isDigit, EndsDigits, Anything, HexValue, ReadsNumber}
 use Rattle.listing_reader.proofs.Bytes.{here, byte-then, at-start, first-byte, digit-range, range-digit}
 use Rattle.listing_reader.proofs.Found.{reads-found, reads-nothing}
@@ -204,7 +204,7 @@ module _ (spell : ℕ → List ℕ → List ℕ) (Follows : List ℕ → Type 0)
   pub no-space : (b ≡ space → ⊥) → ReadsNumber (λ n rest. space ∷ spell n rest) Follows bytes at Nothing
   no-space h = reads-nothing (λ n rest l f p. h (e ∙ first-byte bytes at space (spell n rest) p))
 
-  pub after-space : (r : Number) → b ≡ space → ReadsNumber spell Follows bytes (at + 1) r → ReadsNumber (λ n rest. space ∷ spell n rest) Follows bytes at r
+  pub after-space : (r : NumberRead) → b ≡ space → ReadsNumber spell Follows bytes (at + 1) r → ReadsNumber (λ n rest. space ∷ spell n rest) Follows bytes at r
   after-space r h d = record {
     found = λ n next q. let s = d .found n next q in record { text = here-then ∙ ap (λ (x : List ℕ). space ∷ x) (s .text); follows = s .follows; small = s .small };
     nothing = λ q n rest l f p. d .nothing q n rest l f (ap (drop 1) (sym here-then ∙ p));

@@ -6,11 +6,11 @@ use mathlib.Core.List.{List, [], _∷_, _++_, append-assoc}
 use lib.ListN.{drop}
 use native.Mathlib.Omega.{arith}
 use Rattle.definitions.specs.Listing.{space, lineFeed, decimal, okWord, spentWord, refusedWord, atWord, dash, firstLine, answered}
-use Rattle.listing_lines.specs.declared.Outcome.{Outcome}
-use Rattle.listing_lines.specs.declared.Outcome.the-variants.{Ok, Empty, Spent, Refused}
+use Rattle.listing_lines.specs.declared.SheetOutcome.{SheetOutcome}
+use Rattle.listing_lines.specs.declared.SheetOutcome.the-variants.{Ok, Empty, Spent, Refused}
 use Rattle.listing_lines.specs.Outcome.{firstLineOf}
-use Rattle.listing_reader.specs.declared.number.Number as N
-use Rattle.listing_reader.specs.declared.number.Number.the-variants as NV
+use Rattle.listing_reader.specs.declared.number.NumberRead as N
+use Rattle.listing_reader.specs.declared.number.NumberRead.the-variants as NV
 use Rattle.listing_reader.specs.declared.first.First.{First}
 use Rattle.listing_reader.specs.declared.first.First.the-variants.{Found, Nothing}
 use Rattle.listing_reader.specs.Numbers.{EndsDigits, Anything, ReadsNumber}
@@ -56,16 +56,16 @@ refused-text number at rest = ap (λ (x : List ℕ). refusedWord ++ (space ∷ x
 
 -- ---- found, or not
 
-pub first-found : {bytes : List ℕ} (o : Outcome) (next : ℕ) → FirstAt bytes o next → ReadsFirst bytes (Found o next)
+pub first-found : {bytes : List ℕ} (o : SheetOutcome) (next : ℕ) → FirstAt bytes o next → ReadsFirst bytes (Found o next)
 first-found {bytes} o next f = record {
-  found = λ p to e. let a : o ≡ p = cc in let b : next ≡ to = cc in subst (λ (t : ℕ). FirstAt bytes p t) b (subst (λ (q : Outcome). FirstAt bytes q next) a f);
+  found = λ p to e. let a : o ≡ p = cc in let b : next ≡ to = cc in subst (λ (t : ℕ). FirstAt bytes p t) b (subst (λ (q : SheetOutcome). FirstAt bytes q next) a f);
   nothing = λ e. absurd (let z : _≡_ {A = ℕ} 0 1 = cc in omega arith);
 }
 
 pub empty-first : {bytes : List ℕ} {t : Bool} → StartsWith bytes 0 (okWord ++ space ∷ dash ++ lineFeed ∷ []) t → t ≡ true → ReadsFirst bytes (Found Empty 5)
 empty-first {bytes} s e = first-found Empty 5 (record { text = s .text e ∙ sym (empty-text (drop 5 bytes)); small = tt })
 
-module _ {bytes : List ℕ} {r : N.Number} {v next : ℕ} (e : r ≡ NV.Found v next) where
+module _ {bytes : List ℕ} {r : N.NumberRead} {v next : ℕ} (e : r ≡ NV.Found v next) where
   pub ok-first : ReadsNumber (lineBehind okWord) Anything bytes 0 r → ReadsFirst bytes (Found (Ok v) next)
   ok-first d = let s = d .found v next e in first-found (Ok v) next (record { text = s .text ∙ sym (ok-text v (drop next bytes)); small = s .small })
 
@@ -73,7 +73,7 @@ module _ {bytes : List ℕ} {r : N.Number} {v next : ℕ} (e : r ≡ NV.Found v 
   spent-first d = let s = d .found v next e in first-found (Spent v) next (record { text = s .text ∙ sym (spent-text v (drop next bytes)); small = s .small })
 
 -- none of the other first lines: it is a refusal's, or none
-pub last-first : {bytes : List ℕ} {t : Bool} {a b : N.Number} {r : First} → StartsWith bytes 0 (okWord ++ space ∷ dash ++ lineFeed ∷ []) t → t ≡ false → ReadsNumber (lineBehind okWord) Anything bytes 0 a → a ≡ NV.Nothing → ReadsNumber (lineBehind spentWord) Anything bytes 0 b → b ≡ NV.Nothing → ReadsRefused bytes r → ReadsFirst bytes r
+pub last-first : {bytes : List ℕ} {t : Bool} {a b : N.NumberRead} {r : First} → StartsWith bytes 0 (okWord ++ space ∷ dash ++ lineFeed ∷ []) t → t ≡ false → ReadsNumber (lineBehind okWord) Anything bytes 0 a → a ≡ NV.Nothing → ReadsNumber (lineBehind spentWord) Anything bytes 0 b → b ≡ NV.Nothing → ReadsRefused bytes r → ReadsFirst bytes r
 last-first {bytes} {r = r} s e da ea db eb d = record { found = d .found; nothing = none }
   where
     none : r ≡ Nothing → NoFirst bytes
@@ -84,14 +84,14 @@ last-first {bytes} {r = r} s e da ea db eb d = record { found = d .found; nothin
 
 -- ---- a refusal's line
 
-module _ {bytes : List ℕ} {a : N.Number} (da : ReadsNumber (λ n rest. refusedWord ++ (space ∷ (decimal n ++ rest))) EndsDigits bytes 0 a) where
+module _ {bytes : List ℕ} {a : N.NumberRead} (da : ReadsNumber (λ n rest. refusedWord ++ (space ∷ (decimal n ++ rest))) EndsDigits bytes 0 a) where
   none-refused : ((number at : ℕ) (rest : List ℕ) → SmallOutcome (Refused number at) → bytes ≡ firstLineOf (Refused number at) ++ lineFeed ∷ rest → ⊥) → ReadsRefused bytes Nothing
   none-refused h = record { found = λ o next e. absurd (let z : _≡_ {A = ℕ} 0 1 = cc in omega arith); nothing = λ e. h }
 
   pub no-refusal : a ≡ NV.Nothing → ReadsRefused bytes Nothing
   no-refusal e = none-refused (λ number at rest l p. da .nothing e number (lineBehind (space ∷ atWord) at rest) (l .0) (record { ends = refl }) (p ∙ refused-text number at rest))
 
-  module _ {v next : ℕ} (ea : a ≡ NV.Found v next) {b : N.Number} (db : ReadsNumber (lineBehind (space ∷ atWord)) Anything bytes next b) where
+  module _ {v next : ℕ} (ea : a ≡ NV.Found v next) {b : N.NumberRead} (db : ReadsNumber (lineBehind (space ∷ atWord)) Anything bytes next b) where
     pub no-record : b ≡ NV.Nothing → ReadsRefused bytes Nothing
     no-record e = none-refused (λ number at rest l p.
         let o = only (word-unique refusedWord) (da .found v next ea) number (lineBehind (space ∷ atWord) at rest) (l .0) (record { ends = refl }) (p ∙ refused-text number at rest) in

@@ -4,7 +4,7 @@ use mathlib.Core.Path.{_≡_, sym, ap, _∙_, subst}
 use mathlib.Core.List.{List, _∷_}
 use lib.ListN.{drop}
 use native.Mathlib.Omega.{arith}
-use Rattle.listing_reader.specs.declared.number.Number.the-variants.{Found, Nothing}
+use Rattle.listing_reader.specs.declared.number.NumberRead.the-variants.{Found, Nothing}
 use Rattle.listing_reader.specs.Numbers.{wordEnd, Spelled, ReadsNumber}
 
 -- a text tells its number, and where it ends

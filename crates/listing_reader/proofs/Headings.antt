@@ -5,8 +5,8 @@ use mathlib.Core.List.{List, _∷_, _++_}
 use lib.ListN.{drop}
 use native.Mathlib.Omega.{arith}
 use Rattle.definitions.specs.Listing.{space, decimal, hex}
-use Rattle.listing_reader.specs.declared.number.Number as N
-use Rattle.listing_reader.specs.declared.number.Number.the-variants as NV
+use Rattle.listing_reader.specs.declared.number.NumberRead as N
+use Rattle.listing_reader.specs.declared.number.NumberRead.the-variants as NV
 use Rattle.listing_reader.specs.declared.node.Heading.the-variants.{Found, Nothing}
 use Rattle.listing_reader.specs.Numbers.{EndsDigits, Anything, Spelled, ReadsNumber}
 use Rattle.listing_reader.specs.Line.{headed, SmallHeading, HeadingAt, ReadsHeading}
@@ -54,25 +54,25 @@ headed-unique {id} {kind} {payload} {flags} {id′} {kind′} {payload′} {flag
 no-heading : {bytes : List ℕ} {at : ℕ} → ((id kind payload flags : ℕ) (rest : List ℕ) → SmallHeading id kind payload flags → EndsDigits rest → drop at bytes ≡ headed id kind payload flags rest → ⊥) → ReadsHeading bytes at Nothing
 no-heading h = record { found = λ i k p f n e. absurd (let z : _≡_ {A = ℕ} 0 1 = cc in omega arith); nothing = λ e. h }
 
-module _ {bytes : List ℕ} {at : ℕ} {r1 : N.Number} (d1 : ReadsNumber (λ n rest. decimal n ++ rest) EndsDigits bytes at r1) where
+module _ {bytes : List ℕ} {at : ℕ} {r1 : N.NumberRead} (d1 : ReadsNumber (λ n rest. decimal n ++ rest) EndsDigits bytes at r1) where
   pub no-id : r1 ≡ NV.Nothing → ReadsHeading bytes at Nothing
   no-id e = no-heading (λ i k p f rest s g t. d1 .nothing e i (afterId k p f rest) (s .id-small) (space-ends _) t)
 
-  module _ {v1 n1 : ℕ} (e1 : r1 ≡ NV.Found v1 n1) {r2 : N.Number} (d2 : ReadsNumber (λ n rest. space ∷ (decimal n ++ rest)) EndsDigits bytes n1 r2) where
+  module _ {v1 n1 : ℕ} (e1 : r1 ≡ NV.Found v1 n1) {r2 : N.NumberRead} (d2 : ReadsNumber (λ n rest. space ∷ (decimal n ++ rest)) EndsDigits bytes n1 r2) where
     after-id : (i k p f : ℕ) (rest : List ℕ) → SmallHeading i k p f → drop at bytes ≡ headed i k p f rest → drop n1 bytes ≡ afterId k p f rest
     after-id i k p f rest s t = only decimal-unique (d1 .found v1 n1 e1) i (afterId k p f rest) (s .id-small) (space-ends _) t .1
 
     pub no-kind : r2 ≡ NV.Nothing → ReadsHeading bytes at Nothing
     no-kind e = no-heading (λ i k p f rest s g t. d2 .nothing e k (afterKind p f rest) (s .kind-small) (space-ends _) (after-id i k p f rest s t))
 
-    module _ {v2 n2 : ℕ} (e2 : r2 ≡ NV.Found v2 n2) {r3 : N.Number} (d3 : ReadsNumber (λ n rest. space ∷ (hex n ++ rest)) Anything bytes n2 r3) where
+    module _ {v2 n2 : ℕ} (e2 : r2 ≡ NV.Found v2 n2) {r3 : N.NumberRead} (d3 : ReadsNumber (λ n rest. space ∷ (hex n ++ rest)) Anything bytes n2 r3) where
       after-kind : (i k p f : ℕ) (rest : List ℕ) → SmallHeading i k p f → drop at bytes ≡ headed i k p f rest → drop n2 bytes ≡ afterKind p f rest
       after-kind i k p f rest s t = only spaced-unique (d2 .found v2 n2 e2) k (afterKind p f rest) (s .kind-small) (space-ends _) (after-id i k p f rest s t) .1
 
       pub no-payload : r3 ≡ NV.Nothing → ReadsHeading bytes at Nothing
       no-payload e = no-heading (λ i k p f rest s g t. d3 .nothing e p (afterPayload f rest) (s .payload-small) (record {}) (after-kind i k p f rest s t))
 
-      module _ {v3 n3 : ℕ} (e3 : r3 ≡ NV.Found v3 n3) {r4 : N.Number} (d4 : ReadsNumber (λ n rest. space ∷ (decimal n ++ rest)) EndsDigits bytes n3 r4) where
+      module _ {v3 n3 : ℕ} (e3 : r3 ≡ NV.Found v3 n3) {r4 : N.NumberRead} (d4 : ReadsNumber (λ n rest. space ∷ (decimal n ++ rest)) EndsDigits bytes n3 r4) where
         after-payload : (i k p f : ℕ) (rest : List ℕ) → SmallHeading i k p f → drop at bytes ≡ headed i k p f rest → drop n3 bytes ≡ afterPayload f rest
         after-payload i k p f rest s t = only hex-spaced-unique (d3 .found v3 n3 e3) p (afterPayload f rest) (s .payload-small) (record {}) (after-kind i k p f rest s t) .1
 

@@ -16,8 +16,8 @@ use Rattle.arena.specs.Node.{nodeAt, put}
 use Rattle.arena.specs.Nodes.{WellFormed}
 use Rattle.arena.proofs.Putting.{put-length, put-new, put-past}
 use Rattle.store.specs.View.{plainNode, nodesIn}
-use Rattle.listing_lines.specs.declared.Outcome.{Outcome}
-use Rattle.listing_lines.specs.declared.Outcome.the-variants as O
+use Rattle.listing_lines.specs.declared.SheetOutcome.{SheetOutcome}
+use Rattle.listing_lines.specs.declared.SheetOutcome.the-variants as O
 use Rattle.listing_lines.specs.Outcome.{firstLineOf}
 use Rattle.listing_reader.specs.declared.ListingAnswer.the-variants.{Read, Refused, Full}
 use Rattle.listing_reader.specs.declared.node.ListedNode.{ListedNode}
@@ -47,7 +47,7 @@ no-dash n r s h e =
     let d : decimal n ++ (lineFeed ∷ r) ≡ 45 ∷ lineFeed ∷ s = ap (drop 3) e in
     false≢true (ap (λ (l : List ℕ). isDigit (getD l 0 0)) (sym d) ∙ starts-with-digit n (lineFeed ∷ r) h)
 
-pub first-unique : (o p : Outcome) (r s : List ℕ) → SmallOutcome o → SmallOutcome p → firstLineOf o ++ lineFeed ∷ r ≡ firstLineOf p ++ lineFeed ∷ s → (o ≡ p) × (r ≡ s)
+pub first-unique : (o p : SheetOutcome) (r s : List ℕ) → SmallOutcome o → SmallOutcome p → firstLineOf o ++ lineFeed ∷ r ≡ firstLineOf p ++ lineFeed ∷ s → (o ≡ p) × (r ≡ s)
 first-unique (O.Ok i) (O.Ok j) r s a b e = let u = line-behind-unique okWord i j r s a b (sym (ok-text i r) ∙ e ∙ ok-text j s) in (ap O.Ok (u .0), u .1)
 first-unique (O.Ok i) O.Empty r s a b e = absurd (no-dash i r s a (sym (ok-text i r) ∙ e ∙ empty-text s))
 first-unique (O.Ok i) (O.Spent j) r s a b e = absurd (differ 111 115 (λ z. omega arith) refl refl (sym (ok-text i r) ∙ e ∙ spent-text j s))
@@ -71,8 +71,8 @@ first-unique (O.Refused m q) (O.Refused n t) r s a b e =
 -- ---- whether an outcome's id is that of a node
 
 -- what a test says of an equal outcome
-pub listed-as : (o o′ : Outcome) (count : ℕ) (r : Bool) → o ≡ o′ → Says r (AnswerListed o′ count) → Says r (AnswerListed o count)
-listed-as o o′ count r e s = subst (λ (q : Outcome). Says r (AnswerListed q count)) (sym e) s
+pub listed-as : (o o′ : SheetOutcome) (count : ℕ) (r : Bool) → o ≡ o′ → Says r (AnswerListed o′ count) → Says r (AnswerListed o count)
+listed-as o o′ count r e s = subst (λ (q : SheetOutcome). Says r (AnswerListed q count)) (sym e) s
 
 pub says-below : (i count : ℕ) → Says (ltb i count) (i < count)
 says-below i count = record { yes = ltb-true i count; no = λ e l. let m : count ≤ i = ltb-false i count e in absurd (omega arith) }
@@ -80,18 +80,18 @@ says-below i count = record { yes = ltb-true i count; no = λ e l. let m : count
 -- ---- a listing, and bytes that begin like one
 
 -- the nodes of a listing that the first lines of the same bytes tell
-pub record Agrees (w w′ : List ℕ) (o o′ : Outcome) (c c′ : ℕ) (rest : List ℕ) : Type 0 where
+pub record Agrees (w w′ : List ℕ) (o o′ : SheetOutcome) (c c′ : ℕ) (rest : List ℕ) : Type 0 where
   pub outcomes : o ≡ o′
   pub nodes : Longer w w′ c c′ 0 rest
 
-pub run-of : {bytes : List ℕ} {o : Outcome} {w : List ℕ} {c : ℕ} {rest : List ℕ} → Begins bytes o w c rest → Run w c 0
+pub run-of : {bytes : List ℕ} {o : SheetOutcome} {w : List ℕ} {c : ℕ} {rest : List ℕ} → Begins bytes o w c rest → Run w c 0
 run-of {w = w} {c = c} b = record {
   each = λ k l.
       let z : k ≡ 0 + k = omega arith in
       (subst (λ (x : ℕ). WellFormed x (nodeAt w x)) z (b .formed .each k l), subst (λ (x : ℕ). nodeAt w x .payload < wordEnd) z (b .wide k l));
 }
 
-agree : {bytes : List ℕ} {o o′ : Outcome} {w w′ : List ℕ} {c c′ : ℕ} {rest : List ℕ} → Begins bytes o w c [] → Begins bytes o′ w′ c′ rest → Agrees w w′ o o′ c c′ rest
+agree : {bytes : List ℕ} {o o′ : SheetOutcome} {w w′ : List ℕ} {c c′ : ℕ} {rest : List ℕ} → Begins bytes o w c [] → Begins bytes o′ w′ c′ rest → Agrees w w′ o o′ c c′ rest
 agree {bytes} {o} {o′} {w} {w′} {c} {c′} {rest} b b′ =
     let u = first-unique o o′ (nodeLines 0 (nodesIn w c) ++ []) (nodeLines 0 (nodesIn w′ c′) ++ rest) (b .small) (b′ .small) (sym (b .text) ∙ b′ .text) in
     let e : linesFrom w c 0 ≡ linesFrom w′ c′ 0 ++ rest = sym (append-nil (nodeLines 0 (nodesIn w c)) ∙ lines-are w c) ∙ u .1 ∙ ap (λ (x : List ℕ). x ++ rest) (lines-are w′ c′) in
@@ -101,7 +101,7 @@ agree {bytes} {o} {o′} {w} {w′} {c} {c′} {rest} b b′ =
 -- ---- what an answer says of every listing
 
 -- the same bytes, told twice
-read-back : {bytes : List ℕ} {o o′ : Outcome} {w w′ : List ℕ} {c c′ : ℕ} → Begins bytes o w c [] → Begins bytes o′ w′ c′ [] → (o′ ≡ o) × ((c′ ≡ c) × (take (c * nodeWords) w′ ≡ take (c * nodeWords) w))
+read-back : {bytes : List ℕ} {o o′ : SheetOutcome} {w w′ : List ℕ} {c c′ : ℕ} → Begins bytes o w c [] → Begins bytes o′ w′ c′ [] → (o′ ≡ o) × ((c′ ≡ c) × (take (c * nodeWords) w′ ≡ take (c * nodeWords) w))
 read-back {o = o} {o′} {w} {w′} {c} {c′} b b′ =
     let a = agree b b′ in
     let z = none-left (a .nodes .left) (a .nodes .rest-is) in
@@ -116,7 +116,7 @@ read-back {o = o} {o′} {w} {w′} {c} {c′} b b′ =
     none-left (suc j) e = absurd (left-some w j (0 + c′) e)
 
 -- bytes that go on after some lines, and all of them told
-more-nodes : {bytes : List ℕ} {o o′ : Outcome} {w w′ : List ℕ} {c c′ : ℕ} {rest : List ℕ} → Begins bytes o w c [] → Begins bytes o′ w′ c′ rest → (rest ≡ [] → ⊥) → (c′ < c) × LineOf rest c′ (nodeAt w c′) (linesFrom w (c - c′ - 1) (suc c′))
+more-nodes : {bytes : List ℕ} {o o′ : SheetOutcome} {w w′ : List ℕ} {c c′ : ℕ} {rest : List ℕ} → Begins bytes o w c [] → Begins bytes o′ w′ c′ rest → (rest ≡ [] → ⊥) → (c′ < c) × LineOf rest c′ (nodeAt w c′) (linesFrom w (c - c′ - 1) (suc c′))
 more-nodes {w = w} {w′} {c} {c′} {rest} b b′ n = go (a .left) (a .long) (a .rest-is)
   where
     a : Longer w w′ c c′ 0 rest
@@ -133,7 +133,7 @@ more-nodes {w = w} {w′} {c} {c′} {rest} b b′ n = go (a .left) (a .long) (a
         } in
         (omega arith, subst (λ (x : ℕ). LineOf rest c′ (nodeAt w c′) (linesFrom w x (suc c′))) z (left-line h (e ∙ ap (linesFrom w (suc j)) y)))
 
-no-listing : {bytes words : List ℕ} {line : ℕ} → Wrong bytes words line → (o : Outcome) (w : List ℕ) (c : ℕ) → IsListing bytes o w c → ⊥
+no-listing : {bytes words : List ℕ} {line : ℕ} → Wrong bytes words line → (o : SheetOutcome) (w : List ℕ) (c : ℕ) → IsListing bytes o w c → ⊥
 no-listing (first h) o w c b = h o (nodeLines 0 (nodesIn w c) ++ []) (b .begins .small) (b .begins .text)
 no-listing (later o′ count rest b′ n h) o w c b =
     let m = more-nodes (b .begins) b′ n in
@@ -142,14 +142,14 @@ no-listing (later o′ count rest b′ n h) o w c b =
     h (omega arith) (nodeAt w count) _ (m .1)
 no-listing (missing o′ count b′ n) o w c b =
     let r = read-back (b .begins) b′ in
-    n (subst (λ (k : ℕ). AnswerListed o′ k) (sym (r .1 .0)) (subst (λ (q : Outcome). AnswerListed q c) (sym (r .0)) (b .answer)))
+    n (subst (λ (k : ℕ). AnswerListed o′ k) (sym (r .1 .0)) (subst (λ (q : SheetOutcome). AnswerListed q c) (sym (r .0)) (b .answer)))
 
 -- ---- the answers
 
 module _ (bytes before after : List ℕ) (long : length after ≡ length before) where
-  pub reading-read : (o : Outcome) (count : ℕ) → IsListing bytes o after count → drop (count * nodeWords) after ≡ drop (count * nodeWords) before → ListingReading bytes before (Read o count) after
+  pub reading-read : (o : SheetOutcome) (count : ℕ) → IsListing bytes o after count → drop (count * nodeWords) after ≡ drop (count * nodeWords) before → ListingReading bytes before (Read o count) after
   reading-read o count b past = record {
-    right = λ p c e. let x : o ≡ p = cc in let y : count ≡ c = cc in subst (λ (k : ℕ). IsListing bytes p after k) y (subst (λ (q : Outcome). IsListing bytes q after count) x b);
+    right = λ p c e. let x : o ≡ p = cc in let y : count ≡ c = cc in subst (λ (k : ℕ). IsListing bytes p after k) y (subst (λ (q : SheetOutcome). IsListing bytes q after count) x b);
     whole = λ p w c l f. let r = read-back (l .begins) (b .begins) in (ap₂ Read (r .0) (r .1 .0), r .1 .1);
     short = λ p w c l f. absurd (let y : count ≡ c = read-back (l .begins) (b .begins) .1 .0 in let g : count * nodeWords ≤ length after = b .begins .formed .fits in omega arith);
     refused = λ line e. absurd (let z : _≡_ {A = ℕ} 0 1 = cc in omega arith);
@@ -183,12 +183,12 @@ module _ (bytes before after : List ℕ) (long : length after ≡ length before)
 -- ---- line by line
 
 -- so many nodes are read, and the rest stands at a place
-pub record LinesRead (bytes : List ℕ) (o : Outcome) (before after : List ℕ) (at count : ℕ) : Type 0 where
+pub record LinesRead (bytes : List ℕ) (o : SheetOutcome) (before after : List ℕ) (at count : ℕ) : Type 0 where
   pub begins : Begins bytes o after count (drop at bytes)
   pub past : drop (count * nodeWords) after ≡ drop (count * nodeWords) before
   pub long : length after ≡ length before
 
-pub lines-none : {bytes : List ℕ} {o : Outcome} {start : ℕ} (before : List ℕ) → FirstAt bytes o start → LinesRead bytes o before before start 0
+pub lines-none : {bytes : List ℕ} {o : SheetOutcome} {start : ℕ} (before : List ℕ) → FirstAt bytes o start → LinesRead bytes o before before start 0
 unfolding nodesIn nodeLines
 lines-none before f = record {
   begins = record {
@@ -201,7 +201,7 @@ lines-none before f = record {
   long = refl;
 }
 
-module _ {bytes : List ℕ} {o : Outcome} {before after : List ℕ} {at count : ℕ} (d : LinesRead bytes o before after at count) where
+module _ {bytes : List ℕ} {o : SheetOutcome} {before after : List ℕ} {at count : ℕ} (d : LinesRead bytes o before after at count) where
   wrong-next : Wrong bytes after (count + 2) → ListingReading bytes before (Refused (count + 2)) after
   wrong-next w =
       let z : count ≡ count + 2 - 2 = omega arith in

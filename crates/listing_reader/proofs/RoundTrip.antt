@@ -11,7 +11,7 @@ use Rattle.arena.specs.Node.{nodeAt}
 use Rattle.store.specs.Sound.{Sound}
 use Rattle.store.specs.View.{nodesIn}
 use Rattle.store.specs.Memory.{Memory, model}
-use Rattle.listing_lines.specs.declared.Outcome.{Outcome}
+use Rattle.listing_lines.specs.declared.SheetOutcome.{SheetOutcome}
 use Rattle.listing_lines.specs.Outcome.{outcomeOf}
 use Rattle.listing_lines.proofs.Lines.{first-line-is}
 use Rattle.listing_reader.specs.declared.ListingAnswer.{ListingAnswer}
@@ -44,7 +44,7 @@ module _ (m : Memory) (good : model .Sound m) (bytes : List ℕ) where
   abbrev result : Ran
   result = sheet (model .lent m) (model .view m) bytes
 
-  abbrev said : Outcome
+  abbrev said : SheetOutcome
   said = outcomeOf (result .refusal) (result .answers)
 
   pub sheet-read-back : (words slots : List ℕ) (arena : DagArena) → Sound words slots arena → ((i : ℕ) → getD words i 0 < wordEnd) → nodesIn words (arena .count) ≡ result .left .nodes → SmallOutcome said

@@ -8,8 +8,8 @@ use lib.Seq.{take-suc, drop-cons, getD-drop, take-length, drop-append-seam}
 use native.Mathlib.Omega.{arith}
 use native.Mathlib.Numerals.{add-one}
 use Rattle.definitions.specs.Listing.{lineFeed}
-use Rattle.listing_reader.specs.declared.number.Number.{Number}
-use Rattle.listing_reader.specs.declared.number.Number.the-variants.{Found, Nothing}
+use Rattle.listing_reader.specs.declared.number.NumberRead.{NumberRead}
+use Rattle.listing_reader.specs.declared.number.NumberRead.the-variants.{Found, Nothing}
 use Rattle.listing_reader.specs.Numbers.{EndsDigits, Anything, ReadsNumber}
 use Rattle.listing_reader.specs.Words.{StartsWith}
 use Rattle.listing_reader.proofs.Bytes.{byte-then, first-byte}
@@ -71,7 +71,7 @@ module _ (spell : ℕ → List ℕ → List ℕ) (Follows : List ℕ → Type 0)
   pub no-word : t ≡ false → ReadsNumber (λ n rest. word ++ spell n rest) Follows bytes at Nothing
   no-word e = reads-nothing (λ n rest l f p. s .nothing e (spell n rest) p)
 
-  pub after-word : (r : Number) → t ≡ true → ReadsNumber spell Follows bytes (at + length word) r → ReadsNumber (λ n rest. word ++ spell n rest) Follows bytes at r
+  pub after-word : (r : NumberRead) → t ≡ true → ReadsNumber spell Follows bytes (at + length word) r → ReadsNumber (λ n rest. word ++ spell n rest) Follows bytes at r
   after-word r e d = record {
     found = λ n next q. let h = d .found n next q in record { text = s .text e ∙ ap (λ (x : List ℕ). word ++ x) (h .text); follows = h .follows; small = h .small };
     nothing = λ q n rest l f p. d .nothing q n rest l f (sym (drop-append-seam word (drop (at + length word) bytes)) ∙ ap (drop (length word)) (sym (s .text e) ∙ p) ∙ drop-append-seam word (spell n rest));
@@ -83,10 +83,10 @@ pub feed-ends : (rest : List ℕ) → EndsDigits (lineFeed ∷ rest)
 feed-ends rest = record { ends = refl }
 
 module _ (spell : ℕ → List ℕ → List ℕ) (u : Unique spell EndsDigits) (bytes : List ℕ) (at : ℕ) where
-  pub no-number : {r : Number} → ReadsNumber spell EndsDigits bytes at r → r ≡ Nothing → ReadsNumber (λ n rest. spell n (lineFeed ∷ rest)) Anything bytes at Nothing
+  pub no-number : {r : NumberRead} → ReadsNumber spell EndsDigits bytes at r → r ≡ Nothing → ReadsNumber (λ n rest. spell n (lineFeed ∷ rest)) Anything bytes at Nothing
   no-number d e = reads-nothing (λ n rest l f p. d .nothing e n (lineFeed ∷ rest) l (feed-ends rest) p)
 
-  module _ {r : Number} {v next : ℕ} (d : ReadsNumber spell EndsDigits bytes at r) (e : r ≡ Found v next) {b : ℕ} (h : b ≡ getD bytes next 0) where
+  module _ {r : NumberRead} {v next : ℕ} (d : ReadsNumber spell EndsDigits bytes at r) (e : r ≡ Found v next) {b : ℕ} (h : b ≡ getD bytes next 0) where
     pub no-feed : (b ≡ lineFeed → ⊥) → ReadsNumber (λ n rest. spell n (lineFeed ∷ rest)) Anything bytes at Nothing
     no-feed k = reads-nothing (λ n rest l f p.
         let o = only u (d .found v next e) n (lineFeed ∷ rest) l (feed-ends rest) p in

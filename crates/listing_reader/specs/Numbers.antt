@@ -6,8 +6,8 @@ use mathlib.Core.List.{List}
 use lib.ListN.{getD, drop}
 use lib.Dec.{leb}
 use Rattle.definitions.specs.Listing.{hexDigit}
-use Rattle.listing_reader.specs.declared.number.Number.{Number}
-use Rattle.listing_reader.specs.declared.number.Number.the-variants.{Found, Nothing}
+use Rattle.listing_reader.specs.declared.number.NumberRead.{NumberRead}
+use Rattle.listing_reader.specs.declared.number.NumberRead.the-variants.{Found, Nothing}
 
 -- a word of 64 bits is below this
 abbrev pub wordEnd : ℕ
@@ -43,6 +43,6 @@ pub record Spelled (spell : ℕ → List ℕ → List ℕ) (Follows : List ℕ �
   pub small : n < wordEnd
 
 -- A number is found where its text stands; where nothing is found, no number's text stands there.
-pub record ReadsNumber (spell : ℕ → List ℕ → List ℕ) (Follows : List ℕ → Type 0) (bytes : List ℕ) (at : ℕ) (r : Number) : Type 0 where
+pub record ReadsNumber (spell : ℕ → List ℕ → List ℕ) (Follows : List ℕ → Type 0) (bytes : List ℕ) (at : ℕ) (r : NumberRead) : Type 0 where
   pub found : (n next : ℕ) → r ≡ Found n next → Spelled spell Follows bytes at n next
   pub nothing : r ≡ Nothing → (n : ℕ) (rest : List ℕ) → n < wordEnd → Follows rest → drop at bytes ≡ spell n rest → ⊥

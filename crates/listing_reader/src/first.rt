@@ -1,17 +1,17 @@
 // The first line of a listing.
 ghost use Rattle.listing_reader.specs.First.{ReadsFirst, ReadsRefused};
-use crate::number::Number;
+use crate::number::NumberRead;
 use crate::word::line_behind;
 use crate::word::number_behind;
 use crate::word::word_at;
-use listing_lines::Outcome;
+use listing_lines::SheetOutcome;
 
 // The bytes of the first line of a sheet without records.
 const EMPTY_BYTES: usize = 5;
 
 // What reading the first line finds: its outcome and the place after it, or nothing.
 pub(crate) enum First {
-    Found { outcome: Outcome, next: usize },
+    Found { outcome: SheetOutcome, next: usize },
     Nothing,
 }
 
@@ -20,16 +20,16 @@ fn refused(bytes: &[u8]) -> First
     ensures { λ r. ⌜ ReadsRefused (now (bytes .entry)) r ⌝ }
 {
     let number = number_behind(bytes, 0, b"refused");
-    let Number::Found { value, next } = number else {
+    let NumberRead::Found { value, next } = number else {
         return First::Nothing;
     };
     let record = line_behind(bytes, next, b" at");
     match record {
-        Number::Found { value: at, next } => First::Found {
-            outcome: Outcome::Refused { number: value, at },
+        NumberRead::Found { value: at, next } => First::Found {
+            outcome: SheetOutcome::Refused { number: value, at },
             next,
         },
-        Number::Nothing => First::Nothing,
+        NumberRead::Nothing => First::Nothing,
     }
 }
 
@@ -40,21 +40,21 @@ pub(crate) fn first_line(bytes: &[u8]) -> First
 {
     if word_at(bytes, 0, b"ok -\n") {
         return First::Found {
-            outcome: Outcome::Empty,
+            outcome: SheetOutcome::Empty,
             next: EMPTY_BYTES,
         };
     }
     let ok = line_behind(bytes, 0, b"ok");
-    if let Number::Found { value, next } = ok {
+    if let NumberRead::Found { value, next } = ok {
         return First::Found {
-            outcome: Outcome::Ok(value),
+            outcome: SheetOutcome::Ok(value),
             next,
         };
     }
     let spent = line_behind(bytes, 0, b"spent");
-    if let Number::Found { value, next } = spent {
+    if let NumberRead::Found { value, next } = spent {
         return First::Found {
-            outcome: Outcome::Spent(value),
+            outcome: SheetOutcome::Spent(value),
             next,
         };
     }

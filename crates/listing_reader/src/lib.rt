@@ -1,5 +1,5 @@
-// ListingReading a listing's bytes back into nodes (01, "sheets and the listing"). Nodes are written as a store keeps them, ten
-// words each, with their hashes and coefficients.
+// Reading a listing's bytes back into nodes (01, "sheets and the listing"). Nodes are written as a store keeps
+// them, with their hashes and coefficients.
 mod first;
 mod node;
 mod number;
@@ -13,7 +13,7 @@ use arena::NODE_WORDS;
 use arena::store_node;
 use first::First;
 use first::first_line;
-use listing_lines::Outcome;
+use listing_lines::SheetOutcome;
 use node::node_line;
 
 // The lines of a listing are counted from 1; that of node 0 is the second.
@@ -24,26 +24,26 @@ const FIRST_NODE_LINE: u64 = 2;
 // What reading a listing answers: its first line and how many nodes follow it, the number of the first line that is wrong,
 // or that the lent words are too few for the nodes.
 pub enum ListingAnswer {
-    Read { outcome: Outcome, count: u64 },
+    Read { outcome: SheetOutcome, count: u64 },
     Refused(u64),
     Full,
 }
 
 // Whether the id that a first line answers, if it has one, is that of one of so many nodes. A listing that was cut before the
 // line of its answer has too few.
-fn is_answer_listed(outcome: Outcome, count: u64) -> bool
+fn is_answer_listed(outcome: SheetOutcome, count: u64) -> bool
     ensures { λ r. ⌜ Says r (AnswerListed outcome count) ⌝ }
 {
     match outcome {
-        Outcome::Ok(id) => id < count,
-        Outcome::Empty => true,
-        Outcome::Spent(id) => id < count,
-        Outcome::Refused { number: _, at: _ } => true,
+        SheetOutcome::Ok(id) => id < count,
+        SheetOutcome::Empty => true,
+        SheetOutcome::Spent(id) => id < count,
+        SheetOutcome::Refused { number: _, at: _ } => true,
     }
 }
 
 // The lines of nodes from a place on, written into the lent words.
-fn node_lines(bytes: &[u8], start: usize, outcome: Outcome, nodes: &mut [u64]) -> ListingAnswer
+fn node_lines(bytes: &[u8], start: usize, outcome: SheetOutcome, nodes: &mut [u64]) -> ListingAnswer
     requires { ⌜ FirstAt (now bytes) outcome start ⌝ }
     ensures { λ r. ⌜ ListingReading (now (bytes .entry)) (now (nodes .entry)) r (now (nodes .exit)) ⌝ }
 {

@@ -2,7 +2,7 @@
 ghost use mathlib.Core.Path.{_≡_};
 ghost use mathlib.Core.Bool.{false};
 ghost use Rattle.listing_reader.specs.Line.{ReadsHeading, ReadsEnd, ReadsChildren, ReadsLine};
-use crate::number::Number;
+use crate::number::NumberRead;
 use crate::number::byte_at;
 use crate::number::decimal_at;
 use crate::number::spaced_decimal_at;
@@ -46,15 +46,15 @@ fn heading_at(bytes: &[u8], at: usize) -> Heading
     ensures { λ r. ⌜ ReadsHeading (now (bytes .entry)) at r ⌝ }
 {
     let first = decimal_at(bytes, at);
-    let Number::Found { value: id, next } = first else {
+    let NumberRead::Found { value: id, next } = first else {
         return Heading::Nothing;
     };
     let second = spaced_decimal_at(bytes, next);
-    let Number::Found { value: kind, next } = second else {
+    let NumberRead::Found { value: kind, next } = second else {
         return Heading::Nothing;
     };
     let third = spaced_hex_at(bytes, next);
-    let Number::Found {
+    let NumberRead::Found {
         value: payload,
         next,
     } = third
@@ -62,7 +62,7 @@ fn heading_at(bytes: &[u8], at: usize) -> Heading
         return Heading::Nothing;
     };
     let fourth = spaced_decimal_at(bytes, next);
-    let Number::Found { value: flags, next } = fourth else {
+    let NumberRead::Found { value: flags, next } = fourth else {
         return Heading::Nothing;
     };
     Heading::Found {
@@ -103,7 +103,7 @@ fn children_at(bytes: &[u8], at: usize) -> Children
     let mut next = at;
     while count < MOST_CHILDREN {
         let child = spaced_decimal_at(bytes, next);
-        let Number::Found { value, next: after } = child else {
+        let NumberRead::Found { value, next: after } = child else {
             return ended(bytes, next, count, places);
         };
         places[count] = value;

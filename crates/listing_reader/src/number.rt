@@ -23,7 +23,7 @@ const LETTER_F: u8 = 70;
 const NO_DIGIT: u64 = 16;
 
 // What reading a number finds: the number and the place after it, or nothing.
-pub(crate) enum Number {
+pub(crate) enum NumberRead {
     Found { value: u64, next: usize },
     Nothing,
 }
@@ -45,7 +45,7 @@ fn is_digit(byte: u8) -> bool
 }
 
 // A decimal number whose first digit is not 0.
-fn digits_at(bytes: &[u8], at: usize) -> Number
+fn digits_at(bytes: &[u8], at: usize) -> NumberRead
     requires { ⌜ (zeroDigit < getD (now bytes) at 0) × (getD (now bytes) at 0 ≤ nineDigit) ⌝ }
     ensures { λ r. ⌜ ReadsNumber (λ n rest. decimal n ++ rest) EndsDigits (now (bytes .entry)) at r ⌝ }
 {
@@ -54,29 +54,29 @@ fn digits_at(bytes: &[u8], at: usize) -> Number
     while is_digit(byte_at(bytes, next)) {
         let digit = (byte_at(bytes, next) - ZERO) as u64;
         if (u64::MAX - digit) / DECIMAL_BASE < value {
-            return Number::Nothing;
+            return NumberRead::Nothing;
         }
         value = value * DECIMAL_BASE + digit;
         next += 1;
     }
-    Number::Found { value, next }
+    NumberRead::Found { value, next }
 }
 
 // A decimal number in fewest digits.
-pub(crate) fn decimal_at(bytes: &[u8], at: usize) -> Number
+pub(crate) fn decimal_at(bytes: &[u8], at: usize) -> NumberRead
     ensures { λ r. ⌜ ReadsNumber (λ n rest. decimal n ++ rest) EndsDigits (now (bytes .entry)) at r ⌝ }
 {
     let first = byte_at(bytes, at);
     if !is_digit(first) {
-        return Number::Nothing;
+        return NumberRead::Nothing;
     }
     if first != ZERO {
         return digits_at(bytes, at);
     }
     if is_digit(byte_at(bytes, at + 1)) {
-        return Number::Nothing;
+        return NumberRead::Nothing;
     }
-    Number::Found {
+    NumberRead::Found {
         value: 0,
         next: at + 1,
     }
@@ -99,7 +99,7 @@ fn hex_value(byte: u8) -> u64
 }
 
 // A number in 16 capital hex digits.
-fn hex_at(bytes: &[u8], at: usize) -> Number
+fn hex_at(bytes: &[u8], at: usize) -> NumberRead
     ensures { λ r. ⌜ ReadsNumber (λ n rest. hex n ++ rest) Anything (now (bytes .entry)) at r ⌝ }
 {
     let mut value: u64 = 0;
@@ -108,31 +108,31 @@ fn hex_at(bytes: &[u8], at: usize) -> Number
     while read < HEX_DIGITS {
         let digit = hex_value(byte_at(bytes, next));
         if digit == NO_DIGIT {
-            return Number::Nothing;
+            return NumberRead::Nothing;
         }
         value = value * HEX_BASE + digit;
         next += 1;
         read += 1;
     }
-    Number::Found { value, next }
+    NumberRead::Found { value, next }
 }
 
 // A space and a decimal number.
-pub(crate) fn spaced_decimal_at(bytes: &[u8], at: usize) -> Number
+pub(crate) fn spaced_decimal_at(bytes: &[u8], at: usize) -> NumberRead
     ensures { λ r. ⌜ ReadsNumber (λ n rest. space ∷ (decimal n ++ rest)) EndsDigits (now (bytes .entry)) at r ⌝ }
 {
     if byte_at(bytes, at) != SPACE {
-        return Number::Nothing;
+        return NumberRead::Nothing;
     }
     decimal_at(bytes, at + 1)
 }
 
 // A space and a payload.
-pub(crate) fn spaced_hex_at(bytes: &[u8], at: usize) -> Number
+pub(crate) fn spaced_hex_at(bytes: &[u8], at: usize) -> NumberRead
     ensures { λ r. ⌜ ReadsNumber (λ n rest. space ∷ (hex n ++ rest)) Anything (now (bytes .entry)) at r ⌝ }
 {
     if byte_at(bytes, at) != SPACE {
-        return Number::Nothing;
+        return NumberRead::Nothing;
     }
     hex_at(bytes, at + 1)
 }

@@ -5,7 +5,7 @@ ghost use lib.ListN.{length};
 ghost use Rattle.definitions.specs.Listing.{decimal, space, lineFeed};
 ghost use Rattle.listing_reader.specs.Numbers.{EndsDigits, Anything, ReadsNumber};
 ghost use Rattle.listing_reader.specs.Words.{StartsWith};
-use crate::number::Number;
+use crate::number::NumberRead;
 use crate::number::byte_at;
 use crate::number::spaced_decimal_at;
 
@@ -34,30 +34,30 @@ pub(crate) fn word_at(bytes: &[u8], at: usize, word: &[u8]) -> bool
 }
 
 // A word, a space and a number.
-pub(crate) fn number_behind(bytes: &[u8], at: usize, word: &[u8]) -> Number
+pub(crate) fn number_behind(bytes: &[u8], at: usize, word: &[u8]) -> NumberRead
     requires { ⌜ 0 < length (now word) ⌝ }
     ensures { λ r. ⌜ ReadsNumber (λ n rest. now (word .entry) ++ (space ∷ (decimal n ++ rest))) EndsDigits (now (bytes .entry)) at r ⌝ }
 {
     if !word_at(bytes, at, word) {
-        return Number::Nothing;
+        return NumberRead::Nothing;
     }
     spaced_decimal_at(bytes, at + word.len())
 }
 
 // A word, a space, a number and the line's end.
-pub(crate) fn line_behind(bytes: &[u8], at: usize, word: &[u8]) -> Number
+pub(crate) fn line_behind(bytes: &[u8], at: usize, word: &[u8]) -> NumberRead
     requires { ⌜ 0 < length (now word) ⌝ }
     ensures { λ r. ⌜ ReadsNumber (λ n rest. now (word .entry) ++ (space ∷ (decimal n ++ (lineFeed ∷ rest)))) Anything (now (bytes .entry))
         at r ⌝ }
 {
     let number = number_behind(bytes, at, word);
-    let Number::Found { value, next } = number else {
-        return Number::Nothing;
+    let NumberRead::Found { value, next } = number else {
+        return NumberRead::Nothing;
     };
     if byte_at(bytes, next) != LINE_FEED {
-        return Number::Nothing;
+        return NumberRead::Nothing;
     }
-    Number::Found {
+    NumberRead::Found {
         value,
         next: next + 1,
     }

@@ -7,7 +7,7 @@ use arena::KIND;
 use arena::NODE_WORDS;
 use arena::PAYLOAD;
 use libc::STDOUT_FILENO;
-use listing_lines::Outcome;
+use listing_lines::SheetOutcome;
 use listing_reader::ListingAnswer;
 
 // Words for four nodes.
@@ -43,20 +43,20 @@ fn print_node(nodes: &[u64], first: usize) {
     }
 }
 
-fn print_outcome(outcome: Outcome) {
+fn print_outcome(outcome: SheetOutcome) {
     match outcome {
-        Outcome::Ok(id) => {
+        SheetOutcome::Ok(id) => {
             io::write_all(STDOUT_FILENO, b"ok");
             print_number(id);
         }
-        Outcome::Empty => {
+        SheetOutcome::Empty => {
             io::write_all(STDOUT_FILENO, b"ok -");
         }
-        Outcome::Spent(id) => {
+        SheetOutcome::Spent(id) => {
             io::write_all(STDOUT_FILENO, b"spent");
             print_number(id);
         }
-        Outcome::Refused { number, at } => {
+        SheetOutcome::Refused { number, at } => {
             io::write_all(STDOUT_FILENO, b"refused");
             print_number(number);
             io::write_all(STDOUT_FILENO, b" at");

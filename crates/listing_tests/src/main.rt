@@ -7,7 +7,7 @@ use libc::STDOUT_FILENO;
 use listing_lines::LINE_BYTES;
 use listing_lines::Line;
 use listing_lines::LineFound;
-use listing_lines::Outcome;
+use listing_lines::SheetOutcome;
 use listing_lines::first_line;
 
 // A store of 8 nodes and 64 slots.
@@ -25,23 +25,23 @@ fn print_line(line: Line) {
     io::write_all(STDOUT_FILENO, &bytes[..length]);
 }
 
-fn print_first(outcome: Outcome) {
+fn print_first(outcome: SheetOutcome) {
     print_line(first_line(outcome));
 }
 
 fn first_lines() {
-    print_first(Outcome::Ok(0));
-    print_first(Outcome::Ok(65_535));
-    print_first(Outcome::Ok(1_000_000));
-    print_first(Outcome::Ok(u64::MAX));
-    print_first(Outcome::Empty);
-    print_first(Outcome::Spent(9));
-    print_first(Outcome::Spent(10));
-    print_first(Outcome::Refused {
+    print_first(SheetOutcome::Ok(0));
+    print_first(SheetOutcome::Ok(65_535));
+    print_first(SheetOutcome::Ok(1_000_000));
+    print_first(SheetOutcome::Ok(u64::MAX));
+    print_first(SheetOutcome::Empty);
+    print_first(SheetOutcome::Spent(9));
+    print_first(SheetOutcome::Spent(10));
+    print_first(SheetOutcome::Refused {
         number: 3,
         at: 1_024,
     });
-    print_first(Outcome::Refused {
+    print_first(SheetOutcome::Refused {
         number: u64::MAX,
         at: 99,
     });

@@ -23,7 +23,7 @@ pub enum NameReply {
 }
 
 // An answer, and how many names there are then.
-pub struct Interned {
+pub struct InternedName {
     pub answer: NameReply,
     pub count: usize,
 }
@@ -63,7 +63,7 @@ fn find(entries: &[u8], count: usize, key: &[u8]) -> EntryFound
 }
 
 // The number of a name whose length is allowed, found or new.
-pub fn intern_allowed(entries: &mut [u8], count: usize, name: &[u8]) -> Interned
+pub fn intern_allowed(entries: &mut [u8], count: usize, name: &[u8]) -> InternedName
     requires { ⌜ SoundNames (now entries) count × Allowed (length (now name)) ⌝ }
     ensures { λ r. ⌜ NameListCalled (now (entries .entry)) count (internName (now (name .entry))) (answerOf (r .answer) []) (now (entries .exit))
         (r .count) ⌝ }
@@ -72,19 +72,19 @@ pub fn intern_allowed(entries: &mut [u8], count: usize, name: &[u8]) -> Interned
     let found = find(entries, count, &key);
     if let EntryFound::At(i) = found {
         let known = i as u32;
-        return Interned {
+        return InternedName {
             answer: NameReply::Numbered(known),
             count,
         };
     }
     if audit::MOST_NAMES <= count {
-        return Interned {
+        return InternedName {
             answer: NameReply::Refused(NO_NAME_PLACE),
             count,
         };
     }
     if entries.len() / entry::ENTRY_BYTES <= count {
-        return Interned {
+        return InternedName {
             answer: NameReply::Refused(NO_NAME_PLACE),
             count,
         };
@@ -92,7 +92,7 @@ pub fn intern_allowed(entries: &mut [u8], count: usize, name: &[u8]) -> Interned
     entry::put(entries, count, &key);
     let number = count as u32;
     let next = count + 1;
-    Interned {
+    InternedName {
         answer: NameReply::Numbered(number),
         count: next,
     }
@@ -108,18 +108,18 @@ fn length_allowed(length: usize) -> bool
 }
 
 // The number of a name, which becomes known if it is not.
-pub fn intern(entries: &mut [u8], count: usize, name: &[u8]) -> Interned
+pub fn intern(entries: &mut [u8], count: usize, name: &[u8]) -> InternedName
     ensures { λ r. ⌜ NameListCalled (now (entries .entry)) count (internName (now (name .entry))) (answerOf (r .answer) []) (now (entries .exit))
         (r .count) ⌝ }
 {
     if !audit::audit(entries, count) {
-        return Interned {
+        return InternedName {
             answer: NameReply::Refused(NOT_SOUND),
             count,
         };
     }
     if !length_allowed(name.len()) {
-        return Interned {
+        return InternedName {
             answer: NameReply::Refused(BAD_NAME_LENGTH),
             count,
         };

@@ -4,7 +4,7 @@ use mathlib.Core.Path.{_≡_, refl, sym, ap, _∙_, subst}
 use mathlib.Core.Bool.{Bool, true, false, false≢true}
 use mathlib.Core.List.{List, [], _∷_, _++_}
 use Rattle.definitions.specs.Machine as M
-use Rattle.listing_lines.specs.declared.Outcome.{Outcome}
+use Rattle.listing_lines.specs.declared.SheetOutcome.{SheetOutcome}
 use Rattle.listing_reader.specs.declared.ListingAnswer.{ListingAnswer}
 use Rattle.listing_reader.specs.declared.ListingAnswer.the-variants.{Read}
 use Rattle.names.specs.declared.NameReply as Name
@@ -52,16 +52,16 @@ built-answers x a e = subst AnswersNode (sym e) (by a)
 
 -- ---- a sheet, a listing read back, a name
 
-pub outcome-same : (o o′ : Outcome) (form id at : ℕ) → o ≡ o′ → sheetOutputs o′ form id at ≡ sheetOutputs o form id at
-outcome-same o o′ form id at e = sym (ap (λ (x : Outcome). sheetOutputs x form id at) e)
+pub outcome-same : (o o′ : SheetOutcome) (form id at : ℕ) → o ≡ o′ → sheetOutputs o′ form id at ≡ sheetOutputs o form id at
+outcome-same o o′ form id at e = sym (ap (λ (x : SheetOutcome). sheetOutputs x form id at) e)
 
-pub first-line-same : (o o′ : Outcome) (id number at : ℕ) → o ≡ o′ → firstLineOutputs o′ id number at ≡ firstLineOutputs o id number at
-first-line-same o o′ id number at e = sym (ap (λ (x : Outcome). firstLineOutputs x id number at) e)
+pub first-line-same : (o o′ : SheetOutcome) (id number at : ℕ) → o ≡ o′ → firstLineOutputs o′ id number at ≡ firstLineOutputs o id number at
+first-line-same o o′ id number at e = sym (ap (λ (x : SheetOutcome). firstLineOutputs x id number at) e)
 
 pub answer-same : (a a′ : ListingAnswer) (count form id number at line : ℕ) → a ≡ a′ → readOutputs a′ count form id number at line ≡ readOutputs a count form id number at line
 answer-same a a′ count form id number at line e = sym (ap (λ (x : ListingAnswer). readOutputs x count form id number at line) e)
 
-pub read-same : (a : ListingAnswer) (o : Outcome) (held form′ id′ number′ at′ count form id number at line : ℕ)
+pub read-same : (a : ListingAnswer) (o : SheetOutcome) (held form′ id′ number′ at′ count form id number at line : ℕ)
     → a ≡ Read o held → form′ ∷ id′ ∷ number′ ∷ at′ ∷ [] ≡ firstLineOutputs o id number at
     → 0 ∷ held ∷ form′ ∷ id′ ∷ number′ ∷ at′ ∷ line ∷ [] ≡ readOutputs a count form id number at line
 read-same a o held form′ id′ number′ at′ count form id number at line e f =

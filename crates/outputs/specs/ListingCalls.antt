@@ -3,8 +3,8 @@ use Prim.Native.Nat.{ℕ}
 use mathlib.Core.Bool.{cond}
 use mathlib.Core.List.{List, [], _∷_, _++_}
 use lib.Dec.{eqb}
-use Rattle.listing_lines.specs.declared.Outcome.{Outcome}
-use Rattle.listing_lines.specs.declared.Outcome.the-variants.{Ok, Empty, Spent, Refused}
+use Rattle.listing_lines.specs.declared.SheetOutcome.{SheetOutcome}
+use Rattle.listing_lines.specs.declared.SheetOutcome.the-variants.{Ok, Empty, Spent, Refused}
 use Rattle.listing_reader.specs.declared.ListingAnswer.{ListingAnswer}
 use Rattle.listing_reader.specs.declared.ListingAnswer.the-variants.{Read, Refused as RefusedLine, Full}
 use Rattle.outputs.specs.Forms.{okForm, emptyForm, spentForm, refusedForm}
@@ -12,12 +12,12 @@ use Rattle.outputs.specs.Forms.{okForm, emptyForm, spentForm, refusedFor
 -- ---- the first line
 
 -- the first line that a form, an id, a number and a record say
-abbrev pub firstLineOutcome : ℕ → ℕ → ℕ → ℕ → Outcome
+abbrev pub firstLineOutcome : ℕ → ℕ → ℕ → ℕ → SheetOutcome
 firstLineOutcome form id number at =
     cond (eqb form okForm) (Ok id) (cond (eqb form emptyForm) Empty (cond (eqb form spentForm) (Spent id) (Refused number at)))
 
 -- the form, id, number and record that a first line leaves; what it does not speak of stays
-abbrev pub firstLineOutputs : Outcome → ℕ → ℕ → ℕ → List ℕ
+abbrev pub firstLineOutputs : SheetOutcome → ℕ → ℕ → ℕ → List ℕ
 firstLineOutputs (Ok answered) id number at = okForm ∷ answered ∷ number ∷ at ∷ []
 firstLineOutputs Empty id number at = emptyForm ∷ id ∷ number ∷ at ∷ []
 firstLineOutputs (Spent root) id number at = spentForm ∷ root ∷ number ∷ at ∷ []

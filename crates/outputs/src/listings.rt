@@ -7,7 +7,7 @@ use crate::forms::OK;
 use crate::forms::REFUSED;
 use crate::forms::SPENT;
 use crate::leaving::ANSWERED;
-use listing_lines::Outcome;
+use listing_lines::SheetOutcome;
 use listing_reader::ListingAnswer;
 
 // What reading a listing returns where it is not answered.
@@ -17,7 +17,7 @@ pub const TOO_FEW_WORDS: u64 = 2;
 
 // The first line of a listing: its form, and the numbers that stand in it.
 fn leave_first_line(
-    outcome: Outcome,
+    outcome: SheetOutcome,
     form: &mut u64,
     id: &mut u64,
     number: &mut u64,
@@ -27,18 +27,18 @@ fn leave_first_line(
         (now (id .entry)) (now (number .entry)) (now («record» .entry)) ⌝ }
 {
     match outcome {
-        Outcome::Ok(answered) => {
+        SheetOutcome::Ok(answered) => {
             *form = OK;
             *id = answered;
         }
-        Outcome::Empty => {
+        SheetOutcome::Empty => {
             *form = EMPTY;
         }
-        Outcome::Spent(root) => {
+        SheetOutcome::Spent(root) => {
             *form = SPENT;
             *id = root;
         }
-        Outcome::Refused {
+        SheetOutcome::Refused {
             number: refusal,
             at,
         } => {

@@ -6,29 +6,29 @@ use crate::forms::EMPTY;
 use crate::forms::OK;
 use crate::forms::SPENT;
 use crate::leaving::ANSWERED;
-use listing_lines::Outcome;
+use listing_lines::SheetOutcome;
 
 // The outcome of a sheet: its form and id where every record was answered, else the record refused.
-pub fn leave_outcome(outcome: Outcome, form: &mut u64, id: &mut u64, record: &mut u64) -> u64
+pub fn leave_outcome(outcome: SheetOutcome, form: &mut u64, id: &mut u64, record: &mut u64) -> u64
     ensures { λ r. ⌜ r ∷ now (form .exit) ∷ now (id .exit) ∷ now («record» .exit) ∷ [] ≡ sheetOutputs outcome (now (form .entry))
         (now (id .entry)) (now («record» .entry)) ⌝ }
 {
     match outcome {
-        Outcome::Ok(answered) => {
+        SheetOutcome::Ok(answered) => {
             *form = OK;
             *id = answered;
             ANSWERED
         }
-        Outcome::Empty => {
+        SheetOutcome::Empty => {
             *form = EMPTY;
             ANSWERED
         }
-        Outcome::Spent(root) => {
+        SheetOutcome::Spent(root) => {
             *form = SPENT;
             *id = root;
             ANSWERED
         }
-        Outcome::Refused { number, at } => {
+        SheetOutcome::Refused { number, at } => {
             *record = at;
             number
         }

@@ -8,7 +8,7 @@ use Rattle.arena.specs.declared.node.DagNode.{DagNode}
 use Rattle.arena.specs.Layout.{mostNodes}
 use Rattle.arena.specs.Node.{nodeAt}
 use Rattle.store.specs.View.{plainNode, nodesIn}
-use Rattle.listing_lines.specs.declared.Outcome.{Outcome}
+use Rattle.listing_lines.specs.declared.SheetOutcome.{SheetOutcome}
 use Rattle.listing_reader.specs.Line.{LineOf}
 use Rattle.listing_reader.specs.Listing.{Begins}
 use Rattle.listing_reader.proofs.NodeTexts.{line-unique}
@@ -48,7 +48,7 @@ start-of w w′ (suc j) (suc j′) i rest rest′ l low h h′ e =
         same zero m = let z : i ≡ i + 0 = omega arith in subst (λ (x : ℕ). nodeAt w x ≡ nodeAt w′ x) z s
         same (suc k) m = let z : suc i + k ≡ i + suc k = omega arith in subst (λ (x : ℕ). nodeAt w x ≡ nodeAt w′ x) z (r .same k (omega arith))
 
-module _ {bytes : List ℕ} {o o′ : Outcome} {w w′ : List ℕ} {c c′ : ℕ} {rest rest′ : List ℕ} (b : Begins bytes o w c rest) (b′ : Begins bytes o′ w′ c′ rest′) where
+module _ {bytes : List ℕ} {o o′ : SheetOutcome} {w w′ : List ℕ} {c c′ : ℕ} {rest rest′ : List ℕ} (b : Begins bytes o w c rest) (b′ : Begins bytes o′ w′ c′ rest′) where
   both-lines : (o ≡ o′) × (nodeLines 0 (nodesIn w c) ++ rest ≡ nodeLines 0 (nodesIn w′ c′) ++ rest′)
   both-lines = first-unique o o′ (nodeLines 0 (nodesIn w c) ++ rest) (nodeLines 0 (nodesIn w′ c′) ++ rest′) (b .small) (b′ .small) (sym (b .text) ∙ b′ .text)
 

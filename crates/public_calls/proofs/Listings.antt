@@ -8,7 +8,7 @@ use native.Mathlib.Decide.{decLt}
 use Rattle.arena.specs.declared.node.DagNode.{DagNode}
 use Rattle.arena.specs.Layout.{nodeWords, mostNodes}
 use Rattle.arena.specs.Node.{nodeAt}
-use Rattle.listing_lines.specs.declared.Outcome.{Outcome}
+use Rattle.listing_lines.specs.declared.SheetOutcome.{SheetOutcome}
 use Rattle.listing_reader.specs.declared.ListingAnswer.{ListingAnswer}
 use Rattle.listing_reader.specs.declared.ListingAnswer.the-variants.{Read, Refused, Full}
 use Rattle.listing_reader.specs.First.{NoFirst}
@@ -38,14 +38,14 @@ readers-refuse bytes before after r h = record {
   no-place = λ e. let m = h .full e .many in omega arith;
 }
   where
-    listed : (o : Outcome) (words : List ℕ) (count line : ℕ) → IsListing bytes o words count → r ≡ Refused line → Dec (length before < count * nodeWords) → ⊥
+    listed : (o : SheetOutcome) (words : List ℕ) (count line : ℕ) → IsListing bytes o words count → r ≡ Refused line → Dec (length before < count * nodeWords) → ⊥
     listed o words count line l e (yes s) = let q : Refused line ≡ Full = sym e ∙ h .short o words count l s in let z : _≡_ {A = ℕ} 0 1 = cc in omega arith
     listed o words count line l e (no n) = let q : Refused line ≡ Read o count = sym e ∙ h .whole o words count l (omega arith) .0 in let z : _≡_ {A = ℕ} 0 1 = cc in omega arith
 
 -- ---- where a reading ends
 
 -- why it goes no further, after so many nodes, with `rest` before it and places for `lent` nodes
-data Ending (o : Outcome) (count : ℕ) (rest : List ℕ) (lent : ℕ) : ListingAnswer → Type 0 where
+data Ending (o : SheetOutcome) (count : ℕ) (rest : List ℕ) (lent : ℕ) : ListingAnswer → Type 0 where
   whole : rest ≡ [] → AnswerListed o count → Ending o count rest lent (Read o count)
   wrong : (rest ≡ [] → ⊥) → (count < mostNodes → NoLine rest count) → Ending o count rest lent (Refused (count + 2))
   cutShort : rest ≡ [] → (AnswerListed o count → ⊥) → Ending o count rest lent (Refused (count + 2))
@@ -54,14 +54,14 @@ data Ending (o : Outcome) (count : ℕ) (rest : List ℕ) (lent : ℕ) : Listing
 -- a reading, by its end
 data Told (bytes after : List ℕ) (lent : ℕ) (r : ListingAnswer) : Type 0 where
   noFirst : NoFirst bytes → r ≡ Refused 1 → Told bytes after lent r
-  lines : (o : Outcome) (count : ℕ) (rest : List ℕ) → Begins bytes o after count rest → count ≤ lent → Ending o count rest lent r → Told bytes after lent r
+  lines : (o : SheetOutcome) (count : ℕ) (rest : List ℕ) → Begins bytes o after count rest → count ≤ lent → Ending o count rest lent r → Told bytes after lent r
 
 module _ (bytes before after : List ℕ) (r : ListingAnswer) (h : ListingReading bytes before r after) where
   abbrev places : ℕ
   places = length before / nodeWords
 
   -- there is a place for each node that was read
-  room : {o : Outcome} {count : ℕ} {rest : List ℕ} → Begins bytes o after count rest → count ≤ places
+  room : {o : SheetOutcome} {count : ℕ} {rest : List ℕ} → Begins bytes o after count rest → count ≤ places
   room b =
       let f = b .formed .fits in
       let l = h .long in
@@ -83,14 +83,14 @@ module _ (bytes before after : List ℕ) (r : ListingAnswer) (h : ListingReading
   told = by-answer r refl
 
 -- where a reading ends, no line with a place for its node stands
-no-next : {o : Outcome} {count : ℕ} {rest : List ℕ} {lent : ℕ} {r : ListingAnswer} → Ending o count rest lent r → (n : DagNode) (more : List ℕ) → LineOf rest count n more → count < lent → count < mostNodes → ⊥
+no-next : {o : SheetOutcome} {count : ℕ} {rest : List ℕ} {lent : ℕ} {r : ListingAnswer} → Ending o count rest lent r → (n : DagNode) (more : List ℕ) → LineOf rest count n more → count < lent → count < mostNodes → ⊥
 no-next (whole e a) n more l p q = line-some l e
 no-next (wrong u f) n more l p q = f q n more l
 no-next (cutShort e u) n more l p q = line-some l e
 no-next (noPlace e m k other t) n more l p q = omega arith
 
 -- one end has one answer
-one-answer : {o : Outcome} {count : ℕ} {rest : List ℕ} {lent : ℕ} {r r′ : ListingAnswer} → Ending o count rest lent r → Ending o count rest lent r′ → r ≡ r′
+one-answer : {o : SheetOutcome} {count : ℕ} {rest : List ℕ} {lent : ℕ} {r r′ : ListingAnswer} → Ending o count rest lent r → Ending o count rest lent r′ → r ≡ r′
 one-answer (whole e a) (whole f b) = refl
 one-answer (whole e a) (wrong n f) = absurd (n e)
 one-answer (whole e a) (cutShort f n) = absurd (n a)
@@ -109,7 +109,7 @@ one-answer (noPlace e m k more t) (cutShort f n) = absurd (line-some t f)
 one-answer (noPlace e m k more t) (noPlace f n j other u) = refl
 
 -- as many nodes are written
-nodes-written : {o : Outcome} {count : ℕ} {rest : List ℕ} {lent : ℕ} {r : ListingAnswer} → Ending o count rest lent r → written lent r ≡ count
+nodes-written : {o : SheetOutcome} {count : ℕ} {rest : List ℕ} {lent : ℕ} {r : ListingAnswer} → Ending o count rest lent r → written lent r ≡ count
 nodes-written (whole e a) = refl
 nodes-written (wrong n f) = omega arith
 nodes-written (cutShort e n) = omega arith
@@ -126,7 +126,7 @@ module _ (bytes before after after′ : List ℕ) (r r′ : ListingAnswer) (h : 
   untouched a x k e = subst (λ (y : ListingAnswer). drop (written lent y * nodeWords) a ≡ drop (written lent y * nodeWords) before) e (k .past)
 
   -- neither goes further than the other
-  not-further : {o o′ : Outcome} {c c′ : ℕ} {rest rest′ : List ℕ} {w w′ : List ℕ} {x : ListingAnswer} → Begins bytes o w c rest → Begins bytes o′ w′ c′ rest′ → c′ ≤ lent → Ending o c rest lent x → c′ ≤ c
+  not-further : {o o′ : SheetOutcome} {c c′ : ℕ} {rest rest′ : List ℕ} {w w′ : List ℕ} {x : ListingAnswer} → Begins bytes o w c rest → Begins bytes o′ w′ c′ rest′ → c′ ≤ lent → Ending o c rest lent x → c′ ≤ c
   not-further {c = c} {c′} b b′ l e = by (decLt c c′)
     where
       by : Dec (c < c′) → c′ ≤ c
@@ -155,7 +155,7 @@ module _ (bytes before after after′ : List ℕ) (r r′ : ListingAnswer) (h : 
       let z : c′ - c ≡ 0 = omega arith in
       let rests : rest ≡ rest′ = s .rest-is ∙ nothing-left z in
       let y : Ending o c rest lent r′ =
-      subst (λ (k : ℕ). Ending o k rest lent r′) (sym same) (subst (λ (t : List ℕ). Ending o c′ t lent r′) (sym rests) (subst (λ (k : Outcome). Ending k c′ rest′ lent r′) (sym (one-outcome b b′)) x′)) in
+      subst (λ (k : ℕ). Ending o k rest lent r′) (sym same) (subst (λ (t : List ℕ). Ending o c′ t lent r′) (sym rests) (subst (λ (k : SheetOutcome). Ending k c′ rest′ lent r′) (sym (one-outcome b b′)) x′)) in
       let f = b .formed .fits in
       let g : c * nodeWords ≤ length after′ = subst (λ (k : ℕ). k * nodeWords ≤ length after′) (sym same) (b′ .formed .fits) in
       (one-answer x y, same-after c f g (λ k m. let i : 0 + k ≡ k = omega arith in subst (λ (j : ℕ). nodeAt after j ≡ nodeAt after′ j) i (s .same k m)) (nodes-written x) (nodes-written y))

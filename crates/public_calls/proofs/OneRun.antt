@@ -10,8 +10,8 @@ use Rattle.arena.specs.declared.DagArena.{DagArena}
 use Rattle.store.specs.View.{lent}
 use Rattle.store.specs.Memory.{Memory, memory, model}
 use Rattle.builder.specs.Opens.{freshMemory}
-use Rattle.listing_lines.specs.declared.Outcome.{Outcome}
-use Rattle.listing_lines.specs.declared.Outcome.the-variants.{Ok, Empty, Spent, Refused}
+use Rattle.listing_lines.specs.declared.SheetOutcome.{SheetOutcome}
+use Rattle.listing_lines.specs.declared.SheetOutcome.the-variants.{Ok, Empty, Spent, Refused}
 use Rattle.sheet.specs.declared.Ran.{Ran}
 use Rattle.sheet.specs.Sheets.{Runs, RunsFresh, refusedAtStart, notOpened, Ended, ended}
 use Rattle.public_calls.specs.Sheets.{OneRun, RunsOneWay, RunsFreshOneWay}
@@ -26,19 +26,19 @@ either {P} a b f g = by (List-discrete ℕ-discrete a b)
     by (no n) = g (λ p. n (f p))
 
 -- what a run leaves, as a list of numbers: an outcome, the counts, the words
-outcomeNumbers : Outcome → List ℕ
+outcomeNumbers : SheetOutcome → List ℕ
 outcomeNumbers (Ok i) = 0 ∷ i ∷ []
 outcomeNumbers Empty = 1 ∷ []
 outcomeNumbers (Spent i) = 2 ∷ i ∷ []
 outcomeNumbers (Refused number at) = 3 ∷ number ∷ at ∷ []
 
-outcomeFrom : List ℕ → Outcome
+outcomeFrom : List ℕ → SheetOutcome
 outcomeFrom [] = Empty
 outcomeFrom (k ∷ []) = Empty
 outcomeFrom (k ∷ i ∷ []) = cond (eqb k 0) (Ok i) (Spent i)
 outcomeFrom (k ∷ number ∷ at ∷ r) = Refused number at
 
-back : (o : Outcome) → outcomeFrom (outcomeNumbers o) ≡ o
+back : (o : SheetOutcome) → outcomeFrom (outcomeNumbers o) ≡ o
 unfolding outcomeFrom outcomeNumbers
 back (Ok i) = refl
 back Empty = refl
@@ -47,7 +47,7 @@ back (Refused number at) = refl
 
 -- ---- on any store
 
-module _ (bytes : List ℕ) (m m′ m″ : Memory) (o o′ : Outcome) (f : Runs bytes m o m′) (g : Runs bytes m o′ m″) where
+module _ (bytes : List ℕ) (m m′ m″ : Memory) (o o′ : SheetOutcome) (f : Runs bytes m o m′) (g : Runs bytes m o′ m″) where
   same : (d : Dec (model .Sound m)) → ended o m′ ≡ ended o′ m″
   same d = f .equation d ∙ sym (g .equation d)
 

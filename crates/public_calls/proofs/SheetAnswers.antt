@@ -18,8 +18,8 @@ use Rattle.store.specs.View.{lent}
 use Rattle.store.specs.Memory.{Memory, memory, model}
 use Rattle.builder.specs.Opens.{freshMemory}
 use Rattle.records.specs.Reading.{isSheet}
-use Rattle.listing_lines.specs.declared.Outcome.{Outcome}
-use Rattle.listing_lines.specs.declared.Outcome.the-variants.{Ok, Empty, Spent, Refused}
+use Rattle.listing_lines.specs.declared.SheetOutcome.{SheetOutcome}
+use Rattle.listing_lines.specs.declared.SheetOutcome.the-variants.{Ok, Empty, Spent, Refused}
 use Rattle.listing_lines.specs.Outcome.{answeredAs, outcomeOf, firstLineOf}
 use Rattle.listing_lines.proofs.Lines.{first-line-is}
 use Rattle.sheet.specs.declared.Ran.{Ran}
@@ -52,7 +52,7 @@ outcome-refuses : (l : Lent) (s : State) (bytes : List ℕ) (number at : ℕ) �
     → RefusesAt l s bytes number at × T (among number sheetRefusals)
 outcome-refuses l s bytes number at e = sheets-refuse-at l s bytes number at (refused-by (sheet l s bytes .refusal) (sheet l s bytes .answers) number at e)
 
-outcome-or : (l : Lent) (s : State) (bytes : List ℕ) (o : Outcome) → outcomeOf (sheet l s bytes .refusal) (sheet l s bytes .answers) ≡ o → OutcomeOr sheetRefusals o
+outcome-or : (l : Lent) (s : State) (bytes : List ℕ) (o : SheetOutcome) → outcomeOf (sheet l s bytes .refusal) (sheet l s bytes .answers) ≡ o → OutcomeOr sheetRefusals o
 outcome-or l s bytes (Ok i) e = tt
 outcome-or l s bytes Empty e = tt
 outcome-or l s bytes (Spent i) e = tt
@@ -60,11 +60,11 @@ outcome-or l s bytes (Refused number at) e = outcome-refuses l s bytes number at
 
 -- ---- on any store
 
-module _ (bytes : List ℕ) (m m′ : Memory) (o : Outcome) (h : Runs bytes m o m′) where
+module _ (bytes : List ℕ) (m m′ : Memory) (o : SheetOutcome) (h : Runs bytes m o m′) where
   on-sound : (number at : ℕ) → model .Sound m → o ≡ Refused number at → RefusesAt (model .lent m) (model .view m) bytes number at × T (among number sheetRefusals)
   on-sound number at s e = outcome-refuses (model .lent m) (model .view m) bytes number at (sym (ap (λ (x : Ended). x .outcome) (h .equation (yes s))) ∙ e)
 
-  listed : (p : Outcome) → o ≡ p → OutcomeOr (notSound ∷ sheetRefusals) p
+  listed : (p : SheetOutcome) → o ≡ p → OutcomeOr (notSound ∷ sheetRefusals) p
   listed (Ok i) e = tt
   listed Empty e = tt
   listed (Spent i) e = tt

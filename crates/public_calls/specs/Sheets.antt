@@ -19,8 +19,8 @@ use Rattle.store.specs.View.{lent}
 use Rattle.store.specs.Memory.{Memory, memory, model}
 use Rattle.builder.specs.Opens.{freshMemory}
 use Rattle.records.specs.Reading.{isSheet}
-use Rattle.listing_lines.specs.declared.Outcome.{Outcome}
-use Rattle.listing_lines.specs.declared.Outcome.the-variants.{Ok, Empty, Spent, Refused}
+use Rattle.listing_lines.specs.declared.SheetOutcome.{SheetOutcome}
+use Rattle.listing_lines.specs.declared.SheetOutcome.the-variants.{Ok, Empty, Spent, Refused}
 use Rattle.listing_lines.specs.Outcome.{firstLineOf}
 use Rattle.sheet.specs.declared.Ran.{Ran}
 use Rattle.sheet.specs.Sheets.{Runs, RunsFresh, notOpened}
@@ -49,13 +49,13 @@ SheetsRefuseAt = (l : Lent) (s : State) (bytes : List ℕ) (number at : ℕ) →
 
 -- ---- on any store
 
-abbrev pub OutcomeOr : List ℕ → Outcome → Type 0
+abbrev pub OutcomeOr : List ℕ → SheetOutcome → Type 0
 OutcomeOr numbers (Ok id) = Unit {0}
 OutcomeOr numbers Empty = Unit {0}
 OutcomeOr numbers (Spent id) = Unit {0}
 OutcomeOr numbers (Refused number at) = T (among number numbers)
 
-pub record SheetListed (bytes : List ℕ) (m : Memory) (o : Outcome) : Type 0 where
+pub record SheetListed (bytes : List ℕ) (m : Memory) (o : SheetOutcome) : Type 0 where
   pub listed : OutcomeOr (notSound ∷ sheetRefusals) o
   -- 20, at record 0, exactly if the store is not sound
   pub unsound : (model .Sound m → ⊥) → o ≡ Refused notSound 0
@@ -63,12 +63,12 @@ pub record SheetListed (bytes : List ℕ) (m : Memory) (o : Outcome) : Type 0 wh
   pub refused : (number at : ℕ) → model .Sound m → o ≡ Refused number at → RefusesAt (model .lent m) (model .view m) bytes number at
 
 abbrev pub SheetsListed : Type 0
-SheetsListed = (bytes : List ℕ) (m m′ : Memory) (o : Outcome) → Runs bytes m o m′ → SheetListed bytes m o
+SheetsListed = (bytes : List ℕ) (m m′ : Memory) (o : SheetOutcome) → Runs bytes m o m′ → SheetListed bytes m o
 
 -- ---- on a fresh store
 
 -- 1 for bytes that are no sheet, then 22 for too few slots, both at record 0; else what the sheet meets on the fresh store, and never 20
-pub record FreshListed (bytes words slots : List ℕ) (o : Outcome) : Type 0 where
+pub record FreshListed (bytes words slots : List ℕ) (o : SheetOutcome) : Type 0 where
   pub no-sheet : isSheet bytes ≡ false → o ≡ Refused badSheet 0
   pub no-slots : isSheet bytes ≡ true → freshRefused (lent words slots) ≡ true → o ≡ Refused noSlotPlace 0
   pub refused : (number at : ℕ) → isSheet bytes ≡ true → freshRefused (lent words slots) ≡ false → o ≡ Refused number at
@@ -83,7 +83,7 @@ FreshSheetsListed = (bytes words slots words′ slots′ : List ℕ) (before : D
 
 -- the first line of a listing is that of an outcome, whose refusal, if it has one, is the sheet's
 pub record ListingSays (bytes after : List ℕ) : Type 0 where
-  pub outcome : Outcome
+  pub outcome : SheetOutcome
   pub rest : List ℕ
   pub first : after ≡ firstLineOf outcome ++ lineFeed ∷ rest
   pub listed : OutcomeOr sheetRefusals outcome
@@ -95,12 +95,12 @@ ListingsSay = (bytes before after : List ℕ) (r : ℕ) → Listed bytes before 
 -- ---- one sheet on one memory
 
 -- two runs have one outcome and leave one memory, sound or not
-pub record OneRun (o o′ : Outcome) (m′ m″ : Memory) : Type 0 where
+pub record OneRun (o o′ : SheetOutcome) (m′ m″ : Memory) : Type 0 where
   pub outcome : o ≡ o′
   pub memory : m′ ≡ m″
 
 abbrev pub RunsOneWay : Type 0
-RunsOneWay = (bytes : List ℕ) (m m′ m″ : Memory) (o o′ : Outcome) → Runs bytes m o m′ → Runs bytes m o′ m″ → OneRun o o′ m′ m″
+RunsOneWay = (bytes : List ℕ) (m m′ m″ : Memory) (o o′ : SheetOutcome) → Runs bytes m o m′ → Runs bytes m o′ m″ → OneRun o o′ m′ m″
 
 abbrev pub RunsFreshOneWay : Type 0
 RunsFreshOneWay = (bytes words slots words′ slots′ words″ slots″ : List ℕ) (before : DagArena) (r r′ : Ran)

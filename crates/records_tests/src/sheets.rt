@@ -8,22 +8,22 @@ use records::Opened;
 const MOST_RECORDS: u64 = 1_024;
 
 // Where the next record is, if there may be one.
-enum Next {
+enum NextSheet {
     At(usize),
     Nothing,
 }
 
 // Prints the record at a place, and says where the next one is.
-fn print_record(sheet: &[u8], at: usize) -> Next {
+fn print_record(sheet: &[u8], at: usize) -> NextSheet {
     let record = records::read(sheet, Cursor { at });
     let body = record.body;
     let next = record.next;
     print_body(sheet, body);
     if is_malformed(body) {
-        return Next::Nothing;
+        return NextSheet::Nothing;
     }
     io::write_all(STDOUT_FILENO, b"; ");
-    Next::At(next.at)
+    NextSheet::At(next.at)
 }
 
 fn print_records(sheet: &[u8], start: usize) {
@@ -36,7 +36,7 @@ fn print_records(sheet: &[u8], start: usize) {
             return;
         }
         let next = print_record(sheet, at);
-        let Next::At(place) = next else {
+        let NextSheet::At(place) = next else {
             return;
         };
         at = place;

@@ -29,8 +29,8 @@ use Rattle.records.specs.declared.Body.{Body}
 use Rattle.records.specs.declared.Body.the-variants as B
 use Rattle.records.specs.Reading.{callOf, operandsFrom, OperandsInSheet}
 use Rattle.records.proofs.Operands.{operands-length}
-use Rattle.sheet.specs.declared.performing.Request.{Request}
-use Rattle.sheet.specs.declared.performing.Request.the-variants.{Call as Asked, Malformed}
+use Rattle.sheet.specs.declared.performing.RecordRequest.{RecordRequest}
+use Rattle.sheet.specs.declared.performing.RecordRequest.the-variants.{Call as Asked, Malformed}
 use Rattle.sheet.specs.Running.{idOf, idBelow, operandsRead, readOf, AsksFor, RequestsIn, PerformsBody}
 use Rattle.sheet.proofs.Clamping.{store-same, simplify-same, prune-same, setting-same, many-same}
 
@@ -162,12 +162,12 @@ module _ (m : Memory) (ids : List ℕ) (done : ℕ) where
 
 module _ (body : Body) (id : ℕ → ℕ) where
   -- a call without operands
-  pub asks-alone : (x : Body) → body ≡ x → (s : List ℕ) (call : Call) (plain : M.Call) → callOf s x ≡ some plain → Store.callOf call (map id (operandsFrom s 0 0)) ≡ Sheet.callOn id plain → (r : Request) → r ≡ Asked call 0 0 → RequestsIn s body id r
+  pub asks-alone : (x : Body) → body ≡ x → (s : List ℕ) (call : Call) (plain : M.Call) → callOf s x ≡ some plain → Store.callOf call (map id (operandsFrom s 0 0)) ≡ Sheet.callOn id plain → (r : RecordRequest) → r ≡ Asked call 0 0 → RequestsIn s body id r
   asks-alone x e s call plain t u r f =
       subst (RequestsIn s body id) (sym f)
       (let asks : AsksFor s body id call 0 0 = record { within = omega arith; plain = plain; is = ap (callOf s) e ∙ t; same = u } in asks)
 
-  module _ (s : List ℕ) (r : Request) where
+  module _ (s : List ℕ) (r : RecordRequest) where
     pub asks-simplify : (mode : Mode) (o depth budget root : ℕ) → body ≡ B.Simplify mode o depth budget → root ≡ id o → r ≡ Asked (Simplify mode root depth budget) 0 0 → RequestsIn s body id r
     asks-simplify mode o depth budget root e f t =
         asks-alone (B.Simplify mode o depth budget) e s (Simplify mode root depth budget) (M.simplify (modeOf mode) o depth budget) refl (ap (λ (i : ℕ). M.simplify (modeOf mode) i depth budget) f) r t
@@ -182,7 +182,7 @@ module _ (body : Body) (id : ℕ → ℕ) where
   asks-over x e s call plain first operands w f t u = record { within = f (subst (OperandsInSheet (length s)) e w); plain = plain; is = ap (callOf s) e ∙ t; same = u }
 
 -- what was asked for, taken apart
-module _ (s : List ℕ) (body : Body) (id : ℕ → ℕ) (r : Request) (q : RequestsIn s body id r) where
+module _ (s : List ℕ) (body : Body) (id : ℕ → ℕ) (r : RecordRequest) (q : RequestsIn s body id r) where
   pub asked-call : (call : Call) (first operands : ℕ) → r ≡ Asked call first operands → AsksFor s body id call first operands
   asked-call call first operands e = subst (RequestsIn s body id) e q
 

@@ -22,15 +22,15 @@ use Rattle.store.proofs.Viewing.{plain-length}
 use Rattle.arena.specs.declared.DagArena.{DagArena}
 use Rattle.records.specs.declared.Record.{Record}
 use Rattle.records.specs.Reading.{callOf, ReadsRecord}
-use Rattle.listing_lines.specs.declared.Outcome.{Outcome}
-use Rattle.listing_lines.specs.declared.Outcome.the-variants.{Ok, Empty, Spent, Refused as RefusedAt}
+use Rattle.listing_lines.specs.declared.SheetOutcome.{SheetOutcome}
+use Rattle.listing_lines.specs.declared.SheetOutcome.the-variants.{Ok, Empty, Spent, Refused as RefusedAt}
 use Rattle.listing_lines.specs.Outcome.{answeredAs, outcomeOf}
 use Rattle.store_calls.specs.declared.answers.Answer.{Answer}
 use Rattle.store_calls.specs.Calls.{answerOf}
 use Rattle.sheet.specs.declared.running.Noted.{Noted}
 use Rattle.sheet.specs.declared.running.Noted.the-variants.{Answered, Refused}
 use Rattle.sheet.specs.declared.running.SheetProgress.{SheetProgress}
-use Rattle.sheet.specs.declared.running.Turn.the-variants.{More, Refused as RefusedTurn}
+use Rattle.sheet.specs.declared.running.SheetTurn.the-variants.{More, Refused as RefusedTurn}
 use Rattle.sheet.specs.Running.{notedAs, PerformsBody, idOf, finishedAs, Doing, RunsRecords, Turned}
 
 -- ---- the plain machine's records
@@ -115,7 +115,7 @@ module _ (done id : ℕ) (spent : Bool) (n : done ≡ 0 → ⊥) where
 
 -- ---- the end of a sheet
 
-pub finish : (plain : Sheet.Ran) (m m′ : Memory) (o : Outcome) (al : List M.Answer) (r : Option (ℕ × ℕ)) (st : M.State) → Sheet.ran al r st ≡ plain → o ≡ outcomeOf r al → model .view m′ ≡ st → Stays m m′ → RunsRecords plain m o m′
+pub finish : (plain : Sheet.Ran) (m m′ : Memory) (o : SheetOutcome) (al : List M.Answer) (r : Option (ℕ × ℕ)) (st : M.State) → Sheet.ran al r st ≡ plain → o ≡ outcomeOf r al → model .view m′ ≡ st → Stays m m′ → RunsRecords plain m o m′
 finish plain m m′ o al r st e f v k = record {
   outcome = f ∙ ap (λ (x : Sheet.Ran). outcomeOf (x .refusal) (x .answers)) e;
   left = v ∙ ap (λ (x : Sheet.Ran). x .left) e;
@@ -144,7 +144,7 @@ module _ (s : List ℕ) (plain : Sheet.Ran) (m : Memory) (p : SheetProgress) (m�
   abbrev st : M.State
   st = model .view m′
 
-  pub doing-end : length s ≤ p .at → (o : Outcome) → o ≡ finishedAs (p .done) (p .id) (p .spent) → RunsRecords plain m o m′
+  pub doing-end : length s ≤ p .at → (o : SheetOutcome) → o ≡ finishedAs (p .done) (p .id) (p .spent) → RunsRecords plain m o m′
   doing-end h o e =
       finish plain m m′ o al none st (sym (records-none (mostRecords - p .done) l al st (drop (p .at) s) (drop-of-length-le s h)) ∙ d .goes) (e ∙ sym (d .last)) refl (d .stays)
 

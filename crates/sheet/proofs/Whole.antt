@@ -25,8 +25,8 @@ use Rattle.records.specs.declared.Cursor.{Cursor}
 use Rattle.records.specs.declared.Opened.{Opened}
 use Rattle.records.specs.declared.Opened.the-variants.{Records, Refused as RefusedSheet}
 use Rattle.records.specs.Reading.{afterOpening, isSheet, isOpened, OpensSheet}
-use Rattle.listing_lines.specs.declared.Outcome.{Outcome}
-use Rattle.listing_lines.specs.declared.Outcome.the-variants.{Refused as RefusedAt}
+use Rattle.listing_lines.specs.declared.SheetOutcome.{SheetOutcome}
+use Rattle.listing_lines.specs.declared.SheetOutcome.the-variants.{Refused as RefusedAt}
 use Rattle.listing_lines.specs.Outcome.{outcomeOf, allLines}
 use Rattle.listing_lines.proofs.Lines.{listing-of-memory}
 use Rattle.sheet.specs.declared.Ran.{Ran}
@@ -53,7 +53,7 @@ pub runs-at-start : (s words slots : List ℕ) (arena : DagArena) (number : ℕ)
 runs-at-start s words slots arena number r e k = subst (λ (x : Ran). Runs s (memory words slots arena) (x .outcome) (memory words slots (x .arena))) (sym e) k
 
 module _ (s : List ℕ) (m : Memory) (h : model .Sound m) where
-  runs : (o : Outcome) (m′ : Memory) → RunsRecords (Sheet.sheet (model .lent m) (model .view m) s) m o m′ → (isSheet s ≡ false → m′ ≡ m) → Runs s m o m′
+  runs : (o : SheetOutcome) (m′ : Memory) → RunsRecords (Sheet.sheet (model .lent m) (model .view m) s) m o m′ → (isSheet s ≡ false → m′ ≡ m) → Runs s m o m′
   runs o m′ f u = record {
     equation = answered-by;
     left = λ _. f .left;
@@ -75,7 +75,7 @@ module _ (s : List ℕ) (m : Memory) (h : model .Sound m) where
       (λ _. refl)
 
   -- the records of a sheet that starts well
-  pub runs-records : (r : Opened) (c : Cursor) → r ≡ Records c → OpensSheet s r → (o : Outcome) (m′ : Memory) → RunsRecords (Sheet.records mostRecords (model .lent m) [] (model .view m) (drop (c .at) s)) m o m′ → Runs s m o m′
+  pub runs-records : (r : Opened) (c : Cursor) → r ≡ Records c → OpensSheet s r → (o : SheetOutcome) (m′ : Memory) → RunsRecords (Sheet.records mostRecords (model .lent m) [] (model .view m) (drop (c .at) s)) m o m′ → Runs s m o m′
   runs-records r c e x o m′ f =
       runs o m′ (subst (λ (plain : Sheet.Ran). RunsRecords plain m o m′) (ap (afterOpening (model .lent m) (model .view m) s) (sym e) ∙ x .is (model .lent m) (model .view m)) f)
       (λ n. absurd (let t : false ≡ true = sym n ∙ x .tells ∙ ap isOpened e in let z : _≡_ {A = ℕ} 0 1 = cc in omega arith))

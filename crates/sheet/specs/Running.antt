@@ -18,16 +18,16 @@ use Rattle.store_calls.specs.declared.answers.Answer.the-variants.{Refused as R
 use Rattle.store_calls.specs.Calls as Store
 use Rattle.records.specs.declared.Body.{Body}
 use Rattle.records.specs.Reading.{callOf, operandsFrom, OperandsInSheet}
-use Rattle.listing_lines.specs.declared.Outcome.{Outcome}
-use Rattle.listing_lines.specs.declared.Outcome.the-variants.{Ok, Empty, Spent, Refused as RefusedAt}
+use Rattle.listing_lines.specs.declared.SheetOutcome.{SheetOutcome}
+use Rattle.listing_lines.specs.declared.SheetOutcome.the-variants.{Ok, Empty, Spent, Refused as RefusedAt}
 use Rattle.listing_lines.specs.Outcome.{outcomeOf}
-use Rattle.sheet.specs.declared.performing.Request.{Request}
-use Rattle.sheet.specs.declared.performing.Request.the-variants.{Call as Asked, Malformed}
+use Rattle.sheet.specs.declared.performing.RecordRequest.{RecordRequest}
+use Rattle.sheet.specs.declared.performing.RecordRequest.the-variants.{Call as Asked, Malformed}
 use Rattle.sheet.specs.declared.running.Noted.{Noted}
 use Rattle.sheet.specs.declared.running.Noted.the-variants.{Answered, Refused}
 use Rattle.sheet.specs.declared.running.SheetProgress.{SheetProgress}
-use Rattle.sheet.specs.declared.running.Turn.{Turn}
-use Rattle.sheet.specs.declared.running.Turn.the-variants.{More, Refused as RefusedTurn}
+use Rattle.sheet.specs.declared.running.SheetTurn.{SheetTurn}
+use Rattle.sheet.specs.declared.running.SheetTurn.the-variants.{More, Refused as RefusedTurn}
 
 -- ---- one record
 
@@ -60,12 +60,12 @@ pub record AsksFor (s : List ℕ) (body : Body) (id : ℕ → ℕ) (call : Call)
   pub is : callOf s body ≡ some plain
   pub same : Store.callOf call (map id (operandsFrom s first operands)) ≡ Sheet.callOn id plain
 
-abbrev pub RequestsIn : List ℕ → Body → (ℕ → ℕ) → Request → Type 0
+abbrev pub RequestsIn : List ℕ → Body → (ℕ → ℕ) → RecordRequest → Type 0
 RequestsIn s body id (Asked call first operands) = AsksFor s body id call first operands
 RequestsIn s body id Malformed = callOf s body ≡ none
 
 -- whatever sheet the body is of
-abbrev pub Requests : Body → (ℕ → ℕ) → Request → Type 0
+abbrev pub Requests : Body → (ℕ → ℕ) → RecordRequest → Type 0
 Requests body id r = (s : List ℕ) → OperandsInSheet (length s) body → RequestsIn s body id r
 
 -- a record's body on a sound store: its call on ids, or refusal 2
@@ -76,7 +76,7 @@ pub record PerformsBody (s : List ℕ) (body : Body) (ids : List ℕ) (done : �
 -- ---- records one after another
 
 -- what a sheet whose records were all answered says
-abbrev pub finishedAs : ℕ → ℕ → Bool → Outcome
+abbrev pub finishedAs : ℕ → ℕ → Bool → SheetOutcome
 finishedAs done id spent = cond (eqb done 0) Empty (cond spent (Spent id) (Ok id))
 
 -- So far `answers` were given from memory `m` on, their ids are noted, and what is left of the sheet `s` gives `plain`.
@@ -91,16 +91,16 @@ pub record Doing (s : List ℕ) (plain : Sheet.Ran) (m : Memory) (p : SheetProgr
   pub stays : Stays m m′
 
 -- the whole of a sheet's records
-pub record RunsRecords (plain : Sheet.Ran) (m : Memory) (o : Outcome) (m′ : Memory) : Type 0 where
+pub record RunsRecords (plain : Sheet.Ran) (m : Memory) (o : SheetOutcome) (m′ : Memory) : Type 0 where
   pub outcome : o ≡ outcomeOf (plain .refusal) (plain .answers)
   pub left : model .view m′ ≡ plain .left
   pub stays : Stays m m′
 
 -- one more record, or the end of the sheet by a refusal
-pub record Turned (s : List ℕ) (plain : Sheet.Ran) (m : Memory) (done : ℕ) (t : Turn) (words slots ids : List ℕ) : Type 0 where
+pub record Turned (s : List ℕ) (plain : Sheet.Ran) (m : Memory) (done : ℕ) (t : SheetTurn) (words slots ids : List ℕ) : Type 0 where
   pub more : (p : SheetProgress) → t ≡ More p → (p .done ≡ done + 1) × Doing s plain m p (memory words slots (p .arena)) ids
   pub refused : (number : ℕ) (arena : DagArena) → t ≡ RefusedTurn number arena → RunsRecords plain m (RefusedAt number done) (memory words slots arena)
 
 -- a turn, whatever was done before it
-pub record NextRecord (s : List ℕ) (p : SheetProgress) (words slots ids : List ℕ) (t : Turn) (words′ slots′ ids′ : List ℕ) : Type 0 where
+pub record NextRecord (s : List ℕ) (p : SheetProgress) (words slots ids : List ℕ) (t : SheetTurn) (words′ slots′ ids′ : List ℕ) : Type 0 where
   pub turned : (plain : Sheet.Ran) (m : Memory) → Doing s plain m p (memory words slots (p .arena)) ids → Turned s plain m (p .done) t words′ slots′ ids′

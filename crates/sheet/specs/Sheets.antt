@@ -15,8 +15,8 @@ use Rattle.store.specs.View.{lent}
 use Rattle.store.specs.Memory.{Memory, memory, model, memoryAfter}
 use Rattle.builder.specs.Opens.{freshMemory}
 use Rattle.records.specs.Reading.{isSheet}
-use Rattle.listing_lines.specs.declared.Outcome.{Outcome}
-use Rattle.listing_lines.specs.declared.Outcome.the-variants.{Refused}
+use Rattle.listing_lines.specs.declared.SheetOutcome.{SheetOutcome}
+use Rattle.listing_lines.specs.declared.SheetOutcome.the-variants.{Refused}
 use Rattle.listing_lines.specs.Outcome.{outcomeOf, allLines}
 use Rattle.sheet.specs.declared.Ran.{Ran}
 
@@ -27,10 +27,10 @@ refusedAtStart number arena = record { outcome = Refused number 0; arena = arena
 
 -- an outcome, and the memory after it
 pub record Ended : Type 0 where
-  pub outcome : Outcome
+  pub outcome : SheetOutcome
   pub memory : Memory
 
-abbrev pub ended : Outcome → Memory → Ended
+abbrev pub ended : SheetOutcome → Memory → Ended
 ended outcome memory = record { outcome = outcome; memory = memory }
 
 -- "20, 1, then per record ..": 20 at 0 and the same memory where the store is not sound, else the plain machine's outcome and the memory
@@ -42,7 +42,7 @@ endedBy s m (yes h) =
 endedBy s m (no n) = ended (Refused notSound 0) m
 
 -- A sheet: one equation for its outcome and the memory, which has the plain machine's nodes, is sound again and as large as before.
-pub record Runs (s : List ℕ) (m : Memory) (o : Outcome) (m′ : Memory) : Type 0 where
+pub record Runs (s : List ℕ) (m : Memory) (o : SheetOutcome) (m′ : Memory) : Type 0 where
   pub equation : (d : Dec (model .Sound m)) → ended o m′ ≡ endedBy s m d
   pub left : model .Sound m → model .view m′ ≡ sheet (model .lent m) (model .view m) s .left
   -- the lines of the outcome and of the nodes, joined, are the listing of the plain machine's result

@@ -10,7 +10,7 @@ use arena::DagArena;
 use builder::FreshStore;
 use definitions::refusals::BAD_SHEET;
 use definitions::refusals::NOT_SOUND;
-use listing_lines::Outcome;
+use listing_lines::SheetOutcome;
 use records::Opened;
 use running::run_records;
 
@@ -19,7 +19,7 @@ pub(crate) const MOST_RECORDS: usize = 1_024;
 
 // What a sheet's first line says, and the counts of the store after it.
 pub struct Ran {
-    pub outcome: Outcome,
+    pub outcome: SheetOutcome,
     pub arena: DagArena,
 }
 
@@ -27,7 +27,7 @@ fn refused(number: u64, arena: DagArena) -> Ran
     ensures { λ r. ⌜ r ≡ refusedAtStart number arena ⌝ }
 {
     Ran {
-        outcome: Outcome::Refused { number, at: 0 },
+        outcome: SheetOutcome::Refused { number, at: 0 },
         arena,
     }
 }

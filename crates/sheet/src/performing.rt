@@ -20,7 +20,7 @@ use store_calls::Performed;
 use store_calls::perform_sound;
 
 // What a record asks for: a call, and where its operands start and how many there are; or nothing (refusal 2).
-pub(crate) enum Request {
+pub(crate) enum RecordRequest {
     Call {
         call: Call,
         first: usize,
@@ -30,10 +30,10 @@ pub(crate) enum Request {
 }
 
 // A call without operands.
-fn alone(call: Call) -> Request
-    ensures { λ r. ⌜ r ≡ Request.Call call 0 0 ⌝ }
+fn alone(call: Call) -> RecordRequest
+    ensures { λ r. ⌜ r ≡ RecordRequest.Call call 0 0 ⌝ }
 {
-    Request::Call {
+    RecordRequest::Call {
         call,
         first: 0,
         operands: 0,
@@ -42,7 +42,7 @@ fn alone(call: Call) -> Request
 
 // The call of a body: 01 symbol(4); 02 bits(8); 03 operator(1), flags(1), operands; 04 function(4), operands; 05 control(1), operands; 06
 // and 08 operand, depth(1), budget(4); 07 operand, threshold bits(8).
-fn request_of(body: Body, ids: &[u64; MOST_RECORDS], done: usize, count: u64) -> Request
+fn request_of(body: Body, ids: &[u64; MOST_RECORDS], done: usize, count: u64) -> RecordRequest
     requires { ⌜ (length (now ids) ≡ mostRecords) × (done ≤ mostRecords) × (count ≤ mostNodes) ⌝ }
     ensures { λ r. ⌜ Requests body (idBelow (now (ids .entry)) done count) r ⌝ }
 {
@@ -54,7 +54,7 @@ fn request_of(body: Body, ids: &[u64; MOST_RECORDS], done: usize, count: u64) ->
             flags,
             first,
             count: operands,
-        } => Request::Call {
+        } => RecordRequest::Call {
             call: Call::Operator {
                 code: code as u32,
                 flags: flags as u32,
@@ -66,7 +66,7 @@ fn request_of(body: Body, ids: &[u64; MOST_RECORDS], done: usize, count: u64) ->
             number,
             first,
             count: operands,
-        } => Request::Call {
+        } => RecordRequest::Call {
             call: Call::Function(number),
             first,
             operands,
@@ -75,7 +75,7 @@ fn request_of(body: Body, ids: &[u64; MOST_RECORDS], done: usize, count: u64) ->
             code,
             first,
             count: operands,
-        } => Request::Call {
+        } => RecordRequest::Call {
             call: Call::Control(code as u32),
             first,
             operands,
@@ -95,7 +95,7 @@ fn request_of(body: Body, ids: &[u64; MOST_RECORDS], done: usize, count: u64) ->
             root: operand_id(ids, done, count, operand),
             threshold,
         }),
-        Body::Malformed => Request::Malformed,
+        Body::Malformed => RecordRequest::Malformed,
     }
 }
 
@@ -117,11 +117,11 @@ pub(crate) fn perform(
     let count = arena.count;
     let request = request_of(body, ids, done, count);
     match request {
-        Request::Malformed => Performed {
+        RecordRequest::Malformed => Performed {
             answer: Answer::Refused(BAD_RECORD),
             arena,
         },
-        Request::Call {
+        RecordRequest::Call {
             call,
             first,
             operands,

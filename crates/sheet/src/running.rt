@@ -14,7 +14,7 @@ use crate::Ran;
 use crate::performing::perform;
 use arena::DagArena;
 use definitions::refusals::TOO_MANY_RECORDS;
-use listing_lines::Outcome;
+use listing_lines::SheetOutcome;
 use records::Cursor;
 use store_calls::Answer;
 
@@ -29,7 +29,7 @@ pub(crate) struct SheetProgress {
 }
 
 // One more record done, or the number of the refusal that cuts the sheet short.
-pub(crate) enum Turn {
+pub(crate) enum SheetTurn {
     More(SheetProgress),
     Refused { number: u64, arena: DagArena },
 }
@@ -64,7 +64,7 @@ fn step(
     slots: &mut [u32],
     ids: &mut [u64; MOST_RECORDS],
     progress: SheetProgress,
-) -> Turn
+) -> SheetTurn
     requires { ⌜ (progress .at < length (now sheet)) × (length (now ids) ≡ mostRecords) × (progress .done ≤ mostRecords) × Sound (now nodes)
         (now slots) (progress .arena) ⌝ }
     ensures { λ r. ⌜ NextRecord (now (sheet .entry)) progress (now (nodes .entry)) (now (slots .entry)) (now (ids .entry)) r
@@ -74,7 +74,7 @@ fn step(
     let at = progress.at;
     let arena = progress.arena;
     if done == MOST_RECORDS {
-        return Turn::Refused {
+        return SheetTurn::Refused {
             number: TOO_MANY_RECORDS,
             arena,
         };
@@ -87,13 +87,13 @@ fn step(
     let answer = performed.answer;
     let noted = note(answer);
     match noted {
-        Noted::Refused(number) => Turn::Refused {
+        Noted::Refused(number) => SheetTurn::Refused {
             number,
             arena: after,
         },
         Noted::Answered { id, spent } => {
             ids[done] = id;
-            Turn::More(SheetProgress {
+            SheetTurn::More(SheetProgress {
                 done: done + 1,
                 at: next.at,
                 id,
@@ -105,16 +105,16 @@ fn step(
 }
 
 // What a sheet without a refusal says.
-fn finished(progress: SheetProgress) -> Outcome
+fn finished(progress: SheetProgress) -> SheetOutcome
     ensures { λ r. ⌜ r ≡ finishedAs (progress .done) (progress .id) (progress .spent) ⌝ }
 {
     if progress.done == 0 {
-        return Outcome::Empty;
+        return SheetOutcome::Empty;
     }
     if progress.spent {
-        return Outcome::Spent(progress.id);
+        return SheetOutcome::Spent(progress.id);
     }
-    Outcome::Ok(progress.id)
+    SheetOutcome::Ok(progress.id)
 }
 
 // All records from a place on, in a sound store.
@@ -141,19 +141,19 @@ pub(crate) fn run_records(
     while progress.at < sheet.len() {
         let turn = step(sheet, nodes, slots, &mut ids, progress);
         match turn {
-            Turn::Refused {
+            SheetTurn::Refused {
                 number,
                 arena: after,
             } => {
                 return Ran {
-                    outcome: Outcome::Refused {
+                    outcome: SheetOutcome::Refused {
                         number,
                         at: progress.done as u64,
                     },
                     arena: after,
                 };
             }
-            Turn::More(next) => {
+            SheetTurn::More(next) => {
                 progress = next;
             }
         }

@@ -8,14 +8,14 @@ use arena::DagArena;
 use store::Built;
 
 // What a walk answers: an id, whether the budget was used up with frames left, and the steps.
-pub struct Walked {
+pub struct WalkResult {
     pub id: u64,
     pub spent: bool,
     pub steps: u64,
 }
 
 // What a prune answers: an id, and the numbers of terms kept and dropped.
-pub struct Pruned {
+pub struct PruneResult {
     pub id: u64,
     pub kept: u64,
     pub dropped: u64,
@@ -23,8 +23,8 @@ pub struct Pruned {
 
 pub enum Answer {
     Stored(u64),
-    Simplified(Walked),
-    Pruned(Pruned),
+    Simplified(WalkResult),
+    Pruned(PruneResult),
     // The number of a refusal.
     Refused(u64),
 }
@@ -61,7 +61,7 @@ pub(crate) fn of_walk(outcome: walk::WalkOutcome) -> Performed
     let arena = outcome.arena;
     match answer {
         walk::WalkAnswer::Simplified { id, steps } => Performed {
-            answer: Answer::Simplified(Walked {
+            answer: Answer::Simplified(WalkResult {
                 id,
                 spent: false,
                 steps,
@@ -69,7 +69,7 @@ pub(crate) fn of_walk(outcome: walk::WalkOutcome) -> Performed
             arena,
         },
         walk::WalkAnswer::Spent { id, steps } => Performed {
-            answer: Answer::Simplified(Walked {
+            answer: Answer::Simplified(WalkResult {
                 id,
                 spent: true,
                 steps,
@@ -91,7 +91,7 @@ pub(crate) fn of_prune(outcome: pruner::PruneOutcome) -> Performed
     let arena = outcome.arena;
     match answer {
         pruner::PruneAnswer::Pruned { id, kept, dropped } => Performed {
-            answer: Answer::Pruned(Pruned { id, kept, dropped }),
+            answer: Answer::Pruned(PruneResult { id, kept, dropped }),
             arena,
         },
         pruner::PruneAnswer::Refused(number) => Performed {

@@ -24,8 +24,8 @@ use Rattle.builder.specs.Opens.{Opens, freshAnswer, freshSlots}
 use Rattle.names.specs.Memory.{nameMemory, nameModel}
 use Rattle.names.specs.Sound.{lentEntries}
 use Rattle.names.proofs.Modelled.{no-names}
-use Rattle.listing_lines.specs.declared.Outcome as Outcome
-use Rattle.listing_lines.specs.declared.Outcome.the-variants as outcome
+use Rattle.listing_lines.specs.declared.SheetOutcome as Outcome
+use Rattle.listing_lines.specs.declared.SheetOutcome.the-variants as outcome
 use Rattle.text.specs.Memory.{ControllerMemory, controllerMemory}
 use Rattle.text.specs.Reading.{ReadsText}
 use Rattle.text.proofs.Calling.{read-called}

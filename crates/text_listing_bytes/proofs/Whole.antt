@@ -24,7 +24,7 @@ use Rattle.listing_lines.specs.Filling.{PutsLine, Fills}
 use Rattle.listing_lines.proofs.Lines.{later-rest, listing-of-memory}
 use Rattle.text.specs.Memory.{ControllerMemory, controllerMemory}
 use Rattle.text_listing_bytes.specs.Names.{nameLines}
-use Rattle.listing_lines.specs.declared.Outcome as Outcome
+use Rattle.listing_lines.specs.declared.SheetOutcome as Outcome
 use Rattle.text.specs.Calling.{answered}
 use Rattle.text_listing_bytes.specs.declared.TextListing.{TextListing}
 use Rattle.text_listing_bytes.specs.Listed.{textLent, textListingBytes, lentLists, readText, ReadsFresh, PlaceOf, outcomeOf, ranOf, textListing, Lines, ListedText}
@@ -88,7 +88,7 @@ module _ (s words slots entries : List ℕ) (a : NodeAnswer) (words′ slots′ 
     }
 
 -- the lines in one array
-pub lines-in : (a : NodeAnswer) (place : ℕ) (words : List ℕ) (count : ℕ) (entries : List ℕ) (names : ℕ) (b₁ b₂ : List ℕ) (n r : ℕ) (o : Outcome.Outcome) → o ≡ outcomeOf a place
+pub lines-in : (a : NodeAnswer) (place : ℕ) (words : List ℕ) (count : ℕ) (entries : List ℕ) (names : ℕ) (b₁ b₂ : List ℕ) (n r : ℕ) (o : Outcome.SheetOutcome) → o ≡ outcomeOf a place
     → Fills (allLines o words count) n (replicate textListingBytes 0) b₁ → PutsLine (nameLines (namesOf entries names)) n b₁ r b₂ → r ≤ length b₂
     → Lines a place words count entries names (record { bytes = b₂; length = r; answer = a; place = place })
 lines-in a place words count entries names b₁ b₂ n r o e f q k =
@@ -98,7 +98,7 @@ lines-in a place words count entries names b₁ b₂ n r o e f q k =
     record {
       answer = refl;
       place = refl;
-      is = q .is ∙ ap (λ (x : List ℕ). x ++ nameLines (namesOf entries names)) (start ∙ ap (λ (x : Outcome.Outcome). allLines x words count) e);
+      is = q .is ∙ ap (λ (x : List ℕ). x ++ nameLines (namesOf entries names)) (start ∙ ap (λ (x : Outcome.SheetOutcome). allLines x words count) e);
       within = k;
       rest = q .rest ∙ later-rest n r b₁ zeros (let p = q .place in omega arith) past;
     }

@@ -17,8 +17,8 @@ use Rattle.store.specs.declared.NodeAnswer.{NodeAnswer}
 use Rattle.store.specs.declared.NodeAnswer.the-variants.{Id, Refused}
 use Rattle.store.specs.View.{lent}
 use Rattle.names.specs.Sound.{namesOf, lentEntries}
-use Rattle.listing_lines.specs.declared.Outcome as Outcome
-use Rattle.listing_lines.specs.declared.Outcome.the-variants as outcome
+use Rattle.listing_lines.specs.declared.SheetOutcome as Outcome
+use Rattle.listing_lines.specs.declared.SheetOutcome.the-variants as outcome
 use Rattle.listing_lines.specs.Line.{lineBytes}
 use Rattle.listing_lines.specs.Outcome.{allLines}
 use Rattle.text.specs.Memory.{ControllerMemory, BothSound, controllerOf}
@@ -55,7 +55,7 @@ PlaceOf s (Id id) place = place ≡ 0
 PlaceOf s (Refused number) place = cond (eqb number outsideLanguage) (StopsAt s place) (place ≡ 0)
 
 -- what the first line says: `ok` and the id, or `refused`, the number, `at` and the place
-abbrev pub outcomeOf : NodeAnswer → ℕ → Outcome.Outcome
+abbrev pub outcomeOf : NodeAnswer → ℕ → Outcome.SheetOutcome
 outcomeOf (Id id) place = outcome.Ok id
 outcomeOf (Refused number) place = outcome.Refused number place
 

@@ -7,7 +7,7 @@ ghost use Rattle.text.specs.Memory.{controllerMemory};
 ghost use Rattle.text_listing_bytes.specs.Listed.{lentLists, ReadsFresh, PlaceOf, outcomeOf};
 use arena::DagArena;
 use builder::FreshStore;
-use listing_lines::Outcome;
+use listing_lines::SheetOutcome;
 use store::NodeAnswer;
 use text::ReadOutcome;
 use text_language::OUTSIDE_LANGUAGE;
@@ -51,12 +51,12 @@ pub(crate) fn place_of(text: &[u8], answer: NodeAnswer) -> usize
 }
 
 // What the listing's first line says.
-pub(crate) fn outcome_of(answer: NodeAnswer, place: usize) -> Outcome
+pub(crate) fn outcome_of(answer: NodeAnswer, place: usize) -> SheetOutcome
     ensures { λ r. ⌜ r ≡ outcomeOf answer place ⌝ }
 {
     match answer {
-        NodeAnswer::Id(id) => Outcome::Ok(id),
-        NodeAnswer::Refused(number) => Outcome::Refused {
+        NodeAnswer::Id(id) => SheetOutcome::Ok(id),
+        NodeAnswer::Refused(number) => SheetOutcome::Refused {
             number,
             at: place as u64,
         },

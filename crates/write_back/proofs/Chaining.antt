@@ -30,27 +30,27 @@ use Rattle.write_back.specs.declared.Pruning.the-variants.{BySetting}
 use Rattle.write_back.specs.declared.FormulaOutcome.{FormulaOutcome}
 use Rattle.write_back.specs.declared.FormulaOutcome.the-variants.{Refused}
 use Rattle.write_back.specs.Ids.{idOf}
-use Rattle.write_back.specs.Answers.{depthLimit, ampleBudget, Calls, Pruned, by, outcomeOf, FinishesFormula, unpruned, finished, Simplifies, unsimplified, walked, Answers, unread, read}
+use Rattle.write_back.specs.Answers.{depthLimit, ampleBudget, Calls, FormulaPruned, by, outcomeOf, FinishesFormula, unpruned, finished, Simplifies, unsimplified, walked, Answers, unread, read}
 
 -- ---- the prune
 
 pub pruned-by : {pruning : Pruning} {m : Memory} (id i setting : ℕ) {a : Prune.PruneAnswer} {m′ : Memory} → pruning ≡ BySetting setting → i ≡ idOf id
-    → Leaves (M.pruneBySetting i setting) m (PruneAnswers.meaning a) m′ → Pruned pruning m id a m′
+    → Leaves (M.pruneBySetting i setting) m (PruneAnswers.meaning a) m′ → FormulaPruned pruning m id a m′
 pruned-by {pruning} {m} id i setting {a} {m′} e q h = by e (subst (λ (x : ℕ). Leaves (M.pruneBySetting x setting) m (PruneAnswers.meaning a) m′) q h)
 
 -- ---- the prune and the write
 
-module _ (pruning : Pruning) (steps : ℕ) (spent deep : Bool) (m : ControllerMemory) (id : ℕ) (buffer : List ℕ) {a : Prune.PruneAnswer} {s : Memory} (p : Pruned pruning (m .store) id a s) where
+module _ (pruning : Pruning) (steps : ℕ) (spent deep : Bool) (m : ControllerMemory) (id : ℕ) (buffer : List ℕ) {a : Prune.PruneAnswer} {s : Memory} (p : FormulaPruned pruning (m .store) id a s) where
   abbrev after : ControllerMemory
   after = beside model nameModel s (m .names)
 
   pub prune-refused : (number : ℕ) → a ≡ prune.Refused number → FinishesFormula pruning steps spent deep m id buffer (Refused number) after buffer
-  prune-refused number e = unpruned (subst (λ (x : Prune.PruneAnswer). Pruned pruning (m .store) id x s) e p)
+  prune-refused number e = unpruned (subst (λ (x : Prune.PruneAnswer). FormulaPruned pruning (m .store) id x s) e p)
 
   pub prune-written : (i kept dropped j : ℕ) → a ≡ prune.Pruned i kept dropped → j ≡ idOf i → (w w′ : Write.WriteAnswer) {buffer′ : List ℕ} → w ≡ w′
       → Writes after j buffer w buffer′ → FinishesFormula pruning steps spent deep m id buffer (outcomeOf w′ steps spent deep kept dropped) after buffer′
   prune-written i kept dropped j e q w w′ {buffer′} f h =
-      finished (subst (λ (x : Prune.PruneAnswer). Pruned pruning (m .store) id x s) e p)
+      finished (subst (λ (x : Prune.PruneAnswer). FormulaPruned pruning (m .store) id x s) e p)
       (subst (λ (x : Write.WriteAnswer). Writes after (idOf i) buffer x buffer′) f
       (subst (λ (x : ℕ). Writes after x buffer w buffer′) q h))
 

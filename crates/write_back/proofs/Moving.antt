@@ -28,7 +28,7 @@ use Rattle.pruner.specs.declared.PruneAnswer.the-variants as prune
 use Rattle.writer.specs.Writing.{WrittenText}
 use Rattle.write_back.specs.declared.Pruning.the-variants.{BySetting}
 use Rattle.write_back.specs.Ids.{idOf}
-use Rattle.write_back.specs.Answers.{depthLimit, ampleBudget, Calls, Pruned, off, by}
+use Rattle.write_back.specs.Answers.{depthLimit, ampleBudget, Calls, FormulaPruned, off, by}
 use Rattle.write_back.specs.Moved.{HasThreshold, MovedText, ValueMoves}
 use Rattle.write_back.proofs.Stages.{id-same, Stages, stages, was-read, id-is, i-is, same-names}
 
@@ -86,7 +86,7 @@ module _ (typed : List ℕ) (m : ControllerMemory) (fresh : FreshController lent
 module _ (typed : List ℕ) (setting t : ℕ) (m : ControllerMemory) (text : List ℕ) (fresh : FreshController lentController m) (threshold : HasThreshold setting t) (one : T (le (ofBits binary64 t) one64)) where
   pruned-so : {m1 m2 : ControllerMemory} {s : Memory} (id i steps j kept dropped : ℕ) (spent : Bool)
       → Calls (reading typed) m (stored id) m1 → Calls (simplifying standard (idOf id) depthLimit ampleBudget) m1 (simplified i spent steps) m2
-      → Pruned (BySetting setting) (m2 .store) i (prune.Pruned j kept dropped) s → WrittenText (controllerOf (beside model nameModel s (m2 .names))) (idOf j) text
+      → FormulaPruned (BySetting setting) (m2 .store) i (prune.Pruned j kept dropped) s → WrittenText (controllerOf (beside model nameModel s (m2 .names))) (idOf j) text
       → MovedText typed text t dropped
   pruned-so id i steps j kept dropped spent c1 c2 (off k) w = let z : _≡_ {A = ℕ} 0 1 = cc in absurd (omega arith)
   pruned-so id i steps j kept dropped spent c1 c2 (by {setting = n} k h) w =

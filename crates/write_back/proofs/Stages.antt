@@ -33,7 +33,7 @@ use Rattle.write_back.specs.declared.Pruning.{Pruning}
 use Rattle.write_back.specs.declared.FormulaOutcome.{FormulaOutcome}
 use Rattle.write_back.specs.declared.FormulaOutcome.the-variants.{Written}
 use Rattle.write_back.specs.Ids.{idOf}
-use Rattle.write_back.specs.Answers.{depthLimit, ampleBudget, mayBeDeeper, Calls, Pruned, FinishesFormula, unpruned, finished, Simplifies, unsimplified, walked, Answers, unread, read}
+use Rattle.write_back.specs.Answers.{depthLimit, ampleBudget, mayBeDeeper, Calls, FormulaPruned, FinishesFormula, unpruned, finished, Simplifies, unsimplified, walked, Answers, unread, read}
 
 -- ---- ids
 
@@ -85,7 +85,7 @@ pub record Stages (typed : List ℕ) (pruning : Pruning) (m : ControllerMemory) 
   pub kept : ℕ
   pub reads : Calls (reading typed) m (stored id) m1
   pub walks : Calls (simplifying standard (idOf id) depthLimit ampleBudget) m1 (simplified i spent steps) m2
-  pub prunes : Pruned pruning (m2 .store) i (prune.Pruned j kept dropped) s
+  pub prunes : FormulaPruned pruning (m2 .store) i (prune.Pruned j kept dropped) s
   pub writes : WrittenText (controllerOf (beside model nameModel s (m2 .names))) (idOf j) text
 
 module _ (typed : List ℕ) (pruning : Pruning) (m : ControllerMemory) (buffer : List ℕ) (size steps kept dropped : ℕ) (spent deep : Bool) where

@@ -23,7 +23,7 @@ use Rattle.writer.specs.Writing.{WrittenText}
 use Rattle.write_back.specs.declared.Pruning.{Pruning}
 use Rattle.write_back.specs.declared.Pruning.the-variants.{BySetting}
 use Rattle.write_back.specs.Ids.{idOf}
-use Rattle.write_back.specs.Answers.{depthLimit, ampleBudget, Calls, Pruned, off, by}
+use Rattle.write_back.specs.Answers.{depthLimit, ampleBudget, Calls, FormulaPruned, off, by}
 use Rattle.write_back.specs.Moved.{NoThreshold, SameText, ValueStays}
 use Rattle.write_back.proofs.Stages.{Stages, stages, was-read, walked-below, i-is, same-value, same-names}
 use Rattle.write_back.proofs.Moving.{kept-promise}
@@ -65,7 +65,7 @@ module _ (typed : List ℕ) (m : ControllerMemory) (text : List ℕ) (fresh : Fr
       subst (λ (x : ℕ). WrittenText (controllerOf m2) x text) same (subst (λ (x : Controller). WrittenText x (idOf j) text) (u .1) w)
 
   pruned-so : {pruning : Pruning} {s : Memory} (j kept dropped : ℕ) → NoThreshold pruning
-      → Pruned pruning (m2 .store) i (prune.Pruned j kept dropped) s → WrittenText (controllerOf (beside model nameModel s (m2 .names))) (idOf j) text → SameText typed text
+      → FormulaPruned pruning (m2 .store) i (prune.Pruned j kept dropped) s → WrittenText (controllerOf (beside model nameModel s (m2 .names))) (idOf j) text → SameText typed text
   pruned-so j kept dropped n (off k) w = all-same (subst (λ (x : ℕ). WrittenText (controllerOf m2) x text) i-same w)
   pruned-so j kept dropped n (by {setting = setting} k h) w = all-same (unpruned j kept dropped setting (subst NoThreshold k n) h w)
 

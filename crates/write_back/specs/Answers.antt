@@ -36,10 +36,10 @@ abbrev pub Calls : ControllerCall → ControllerMemory → ControllerAnswer → 
 Calls c m a m′ = ControllerCalled lentController c m a m′
 
 -- without a setting nothing is pruned
-pub data Pruned (pruning : Pruning) (m : Memory) (id : ℕ) : Prune.PruneAnswer → Memory → Type 0 where
-  off : pruning ≡ Skipped → Pruned pruning m id (prune.Pruned id 1 0) m
+pub data FormulaPruned (pruning : Pruning) (m : Memory) (id : ℕ) : Prune.PruneAnswer → Memory → Type 0 where
+  off : pruning ≡ Skipped → FormulaPruned pruning m id (prune.Pruned id 1 0) m
   by : {setting : ℕ} {a : Prune.PruneAnswer} {m′ : Memory} → pruning ≡ BySetting setting
-      → Leaves (M.pruneBySetting (idOf id) setting) m (meaning a) m′ → Pruned pruning m id a m′
+      → Leaves (M.pruneBySetting (idOf id) setting) m (meaning a) m′ → FormulaPruned pruning m id a m′
 
 -- the length of the text, the walk's steps, whether its budget was used up, whether the formula may be deeper than it went, the two counts
 abbrev pub outcomeOf : Write.WriteAnswer → ℕ → Bool → Bool → ℕ → ℕ → FormulaOutcome
@@ -49,10 +49,10 @@ outcomeOf (write.Refused number) steps spent deep kept dropped = Refused number
 -- the prune and the write: what the prune answered is written, and the lists are those that it left
 pub data FinishesFormula (pruning : Pruning) (steps : ℕ) (spent deep : Bool) (m : ControllerMemory) (id : ℕ) (buffer : List ℕ)
     : FormulaOutcome → ControllerMemory → List ℕ → Type 0 where
-  unpruned : {number : ℕ} {s : Memory} → Pruned pruning (m .store) id (prune.Refused number) s
+  unpruned : {number : ℕ} {s : Memory} → FormulaPruned pruning (m .store) id (prune.Refused number) s
       → FinishesFormula pruning steps spent deep m id buffer (Refused number) (beside model nameModel s (m .names)) buffer
   finished : {i kept dropped : ℕ} {s : Memory} {a : Write.WriteAnswer} {buffer′ : List ℕ}
-      → Pruned pruning (m .store) id (prune.Pruned i kept dropped) s
+      → FormulaPruned pruning (m .store) id (prune.Pruned i kept dropped) s
       → Writes (beside model nameModel s (m .names)) (idOf i) buffer a buffer′
       → FinishesFormula pruning steps spent deep m id buffer (outcomeOf a steps spent deep kept dropped)
       (beside model nameModel s (m .names)) buffer′

@@ -4,7 +4,7 @@ ghost use mathlib.Core.Path.{_≡_};
 ghost use Rattle.store.specs.Memory.{memory};
 ghost use Rattle.text.specs.Memory.{controllerMemory};
 ghost use Rattle.write_back.specs.Ids.{idOf};
-ghost use Rattle.write_back.specs.Answers.{Pruned, FinishesFormula, Simplifies, Answers};
+ghost use Rattle.write_back.specs.Answers.{FormulaPruned, FinishesFormula, Simplifies, Answers};
 use arena::DagArena;
 use definitions::mode::Mode;
 use writer::WriteAnswer;
@@ -57,7 +57,7 @@ fn prune(
     id: u64,
     pruning: Pruning,
 ) -> pruner::PruneOutcome
-    ensures { λ r. ⌜ Pruned pruning (memory (now (nodes .entry)) (now (slots .entry)) arena) id (r .answer)
+    ensures { λ r. ⌜ FormulaPruned pruning (memory (now (nodes .entry)) (now (slots .entry)) arena) id (r .answer)
         (memory (now (nodes .exit)) (now (slots .exit)) (r .arena)) ⌝ }
 {
     match pruning {

@@ -13,7 +13,7 @@ use Rattle.names.specs.Sound as Names
 use Rattle.names.specs.Entry.{entryAt}
 use Rattle.expression_text.specs.Numeral.{decimals, hexes, hexByte, numeral}
 use Rattle.expression_text.specs.Numeral.{mostWhole}
-use Rattle.writer.specs.Placing.{spare, space, IsWhole, Named, Open, PutsBytes}
+use Rattle.writer.specs.Placing.{spare, space, IsWhole, NamedSymbol, Open, PutsBytes}
 
 -- one byte more
 pub front : (l : List ℕ) (f v : ℕ) → 1 ≤ f → f ≤ length l → drop (f - 1) (set l (f - 1) v) ≡ v ∷ drop f l
@@ -177,7 +177,7 @@ number-hex bits n at p r out h l q =
 
 -- ---- names
 
-module _ {es : List ℕ} {s : ℕ} (m : Named es s) where
+module _ {es : List ℕ} {s : ℕ} (m : NamedSymbol es s) where
   abbrev name : List ℕ
   name = Names.nameAt es s
 
@@ -206,14 +206,14 @@ module _ {es : List ℕ} {s : ℕ} (m : Named es s) where
       ∙ getD-drop 1 (entryAt es s) j 0 ∙ entry-byte (1 + j) (omega arith) ∙ ap (λ (i : ℕ). getD es (s * 33 + i) 0) (omega arith)
 
 pub record NameLeft (es : List ℕ) (s at : ℕ) (out₀ out : List ℕ) (left place : ℕ) : Type 0 where
-  pub named : Named es s
+  pub named : NamedSymbol es s
   pub few : left ≤ getD es (s * 33) 0
   pub place-is : place + getD es (s * 33) 0 ≡ at + left
   pub same : drop place out ≡ drop left (Names.nameAt es s) ++ drop at out₀
   pub long : length out ≡ space
   pub free : Open out₀ at
 
-pub name-start : (es : List ℕ) (s at : ℕ) (out : List ℕ) (n : ℕ) → Named es s → Open out at → n ≡ getD es (s * 33) 0 → NameLeft es s at out out n at
+pub name-start : (es : List ℕ) (s at : ℕ) (out : List ℕ) (n : ℕ) → NamedSymbol es s → Open out at → n ≡ getD es (s * 33) 0 → NameLeft es s at out out n at
 name-start es s at out n m o e = record {
   named = m;
   few = omega arith;

@@ -17,7 +17,7 @@ use Rattle.expression_text.specs.Numeral.{numeral}
 use Rattle.expression_text.specs.Written.{bare}
 use Rattle.expression_text.specs.Proper.{isName}
 use Rattle.writer.specs.Expression.{symbolName}
-use Rattle.writer.specs.Placing.{spare, Named, PutsBytes, Writable, meant}
+use Rattle.writer.specs.Placing.{spare, NamedSymbol, PutsBytes, Writable, meant}
 use Rattle.writer.proofs.Walking.{at-name, at-number}
 
 past : (l : List (List ℕ)) (i : ℕ) → length l ≤ i → getD l i [] ≡ []
@@ -27,7 +27,7 @@ past (x ∷ l) (suc i) h = past l i (omega arith)
 
 module _ (es : List ℕ) (named : ℕ) (s : Names.SoundNames es named) where
   -- a sound list's names can be read
-  pub named-at : (i : ℕ) → i < named → Named es i
+  pub named-at : (i : ℕ) → i < named → NamedSymbol es i
   named-at i h =
       let l = s .lent in
       let e = s .entries i h .longest in
@@ -61,7 +61,7 @@ module _ {w : List ℕ} {count : ℕ} {es : List ℕ} {named i : ℕ} (v : Writa
     known : p < named
     known = let z = name-known es named (v .known .names) (at (nodesIn w count) i .payload) (at-name w count es named i v zero-kind .1) in omega arith
 
-    pub leaf-named : Named es p
+    pub leaf-named : NamedSymbol es p
     leaf-named = named-at es named (v .known .names) p known
 
     pub leaf-name : {place q : ℕ} (r : List ℕ) {out : List ℕ} → PutsBytes (Names.nameAt es p ++ r) spare place q out → PutsBytes (bare (meant w count es named i) r) spare place q out

@@ -27,7 +27,7 @@ use Rattle.definitions.specs.Limits.{mostChildren, mostNodes}
 use Rattle.writer.specs.Expression.{joinKind, joinFlags}
 use Rattle.expression_text.specs.Proper.{isName, allWords, numberBits}
 use Rattle.writer.specs.Expression.{symbolName, isSome, Standing, aName, aNumber, aMinus, aPair}
-use Rattle.writer.specs.Placing.{Named, KnownText, expressionAt}
+use Rattle.writer.specs.Placing.{NamedSymbol, KnownText, expressionAt}
 use Rattle.writer.specs.Sweeping.{FormOf, Marks, Unreached}
 use Rattle.writer.specs.declared.sweeping.Form.{Form}
 use Rattle.writer.proofs.Parts.{All, standing-of, some-of, opened-up}
@@ -58,7 +58,7 @@ module _ (es : List ℕ) (named : ℕ) (s : Names.SoundNames es named) (i : ℕ)
   name-none h = sym (ap isName (List·getD-eq-default (Names.namesOf es named) [] (omega (arith, names-length es named))))
 
   module _ (l : i < named) where
-    pub a-name : Named es i
+    pub a-name : NamedSymbol es i
     a-name = named-at es named s i l
 
     abbrev name : List ℕ

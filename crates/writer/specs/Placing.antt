@@ -107,7 +107,7 @@ pub record IsWhole (bits r : ℕ) : Type 0 where
   pub other : mostWhole < r → numeral bits ≡ numberSign ∷ hexes hexDigits bits []
 
 -- a name of the list can be read
-pub record Named (entries : List ℕ) (symbol : ℕ) : Type 0 where
+pub record NamedSymbol (entries : List ℕ) (symbol : ℕ) : Type 0 where
   pub fits : symbol * entryBytes + entryBytes ≤ length entries
   pub short : getD entries (symbol * entryBytes) 0 ≤ longestName
 

@@ -7,7 +7,7 @@ ghost use Rattle.definitions.specs.Node as N;
 ghost use Rattle.store.specs.View.{nodesIn};
 ghost use Rattle.names.specs.Sound as Names;
 ghost use Rattle.expression_text.specs.Written.{bare};
-ghost use Rattle.writer.specs.Placing.{spare, Named, Open, PutsBytes, Writable, PlacedText, meant};
+ghost use Rattle.writer.specs.Placing.{spare, NamedSymbol, Open, PutsBytes, Writable, PlacedText, meant};
 use crate::bytes::index;
 use crate::numerals::put_number;
 use crate::operators::FACTOR;
@@ -41,7 +41,7 @@ fn push(out: &mut [u8; SPACE], at: usize, byte: u8) -> usize
 
 // A name in front.
 fn put_name(entries: &[u8], symbol: usize, out: &mut [u8; SPACE], at: usize) -> usize
-    requires { ⌜ Named (now entries) symbol × Open (now out) at ⌝ }
+    requires { ⌜ NamedSymbol (now entries) symbol × Open (now out) at ⌝ }
     ensures { λ r. ⌜ PutsBytes (Names.nameAt (now (entries .entry)) symbol ++ drop at (now (out .entry))) spare at r (now (out .exit)) ⌝ }
 {
     let start = symbol * ENTRY_BYTES;

@@ -8,7 +8,7 @@ const NEWLINE: u8 = 10;
 const MOST_BEFORE_DIGIT: u64 = 1_844_674_407_370_955_160;
 
 // A number of a line, and where the next begins.
-pub struct Number {
+pub struct NumberWord {
     pub value: u64,
     pub next: usize,
 }
@@ -22,19 +22,19 @@ pub(crate) fn low(n: u64) -> u32 {
 }
 
 // The digits from a place on, and one byte after them passed.
-pub(crate) fn number_at(line: &[u8], from: usize) -> Number {
+pub(crate) fn number_at(line: &[u8], from: usize) -> NumberWord {
     let mut value: u64 = 0;
     let mut at = from;
     while at < line.len() {
         let c = line[at];
         if c < b'0' {
-            return Number {
+            return NumberWord {
                 value,
                 next: at + 1,
             };
         }
         if value > MOST_BEFORE_DIGIT {
-            return Number {
+            return NumberWord {
                 value,
                 next: at + 1,
             };
@@ -42,7 +42,7 @@ pub(crate) fn number_at(line: &[u8], from: usize) -> Number {
         value = value * 10 + wide(c) % 16;
         at += 1;
     }
-    Number { value, next: at }
+    NumberWord { value, next: at }
 }
 
 // Where a line ends, or the input.
