@@ -6,17 +6,13 @@ use mathlib.Core.List.{List}
 use lib.Dec.{ltb}
 use Rattle.definitions.specs.Machine as M
 use Rattle.definitions.specs.Walk.{standard}
-use Rattle.definitions.specs.Controller.{simplifying, reading, simplified, refused, fromStore}
 use Rattle.definitions.specs.Beside.{beside}
-use Rattle.definitions.proofs.Lifting.{lift-store}
 use Rattle.store.specs.declared.NodeAnswer as Store
 use Rattle.store.specs.declared.NodeAnswer.the-variants as store
 use Rattle.store.specs.Memory.{Memory, model, Leaves}
 use Rattle.names.specs.Memory.{nameModel}
 use Rattle.text.specs.Memory.{ControllerMemory}
 use Rattle.text.specs.Reading.{ReadsText}
-use Rattle.text.specs.Calling.{answered}
-use Rattle.text.proofs.Calling.{read-called}
 use Rattle.walk.specs.declared.WalkAnswer as Walk
 use Rattle.walk.specs.declared.WalkAnswer.the-variants as walk
 use Rattle.walk.specs.Answers as WalkAnswers
@@ -30,7 +26,7 @@ use Rattle.write_back.specs.declared.Pruning.the-variants.{BySetting}
 use Rattle.write_back.specs.declared.FormulaOutcome.{FormulaOutcome}
 use Rattle.write_back.specs.declared.FormulaOutcome.the-variants.{Refused}
 use Rattle.write_back.specs.Ids.{idOf}
-use Rattle.write_back.specs.Answers.{depthLimit, ampleBudget, Calls, FormulaPruned, by, outcomeOf, FinishesFormula, unpruned, finished, Simplifies, unsimplified, walked, Answers, unread, read}
+use Rattle.write_back.specs.Answers.{depthLimit, ampleBudget, FormulaPruned, by, outcomeOf, FinishesFormula, unpruned, finished, Simplifies, unsimplified, walked, Answers, unread, read}
 
 -- ---- the prune
 
@@ -57,11 +53,10 @@ module _ (pruning : Pruning) (steps : ℕ) (spent deep : Bool) (m : ControllerMe
 -- ---- the walk
 
 module _ (pruning : Pruning) (m : ControllerMemory) (id i : ℕ) (buffer : List ℕ) (q : i ≡ idOf id) (a : Walk.WalkAnswer) {s : Memory} (h : Leaves (M.simplify standard i depthLimit ampleBudget) (m .store) (WalkAnswers.meaning a) s) where
-  walks : (b : M.Answer) → WalkAnswers.meaning a ≡ b → Calls (simplifying standard (idOf id) depthLimit ampleBudget) m (fromStore b) (beside model nameModel s (m .names))
+  walks : (b : M.Answer) → WalkAnswers.meaning a ≡ b → Leaves (M.simplify standard (idOf id) depthLimit ampleBudget) (m .store) b s
   walks b e =
-      subst (λ (x : M.Answer). Calls (simplifying standard (idOf id) depthLimit ampleBudget) m (fromStore x) (beside model nameModel s (m .names))) e
-      (subst (λ (x : ℕ). Calls (simplifying standard x depthLimit ampleBudget) m (fromStore (WalkAnswers.meaning a)) (beside model nameModel s (m .names))) q
-      (lift-store model nameModel (M.simplify standard i depthLimit ampleBudget) (m .store) s (WalkAnswers.meaning a) (m .names) (h .called)))
+      subst (λ (x : M.Answer). Leaves (M.simplify standard (idOf id) depthLimit ampleBudget) (m .store) x s) e
+      (subst (λ (x : ℕ). Leaves (M.simplify standard x depthLimit ampleBudget) (m .store) (WalkAnswers.meaning a) s) q h)
 
   pub walk-refused : (number : ℕ) → a ≡ walk.Refused number → Simplifies pruning m id buffer (Refused number) (beside model nameModel s (m .names)) buffer
   walk-refused number e = unsimplified (walks (M.refused number) (ap WalkAnswers.meaning e))
@@ -76,8 +71,8 @@ module _ (pruning : Pruning) (m : ControllerMemory) (id i : ℕ) (buffer : List 
 -- ---- the reading
 
 module _ (typed : List ℕ) (pruning : Pruning) (d : ControllerMemory) (buffer : List ℕ) {a : Store.NodeAnswer} {d′ : ControllerMemory} (h : ReadsText typed d a d′) where
-  reads : (b : Store.NodeAnswer) → a ≡ b → Calls (reading typed) d (answered b) d′
-  reads b e = subst (λ (x : Store.NodeAnswer). Calls (reading typed) d (answered x) d′) e (read-called typed d d′ a h)
+  reads : (b : Store.NodeAnswer) → a ≡ b → ReadsText typed d b d′
+  reads b e = subst (λ (x : Store.NodeAnswer). ReadsText typed d x d′) e h
 
   pub read-refused : (number : ℕ) → a ≡ store.Refused number → Answers typed pruning d buffer (Refused number) d′ buffer
   read-refused number e = unread (reads (store.Refused number) e)

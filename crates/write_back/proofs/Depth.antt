@@ -9,21 +9,24 @@ use native.Mathlib.Omega.{arith}
 use borrow.Author.Tests.{ltb-false}
 use Rattle.definitions.specs.Node.{Node, at}
 use Rattle.definitions.specs.Formula.{Tree, forest, formula}
-use Rattle.definitions.specs.Controller.{reading, stored, storePart, namesPart}
+use Rattle.definitions.specs.Controller.{storePart, namesPart}
 use Rattle.definitions.specs.Promise.{All}
 use Rattle.definitions.specs.Beside.{SoundPart}
 use Rattle.definitions.proofs.Stable.{Lower, opened}
 use Rattle.definitions.proofs.Intern.{Sound}
+use Rattle.store.specs.declared.NodeAnswer.the-variants.{Id}
 use Rattle.store.specs.Memory.{model}
 use Rattle.names.specs.Memory.{nameModel}
 use Rattle.text.specs.Memory.{ControllerMemory, controllerOf, BothSound}
+use Rattle.text.specs.Reading.{ReadsText}
+use Rattle.text.proofs.Calling.{read-called}
 use Rattle.writer.specs.declared.WriteAnswer.the-variants as write
 use Rattle.writer.proofs.ReadTexts.{whole, read-to}
 use Rattle.write_back.specs.declared.Pruning.{Pruning}
 use Rattle.write_back.specs.declared.FormulaOutcome.{FormulaOutcome}
 use Rattle.write_back.specs.declared.FormulaOutcome.the-variants.{Written}
 use Rattle.write_back.specs.Ids.{idOf}
-use Rattle.write_back.specs.Answers.{depthLimit, mayBeDeeper, Calls, FinishesFormula, unpruned, finished, Simplifies, unsimplified, walked, Answers, unread, read}
+use Rattle.write_back.specs.Answers.{depthLimit, mayBeDeeper, FinishesFormula, unpruned, finished, Simplifies, unsimplified, walked, Answers, unread, read}
 use Rattle.write_back.specs.Depth.{levels, levelsOver, ShallowText, Shallow}
 use Rattle.write_back.proofs.Stages.{id-same}
 
@@ -47,15 +50,16 @@ levels-low ns s (suc n) i z h =
     omega arith
 
 -- a formula that was read to an id that is not over the limit
-shallow-read : (typed : List ℕ) (m after : ControllerMemory) (id : ℕ) → BothSound m → Calls (reading typed) m (stored id) after → mayBeDeeper id ≡ false → ShallowText typed m
-shallow-read typed m after id h c e =
+shallow-read : (typed : List ℕ) (m after : ControllerMemory) (id : ℕ) → BothSound m → ReadsText typed m (Id id) after → mayBeDeeper id ≡ false → ShallowText typed m
+shallow-read typed m after id h r e =
+    let c = read-called typed m after (Id id) r in
     let taken : All (SoundPart model nameModel m) (storePart ∷ namesPart ∷ []) = (h .store, (h .names, tt)) in
     let sound : BothSound after = record { store = c .sound taken storePart (h .store); names = c .sound taken namesPart (h .names) } in
     let known = read-to m after id typed h c .known in
     let same = id-same (after .store) id (sound .store) known in
     let small = ltb-false depthLimit (idOf id) e in
     let low = levels-low (controllerOf after .nodes) (whole after sound .nodes) (suc id) id (omega arith) known in
-    record { after = after; id = id; read = c; shallow = omega arith }
+    record { after = after; id = id; read = r; shallow = omega arith }
 
 -- ---- from the cases of `Answers`
 

@@ -28,9 +28,9 @@ use Rattle.pruner.specs.declared.PruneAnswer.the-variants as prune
 use Rattle.writer.specs.Writing.{WrittenText}
 use Rattle.write_back.specs.declared.Pruning.the-variants.{BySetting}
 use Rattle.write_back.specs.Ids.{idOf}
-use Rattle.write_back.specs.Answers.{depthLimit, ampleBudget, Calls, FormulaPruned, off, by}
+use Rattle.write_back.specs.Answers.{depthLimit, ampleBudget, FormulaPruned, off, by}
 use Rattle.write_back.specs.Moved.{HasThreshold, MovedText, ValueMoves}
-use Rattle.write_back.proofs.Stages.{id-same, Stages, stages, was-read, id-is, i-is, same-names}
+use Rattle.write_back.proofs.Stages.{Calls, id-same, Stages, stages, was-read, id-is, i-is, same-names}
 
 -- a prune by the setting that was given
 pub at-setting : {n n′ : ℕ} {m m′ : Memory} {a : M.Answer} (i : ℕ) → n ≡ n′ → Leaves (M.pruneBySetting i n) m a m′ → Leaves (M.pruneBySetting i n′) m a m′

@@ -7,12 +7,13 @@ use lib.ListN.{length, take, drop}
 use lib.Seq.{take-at}
 use native.Mathlib.Omega.{arith}
 use Rattle.definitions.specs.Walk.{standard}
+use Rattle.definitions.specs.Machine as M
 use Rattle.definitions.specs.Machine.{state, simplify, call}
 use Rattle.definitions.specs.Formula.{formula}
 use Rattle.definitions.specs.Value.{Reading, valueOf}
 use Rattle.definitions.specs.Exact.{Exact}
-use Rattle.definitions.specs.Controller.{LentLists, Controller, emptyController, simplifying, reading, stored, simplified, controllerCall, Part, storePart, namesPart}
-use Rattle.definitions.specs.Promise.{FreshController, History, done, next, Promise, All, ReadTo}
+use Rattle.definitions.specs.Controller.{LentLists, Controller, ControllerCall, ControllerAnswer, emptyController, simplifying, reading, stored, simplified, controllerCall, Part, storePart, namesPart}
+use Rattle.definitions.specs.Promise.{ControllerCalled, FreshController, History, done, next, Promise, All, ReadTo}
 use Rattle.definitions.specs.Beside.{beside}
 use Rattle.definitions.proofs.Floats.{laws}
 use Rattle.definitions.proofs.Refine.{Replaces}
@@ -21,10 +22,13 @@ use Rattle.definitions.proofs.SimplifyCalls.{SimplifySays, simplifies}
 use Rattle.definitions.proofs.NameLists.{none-listed}
 use Rattle.definitions.proofs.Going.{Whole, whole-after}
 use Rattle.definitions.proofs.Histories.{call-goes, demand3}
+use Rattle.definitions.proofs.Lifting.{lift-store}
+use Rattle.store.specs.declared.NodeAnswer.the-variants as store
 use Rattle.store.specs.Memory.{Memory, model}
 use Rattle.store.proofs.Viewing.{plain-length}
 use Rattle.names.specs.Memory.{nameModel}
 use Rattle.text.specs.Memory.{ControllerMemory, lentController, controllerOf, lentOf}
+use Rattle.text.proofs.Calling.{read-called}
 use Rattle.pruner.specs.declared.PruneAnswer.the-variants as prune
 use Rattle.writer.specs.declared.WriteAnswer as Write
 use Rattle.writer.specs.declared.WriteAnswer.the-variants as write
@@ -33,7 +37,11 @@ use Rattle.write_back.specs.declared.Pruning.{Pruning}
 use Rattle.write_back.specs.declared.FormulaOutcome.{FormulaOutcome}
 use Rattle.write_back.specs.declared.FormulaOutcome.the-variants.{Written}
 use Rattle.write_back.specs.Ids.{idOf}
-use Rattle.write_back.specs.Answers.{depthLimit, ampleBudget, mayBeDeeper, Calls, FormulaPruned, FinishesFormula, unpruned, finished, Simplifies, unsimplified, walked, Answers, unread, read}
+use Rattle.write_back.specs.Answers.{depthLimit, ampleBudget, mayBeDeeper, FormulaPruned, FinishesFormula, unpruned, finished, Simplifies, unsimplified, walked, Answers, unread, read}
+
+-- a call that meets its contract
+abbrev pub Calls : ControllerCall → ControllerMemory → ControllerAnswer → ControllerMemory → Type 0
+Calls c m a m′ = ControllerCalled lentController c m a m′
 
 -- ---- ids
 
@@ -117,12 +125,14 @@ module _ (typed : List ℕ) (pruning : Pruning) (m : ControllerMemory) (buffer :
   simplified-so : {m1 m′ : ControllerMemory} {buffer′ : List ℕ} {o : FormulaOutcome} (id : ℕ) → Calls (reading typed) m (stored id) m1
       → Simplifies pruning m1 id buffer o m′ buffer′ → o ≡ Written size steps spent deep kept dropped → Stages typed pruning m (take size buffer′) dropped
   simplified-so id c1 (unsimplified c) e = let z : _≡_ {A = ℕ} 0 1 = cc in absurd (omega arith)
-  simplified-so id c1 (walked {i = i} {steps = steps′} {spent = spent′} c2 f) e = finishes id i steps′ spent′ (mayBeDeeper id) c1 c2 f e
+  simplified-so {m1} id c1 (walked {i = i} {steps = steps′} {spent = spent′} {s = s} h f) e =
+      let c2 = lift-store model nameModel (M.simplify standard (idOf id) depthLimit ampleBudget) (m1 .store) s (M.simplified i spent′ steps′) (m1 .names) (h .called) in
+      finishes id i steps′ spent′ (mayBeDeeper id) c1 c2 f e
 
   answered-so : {m′ : ControllerMemory} {buffer′ : List ℕ} {o : FormulaOutcome} → Answers typed pruning m buffer o m′ buffer′
       → o ≡ Written size steps spent deep kept dropped → Stages typed pruning m (take size buffer′) dropped
   answered-so (unread c) e = let z : _≡_ {A = ℕ} 0 1 = cc in absurd (omega arith)
-  answered-so (read {id = id} c1 f) e = simplified-so id c1 f e
+  answered-so (read {id = id} {m′ = m1} r f) e = simplified-so id (read-called typed m m1 (store.Id id) r) f e
 
   pub stages : {m′ : ControllerMemory} {buffer′ : List ℕ} → Answers typed pruning m buffer (Written size steps spent deep kept dropped) m′ buffer′
       → Stages typed pruning m (take size buffer′) dropped

@@ -23,9 +23,9 @@ use Rattle.writer.specs.Writing.{WrittenText}
 use Rattle.write_back.specs.declared.Pruning.{Pruning}
 use Rattle.write_back.specs.declared.Pruning.the-variants.{BySetting}
 use Rattle.write_back.specs.Ids.{idOf}
-use Rattle.write_back.specs.Answers.{depthLimit, ampleBudget, Calls, FormulaPruned, off, by}
+use Rattle.write_back.specs.Answers.{depthLimit, ampleBudget, FormulaPruned, off, by}
 use Rattle.write_back.specs.Moved.{NoThreshold, SameText, ValueStays}
-use Rattle.write_back.proofs.Stages.{Stages, stages, was-read, walked-below, i-is, same-value, same-names}
+use Rattle.write_back.proofs.Stages.{Calls, Stages, stages, was-read, walked-below, i-is, same-value, same-names}
 use Rattle.write_back.proofs.Moving.{kept-promise}
 
 -- a setting from 0 to 19 has no threshold

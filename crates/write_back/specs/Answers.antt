@@ -6,12 +6,12 @@ use mathlib.Core.List.{List}
 use lib.Dec.{ltb}
 use Rattle.definitions.specs.Machine as M
 use Rattle.definitions.specs.Walk.{standard}
-use Rattle.definitions.specs.Controller.{ControllerCall, simplifying, reading, ControllerAnswer, stored, simplified, refused}
-use Rattle.definitions.specs.Promise.{ControllerCalled}
-use Rattle.definitions.specs.Beside.{beside, controllerModel}
+use Rattle.definitions.specs.Beside.{beside}
+use Rattle.store.specs.declared.NodeAnswer.the-variants as store
 use Rattle.store.specs.Memory.{Memory, model, Leaves}
 use Rattle.names.specs.Memory.{nameModel}
-use Rattle.text.specs.Memory.{ControllerMemory, lentController}
+use Rattle.text.specs.Memory.{ControllerMemory}
+use Rattle.text.specs.Reading.{ReadsText}
 use Rattle.pruner.specs.declared.PruneAnswer as Prune
 use Rattle.pruner.specs.declared.PruneAnswer.the-variants as prune
 use Rattle.pruner.specs.Answers.{meaning}
@@ -30,10 +30,6 @@ depthLimit = 255
 
 abbrev pub ampleBudget : ℕ
 ampleBudget = 100000000
-
--- a call that meets its contract
-abbrev pub Calls : ControllerCall → ControllerMemory → ControllerAnswer → ControllerMemory → Type 0
-Calls c m a m′ = ControllerCalled lentController c m a m′
 
 -- without a setting nothing is pruned
 pub data FormulaPruned (pruning : Pruning) (m : Memory) (id : ℕ) : Prune.PruneAnswer → Memory → Type 0 where
@@ -61,19 +57,21 @@ pub data FinishesFormula (pruning : Pruning) (steps : ℕ) (spent deep : Bool) (
 abbrev pub mayBeDeeper : ℕ → Bool
 mayBeDeeper id = ltb depthLimit (idOf id)
 
--- the walk, and then these
+-- the walk, and then these: the walk changes the store alone
 pub data Simplifies (pruning : Pruning) (m : ControllerMemory) (id : ℕ) (buffer : List ℕ)
     : FormulaOutcome → ControllerMemory → List ℕ → Type 0 where
-  unsimplified : {number : ℕ} {m′ : ControllerMemory} → Calls (simplifying standard (idOf id) depthLimit ampleBudget) m (refused number) m′
-      → Simplifies pruning m id buffer (Refused number) m′ buffer
-  walked : {i steps : ℕ} {spent : Bool} {m′ m″ : ControllerMemory} {o : FormulaOutcome} {buffer′ : List ℕ}
-      → Calls (simplifying standard (idOf id) depthLimit ampleBudget) m (simplified i spent steps) m′
-      → FinishesFormula pruning steps spent (mayBeDeeper id) m′ i buffer o m″ buffer′ → Simplifies pruning m id buffer o m″ buffer′
+  unsimplified : {number : ℕ} {s : Memory}
+      → Leaves (M.simplify standard (idOf id) depthLimit ampleBudget) (m .store) (M.refused number) s
+      → Simplifies pruning m id buffer (Refused number) (beside model nameModel s (m .names)) buffer
+  walked : {i steps : ℕ} {spent : Bool} {s : Memory} {m′ : ControllerMemory} {o : FormulaOutcome} {buffer′ : List ℕ}
+      → Leaves (M.simplify standard (idOf id) depthLimit ampleBudget) (m .store) (M.simplified i spent steps) s
+      → FinishesFormula pruning steps spent (mayBeDeeper id) (beside model nameModel s (m .names)) i buffer o m′ buffer′
+      → Simplifies pruning m id buffer o m′ buffer′
 
 -- the reading, and then these: a refusal leaves the buffer as it was, and the lists as the refused call left them
 pub data Answers (typed : List ℕ) (pruning : Pruning) (m : ControllerMemory) (buffer : List ℕ)
     : FormulaOutcome → ControllerMemory → List ℕ → Type 0 where
-  unread : {number : ℕ} {m′ : ControllerMemory} → Calls (reading typed) m (refused number) m′
+  unread : {number : ℕ} {m′ : ControllerMemory} → ReadsText typed m (store.Refused number) m′
       → Answers typed pruning m buffer (Refused number) m′ buffer
-  read : {id : ℕ} {m′ m″ : ControllerMemory} {o : FormulaOutcome} {buffer′ : List ℕ} → Calls (reading typed) m (stored id) m′
+  read : {id : ℕ} {m′ m″ : ControllerMemory} {o : FormulaOutcome} {buffer′ : List ℕ} → ReadsText typed m (store.Id id) m′
       → Simplifies pruning m′ id buffer o m″ buffer′ → Answers typed pruning m buffer o m″ buffer′

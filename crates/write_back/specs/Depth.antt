@@ -3,11 +3,12 @@ use Prim.Native.Nat.{ℕ, suc, max, _≤_}
 use mathlib.Core.Bool.{Bool, false}
 use mathlib.Core.List.{List}
 use Rattle.definitions.specs.Formula.{Tree, tree, Forest, nil, cons, formula}
-use Rattle.definitions.specs.Controller.{reading, stored}
+use Rattle.store.specs.declared.NodeAnswer.the-variants.{Id}
 use Rattle.text.specs.Memory.{ControllerMemory, controllerOf, BothSound}
+use Rattle.text.specs.Reading.{ReadsText}
 use Rattle.write_back.specs.declared.Pruning.{Pruning}
 use Rattle.write_back.specs.declared.FormulaOutcome.the-variants.{Written}
-use Rattle.write_back.specs.Answers.{depthLimit, Calls, Answers}
+use Rattle.write_back.specs.Answers.{depthLimit, Answers}
 
 -- the levels of nodes that have children
 unfoldable mutual
@@ -22,7 +23,7 @@ unfoldable mutual
 pub record ShallowText (typed : List ℕ) (m : ControllerMemory) : Type 0 where
   pub after : ControllerMemory
   pub id : ℕ
-  pub read : Calls (reading typed) m (stored id) after
+  pub read : ReadsText typed m (Id id) after
   pub shallow : levels (formula (controllerOf after .nodes) id) ≤ depthLimit
 
 abbrev pub Shallow : Type 0
