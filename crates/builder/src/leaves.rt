@@ -9,7 +9,8 @@ use store::Built;
 
 // A variable, by its symbol.
 pub fn variable(nodes: &mut [u64], slots: &mut [u32], arena: DagArena, symbol: u32) -> Built
-    ensures { λ r. ⌜ Stores (M.variable symbol) (now (nodes .entry)) (now (slots .entry)) arena (now (nodes .exit)) (now (slots .exit)) r ⌝ }
+    ensures { λ r. ⌜ Stores (M.variable symbol) (now (nodes .entry)) (now (slots .entry)) arena
+        (now (nodes .exit)) (now (slots .exit)) r ⌝ }
 {
     build(nodes, slots, arena, true, VARIABLE, symbol as u64, 0, &[])
 }

@@ -107,7 +107,8 @@ fn put_term(
     id: u64,
 ) -> bool
     requires { ⌜ Lookup (now nodes) count id × (place < mostTerms) × (length (now terms) ≡ mostTerms) ⌝ }
-    ensures { λ r. ⌜ PutsTerm (Prune.keeps (nodesIn (now (nodes .entry)) count) (ofBits binary64 threshold) id) place id (now (terms .entry)) r
+    ensures { λ r. ⌜ PutsTerm (Prune.keeps (nodesIn (now (nodes .entry)) count) (ofBits binary64 threshold) id) place id
+        (now (terms .entry)) r
         (now (terms .exit)) ⌝ }
 {
     terms[place] = id as u32;

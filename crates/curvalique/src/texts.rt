@@ -21,8 +21,10 @@ pub extern "C" fn curvalique_read_text(
     id: &mut u64,
 ) -> u64
     ensures { λ r. ⌜ ReadsText (now (text .entry))
-        (controllerMemory (now (nodes .entry)) (now (slots .entry)) (arenaOf (now (count .entry)) (now (size .entry))) (now (entries .entry)) (now («name_count» .entry))) (idUnlessRefused r (now (id .exit)))
-        (controllerMemory (now (nodes .exit)) (now (slots .exit)) (arenaOf (now (count .exit)) (now (size .exit))) (now (entries .exit)) (now («name_count» .exit))) ⌝ }
+        (controllerMemory (now (nodes .entry)) (now (slots .entry)) (arenaOf (now (count .entry)) (now (size .entry)))
+        (now (entries .entry)) (now («name_count» .entry))) (idUnlessRefused r (now (id .exit)))
+        (controllerMemory (now (nodes .exit)) (now (slots .exit)) (arenaOf (now (count .exit)) (now (size .exit))) (now (entries .exit))
+        (now («name_count» .exit))) ⌝ }
     ensures { λ r. ⌜ OutputsStay r (now (id .entry) ∷ []) (now (id .exit) ∷ []) ⌝ }
 {
     let arena = DagArena {

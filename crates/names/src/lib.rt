@@ -65,7 +65,8 @@ fn find(entries: &[u8], count: usize, key: &[u8]) -> EntryFound
 // The number of a name whose length is allowed, found or new.
 pub fn intern_allowed(entries: &mut [u8], count: usize, name: &[u8]) -> InternedName
     requires { ⌜ SoundNames (now entries) count × Allowed (length (now name)) ⌝ }
-    ensures { λ r. ⌜ NameListCalled (now (entries .entry)) count (internName (now (name .entry))) (answerOf (r .answer) []) (now (entries .exit))
+    ensures { λ r. ⌜ NameListCalled (now (entries .entry)) count (internName (now (name .entry))) (answerOf (r .answer) [])
+        (now (entries .exit))
         (r .count) ⌝ }
 {
     let key = entry::of_name(name);
@@ -109,7 +110,8 @@ fn length_allowed(length: usize) -> bool
 
 // The number of a name, which becomes known if it is not.
 pub fn intern(entries: &mut [u8], count: usize, name: &[u8]) -> InternedName
-    ensures { λ r. ⌜ NameListCalled (now (entries .entry)) count (internName (now (name .entry))) (answerOf (r .answer) []) (now (entries .exit))
+    ensures { λ r. ⌜ NameListCalled (now (entries .entry)) count (internName (now (name .entry))) (answerOf (r .answer) [])
+        (now (entries .exit))
         (r .count) ⌝ }
 {
     if !audit::audit(entries, count) {
@@ -129,7 +131,8 @@ pub fn intern(entries: &mut [u8], count: usize, name: &[u8]) -> InternedName
 
 // The number of a name, if it is known.
 pub fn lookup(entries: &[u8], count: usize, name: &[u8]) -> NameReply
-    ensures { λ r. ⌜ NameListCalled (now (entries .entry)) count (lookupName (now (name .entry))) (answerOf r []) (now (entries .entry)) count ⌝ }
+    ensures { λ r. ⌜ NameListCalled (now (entries .entry)) count (lookupName (now (name .entry))) (answerOf r []) (now (entries .entry))
+        count ⌝ }
 {
     if !audit::audit(entries, count) {
         return NameReply::Refused(NOT_SOUND);

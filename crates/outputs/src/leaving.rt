@@ -32,7 +32,8 @@ pub fn leave_arena(arena: DagArena, count: &mut u64, size: &mut usize)
 pub fn leave_stored(performed: Performed, count: &mut u64, size: &mut usize, id: &mut u64) -> u64
     requires { ⌜ AnswersNode (answerOf (performed .answer)) ⌝ }
     ensures { λ _. ⌜ arenaOf (now (count .exit)) (now (size .exit)) ≡ performed .arena ⌝ }
-    ensures { λ r. ⌜ LeftBehind (answerOf (performed .answer)) r (M.stored (now (id .exit))) (now (id .entry) ∷ []) (now (id .exit) ∷ []) ⌝ }
+    ensures { λ r. ⌜ LeftBehind (answerOf (performed .answer)) r (M.stored (now (id .exit))) (now (id .entry) ∷ [])
+        (now (id .exit) ∷ []) ⌝ }
 {
     let arena = performed.arena;
     leave_arena(arena, count, size);
@@ -51,7 +52,8 @@ pub fn leave_stored(performed: Performed, count: &mut u64, size: &mut usize, id:
 // The same of a node made without a call.
 pub fn leave_built(built: Built, count: &mut u64, size: &mut usize, id: &mut u64) -> u64
     ensures { λ _. ⌜ arenaOf (now (count .exit)) (now (size .exit)) ≡ built .arena ⌝ }
-    ensures { λ r. ⌜ LeftBehind (Store.answerOf (built .answer)) r (M.stored (now (id .exit))) (now (id .entry) ∷ []) (now (id .exit) ∷ []) ⌝ }
+    ensures { λ r. ⌜ LeftBehind (Store.answerOf (built .answer)) r (M.stored (now (id .exit))) (now (id .entry) ∷ []) (now (id .exit) ∷ [])
+        ⌝ }
 {
     leave_stored(of_built(built), count, size, id)
 }

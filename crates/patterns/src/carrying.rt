@@ -16,7 +16,8 @@ use store::NodeAnswer;
 
 fn intern_constant(nodes: &mut [u64], slots: &mut [u32], arena: DagArena, bits: u64) -> Built
     requires { ⌜ NumberBits bits × Sound (now nodes) (now slots) arena ⌝ }
-    ensures { λ r. ⌜ BuildsBy (constantOf bits) (now (nodes .entry)) (now (slots .entry)) arena (now (nodes .exit)) (now (slots .exit)) r ⌝ }
+    ensures { λ r. ⌜ BuildsBy (constantOf bits) (now (nodes .entry)) (now (slots .entry)) arena
+        (now (nodes .exit)) (now (slots .exit)) r ⌝ }
 {
     store::intern(nodes, slots, arena, CONSTANT, bits, 0, &[])
 }

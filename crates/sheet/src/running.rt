@@ -128,7 +128,8 @@ pub(crate) fn run_records(
     requires { ⌜ Sound (now nodes) (now slots) arena ⌝ }
     ensures { λ r. ⌜ RunsRecords (Sheet.records mostRecords (model .lent (memory (now (nodes .entry)) (now (slots .entry)) arena)) []
         (model .view (memory (now (nodes .entry)) (now (slots .entry)) arena)) (drop start (now (sheet .entry))))
-        (memory (now (nodes .entry)) (now (slots .entry)) arena) (r .outcome) (memory (now (nodes .exit)) (now (slots .exit)) (r .arena)) ⌝ }
+        (memory (now (nodes .entry)) (now (slots .entry)) arena) (r .outcome)
+        (memory (now (nodes .exit)) (now (slots .exit)) (r .arena)) ⌝ }
 {
     let mut ids = [0; MOST_RECORDS];
     let mut progress = SheetProgress {

@@ -84,7 +84,8 @@ fn operator(
 ) -> Built
     requires { ⌜ Sound (now nodes) (now slots) arena ⌝ }
     ensures { λ r. ⌜ BuildsSound (M.requested (operatorCall (operatorToken kind) first second))
-        (memory (now (nodes .entry)) (now (slots .entry)) arena) (answerOf (r .answer)) (memory (now (nodes .exit)) (now (slots .exit)) (r .arena)) ⌝ }
+        (memory (now (nodes .entry)) (now (slots .entry)) arena) (answerOf (r .answer))
+        (memory (now (nodes .exit)) (now (slots .exit)) (r .arena)) ⌝ }
 {
     if kind < ADD {
         return build_sound(nodes, slots, arena, true, NEG, 0, 0, &[first]);

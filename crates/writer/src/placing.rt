@@ -66,7 +66,8 @@ fn put_leaf(
     at: usize,
 ) -> usize
     requires { ⌜ Writable (now nodes) count (now entries) named id × (N.at (nodesIn (now nodes) count) id .kind ≤ 1) × Open (now out) at ⌝ }
-    ensures { λ r. ⌜ PutsBytes (bare (meant (now (nodes .entry)) count (now (entries .entry)) named id) (drop at (now (out .entry)))) spare at r
+    ensures { λ r. ⌜ PutsBytes (bare (meant (now (nodes .entry)) count (now (entries .entry)) named id) (drop at (now (out .entry)))) spare
+        at r
         (now (out .exit)) ⌝ }
 {
     let payload = store::payload(nodes, count, id);
