@@ -46,10 +46,10 @@
  * stores and name lists that are not sound are refused, with 20; damage that
  * leaves a sound one, as another name in a list, is not noticed. No function
  * keeps a pointer, allocates, or touches other memory, but for its stack: as
- * compiled now, the listing of a sheet takes up to 144 KB of it, a text that is
- * written 91 KB, a text that is read 61 KB, a sheet 47 KB, a simplify 38 KB, a
- * prune 19 KB, a name call 17 KB and any other call under 1 KB
- * (interface/measure_stack).
+ * compiled now, the listing of a sheet takes up to 128 KB of it, a text that is
+ * written 91 KB, a text that is read 61 KB, a prune 39 KB, a sheet 30 KB, a
+ * simplify or a call that makes a node 22 KB, a name call 17 KB and any other
+ * call under 1 KB (interface/measure_stack).
  *
  * NOT PROVED, but read or measured: time, stack, how often a store is looked
  * over, and what the compiled code needs of C's library and its calls.
