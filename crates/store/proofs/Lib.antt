@@ -11,3 +11,4 @@ pub mod Marking
 pub mod Leaving
 pub mod Determined
 pub mod Staying
+pub mod Numbers

@@ -4,3 +4,4 @@ pub mod Lookup
 pub mod Stored
 pub mod Memory
 pub mod Interning
+pub mod Number

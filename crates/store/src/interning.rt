@@ -13,13 +13,30 @@ ghost use Rattle.store.specs.Sound.{Sound};
 ghost use Rattle.store.specs.View.{nodesIn, lent, Builds};
 ghost use Rattle.store.specs.Lookup.{Fits};
 ghost use Rattle.store.specs.Interning.{Interns, builtOf};
+ghost use Rattle.store.specs.Number.{answerIn};
 use crate::Built;
 use crate::NodeAnswer;
 use arena::DagArena;
+use arena::MOST_NODES;
 use arena::has_parts;
 use dedup::get_or_insert;
 
-// The id of a node with these parts, with the counts behind pointers: they and the answer stay in registers.
+// An answer as one number, which is handed on in a register: an id is below this, and a refusal's number is added to it. An enum is
+// handed on in memory, where a store that is not whole yet stops the load behind it.
+pub const REFUSALS: u64 = MOST_NODES;
+
+// The answer that a number stands for.
+pub fn answer_in(number: u64) -> NodeAnswer
+    ensures { λ r. ⌜ r ≡ answerIn number ⌝ }
+{
+    if REFUSALS <= number {
+        NodeAnswer::Refused(number - REFUSALS)
+    } else {
+        NodeAnswer::Id(number)
+    }
+}
+
+// The id of a node with these parts as a number, with the counts behind pointers.
 fn intern_counted(
     nodes: &mut [u64],
     slots: &mut [u32],
@@ -29,11 +46,11 @@ fn intern_counted(
     payload: u64,
     flags: u64,
     children: &[u32],
-) -> NodeAnswer
+) -> u64
     requires { ⌜ Fits (now count) kind payload flags (now children) × Sound (now nodes) (now slots) (arenaOf (now count) (now size)) ⌝ }
     ensures { λ r. ⌜ Interns (now (nodes .entry)) (now (slots .entry)) (arenaOf (now (count .entry)) (now (size .entry)))
         (N.node kind payload flags (now (children .entry))) (now (nodes .exit)) (now (slots .exit))
-        (builtOf r (now (count .exit)) (now (size .exit))) ⌝ }
+        (builtOf (answerIn r) (now (count .exit)) (now (size .exit))) ⌝ }
 {
     let hash = hash::key_hash(kind, payload, children);
     let answer = get_or_insert(
@@ -48,9 +65,9 @@ fn intern_counted(
         children,
     );
     match answer {
-        dedup::Insertion::Old(id) => NodeAnswer::Id(id),
-        dedup::Insertion::New(id) => NodeAnswer::Id(id),
-        dedup::Insertion::Refused(number) => NodeAnswer::Refused(number),
+        dedup::Insertion::Old(id) => id,
+        dedup::Insertion::New(id) => id,
+        dedup::Insertion::Refused(number) => REFUSALS + number,
     }
 }
 
@@ -70,7 +87,7 @@ pub fn intern(
 {
     let mut count = arena.count;
     let mut size = arena.size;
-    let answer = intern_counted(
+    let number = intern_counted(
         nodes,
         slots,
         &mut count,
@@ -81,7 +98,7 @@ pub fn intern(
         children,
     );
     Built {
-        answer,
+        answer: answer_in(number),
         arena: DagArena { count, size },
     }
 }
@@ -105,8 +122,8 @@ fn is_node(
     has_parts(nodes, id, kind, payload, flags, children)
 }
 
-// The id of a node with these parts. An id that may be the node's own is looked at first: if it is, no hash is made and no
-// slot read.
+// The id of a node with these parts as a number. An id that may be the node's own is looked at first: if it is, no hash is made
+// and no slot read.
 pub fn intern_likely(
     nodes: &mut [u64],
     slots: &mut [u32],
@@ -117,14 +134,14 @@ pub fn intern_likely(
     flags: u64,
     children: &[u32],
     likely: u64,
-) -> NodeAnswer
+) -> u64
     requires { ⌜ Fits (now count) kind payload flags (now children) × Sound (now nodes) (now slots) (arenaOf (now count) (now size)) ⌝ }
     ensures { λ r. ⌜ Interns (now (nodes .entry)) (now (slots .entry)) (arenaOf (now (count .entry)) (now (size .entry)))
         (N.node kind payload flags (now (children .entry))) (now (nodes .exit)) (now (slots .exit))
-        (builtOf r (now (count .exit)) (now (size .exit))) ⌝ }
+        (builtOf (answerIn r) (now (count .exit)) (now (size .exit))) ⌝ }
 {
     if is_node(nodes, *count, likely, kind, payload, flags, children) {
-        return NodeAnswer::Id(likely);
+        return likely;
     }
     intern_counted(nodes, slots, count, size, kind, payload, flags, children)
 }

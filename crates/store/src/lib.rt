@@ -2,6 +2,8 @@
 pub mod interning;
 pub mod lookup;
 
+pub use interning::REFUSALS;
+pub use interning::answer_in;
 pub use interning::intern;
 pub use interning::intern_likely;
 pub use lookup::arity;

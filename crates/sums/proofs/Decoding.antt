@@ -1,16 +1,17 @@
 -- The answer that a number stands for.
-use Prim.Native.Nat.{ℕ, _+_, _-_, _≤_, _<_}
-use mathlib.Core.Path.{_≡_, refl, sym, subst}
+use Prim.Native.Nat.{ℕ, _-_, _≤_, _<_}
+use mathlib.Core.Path.{_≡_, sym, subst}
 use mathlib.Core.List.{List}
 use native.Mathlib.Omega.{arith}
 use Rattle.arena.specs.declared.DagArena.{DagArena}
 use Rattle.arena.specs.Layout.{mostNodes}
-use borrow.Author.Tests.{le-leb, lt-leb}
 use Rattle.definitions.specs.Intern as I
 use Rattle.store.specs.declared.NodeAnswer.{NodeAnswer}
 use Rattle.store.specs.declared.NodeAnswer.the-variants.{Id, Refused}
-use Rattle.store.specs.View.{Low, Builds}
-use Rattle.sums.specs.Number.{numberOf, answerIn, BuildsNumber}
+use Rattle.store.specs.View.{Builds}
+use Rattle.store.specs.Number.{numberOf, answerIn}
+use Rattle.store.proofs.Numbers.{answer-in}
+use Rattle.sums.specs.Number.{BuildsNumber}
 
 module _ (words slots : List ℕ) (a : DagArena) (plain : I.Built) (words′ slots′ : List ℕ) (a′ : DagArena) where
   abbrev Answers : NodeAnswer → Type 0
@@ -32,12 +33,7 @@ module _ (words slots : List ℕ) (a : DagArena) (plain : I.Built) (words′ slo
         go (Id id) e h = absurd (let low : id < a′ .count = h .low in omega (arith, h .kept .whole .nodes .formed .many))
         go (Refused k) e h = let same : k ≡ number - mostNodes = omega arith in subst (λ (n : ℕ). Answers (Refused n)) same h
 
--- the number of an answer stands for it, where its id is one of the store
-answer-in : (answer : NodeAnswer) (count : ℕ) → count ≤ mostNodes → Low answer count → answerIn (numberOf answer) ≡ answer
-unfolding answerIn
-answer-in (Id id) count most low = rw (lt-leb mostNodes id (let l : id < count = low in omega arith)) refl
-answer-in (Refused k) count most low = let e : mostNodes + k - mostNodes ≡ k = omega arith in rw (le-leb mostNodes (mostNodes + k) (omega arith), e) refl
-
+-- the answer that a number stands for, and the memory after it
 pub builds-in : (words slots : List ℕ) (a : DagArena) (plain : I.Built) (words′ slots′ : List ℕ) (number : ℕ) (a′ : DagArena) → BuildsNumber words slots a plain words′ slots′ number a′
     → Builds words slots a plain words′ slots′ (record { answer = answerIn number; arena = a′ })
 builds-in words slots a plain words′ slots′ number a′ b =

@@ -1,4 +1,3 @@
-pub mod Stopping
 pub mod Numbers
 pub mod Decoding
 pub mod Halving

@@ -1,30 +1,16 @@
 -- The sum of two ids as one number.
-use Prim.Native.Nat.{ℕ, _<_}
-use mathlib.Core.Path.{_≡_, refl, subst}
+use Prim.Native.Nat.{ℕ}
 use mathlib.Core.List.{List}
-use native.Mathlib.Omega.{arith}
 use Rattle.arena.specs.declared.DagArena.{DagArena}
-use Rattle.arena.specs.Layout.{mostNodes}
 use Rattle.definitions.specs.Node as N
 use Rattle.definitions.specs.Intern as I
-use Rattle.store.specs.declared.Built.{Built}
-use Rattle.store.specs.declared.NodeAnswer.{NodeAnswer}
-use Rattle.store.specs.declared.NodeAnswer.the-variants.{Id}
-use Rattle.store.specs.View.{nodesIn, lent, Low}
+use Rattle.store.specs.View.{nodesIn, lent}
 use Rattle.store.specs.Interning.{Interns}
-use Rattle.sums.specs.Number.{numberOf, BuildsNumber}
+use Rattle.store.specs.Number.{answerIn}
+use Rattle.store.proofs.Numbers.{number-in}
+use Rattle.sums.specs.Number.{BuildsNumber}
 
--- an answer that is taken apart
-pub as-number : (w slots : List ℕ) (a : DagArena) (n : N.Node) (w′ slots′ : List ℕ) (r : Built) (x : NodeAnswer) → r .answer ≡ x → Interns w slots a n w′ slots′ r
-    → BuildsNumber w slots a (I.intern (lent w slots) (nodesIn w (a .count)) n) w′ slots′ (numberOf x) (r .arena)
-as-number w slots a n w′ slots′ r x e i = record {
-  answer = x;
-  is = refl;
-  builds = subst (λ (y : NodeAnswer). Interns w slots a n w′ slots′ (record { answer = y; arena = r .arena })) e i .builds;
-}
-
--- an id that is answered
-pub id-small : (w slots : List ℕ) (a : DagArena) (n : N.Node) (w′ slots′ : List ℕ) (r : Built) (id : ℕ) → r .answer ≡ Id id → Interns w slots a n w′ slots′ r → id < mostNodes
-id-small w slots a n w′ slots′ r id e i =
-    let l : id < r .arena .count = subst (λ (x : NodeAnswer). Low x (r .arena .count)) e (i .builds .low) in
-    omega (arith, i .builds .kept .whole .nodes .formed .many)
+-- a number that interning answers
+pub as-number : (w slots : List ℕ) (a : DagArena) (n : N.Node) (w′ slots′ : List ℕ) (number : ℕ) (a′ : DagArena) → Interns w slots a n w′ slots′ (record { answer = answerIn number; arena = a′ })
+    → BuildsNumber w slots a (I.intern (lent w slots) (nodesIn w (a .count)) n) w′ slots′ number a′
+as-number w slots a n w′ slots′ number a′ i = record { answer = answerIn number; is = number-in number; builds = i .builds }

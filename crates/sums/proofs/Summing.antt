@@ -18,7 +18,8 @@ use Rattle.store.specs.declared.Built.{Built}
 use Rattle.store.specs.declared.NodeAnswer.{NodeAnswer}
 use Rattle.store.specs.declared.NodeAnswer.the-variants.{Id, Refused}
 use Rattle.store.specs.View.{nodesIn, lent, Sound, Kept, Builds}
-use Rattle.sums.specs.Number.{numberOf, BuildsNumber}
+use Rattle.store.specs.Number.{numberOf}
+use Rattle.sums.specs.Number.{BuildsNumber}
 use Rattle.store.proofs.Keeping.{kept-refl, kept-trans}
 use Rattle.sums.proofs.Decoding.{is-id, number-stays, refusal-stays}
 use Rattle.sums.specs.Sums.{mostPending, part, Inside, Summable, Zero, Sums, AddsNumber, SumsNumber, Splits, Summed, Joined, Joins}

@@ -4,17 +4,16 @@ ghost use mathlib.Core.Path.{_≡_};
 ghost use lib.ListN.{length};
 ghost use Rattle.arena.specs.Layout.{arenaOf};
 ghost use Rattle.store.specs.View.{Sound};
-ghost use Rattle.sums.specs.Number.{answerIn};
 ghost use Rattle.sums.specs.Sums.{mostPending, part, Inside, Summable, Zero, Sums, AddsNumber, SumsNumber, Few, Splits, Summed, Joins};
 use arena::DagArena;
-use arena::MOST_NODES;
 use arena::REORDERABLE;
 use arena::kind::ADD;
 use arena::kind::CONSTANT;
 use chains::MOST_TERMS;
 use fold::BITS_OF_ZERO;
 use store::Built;
-use store::NodeAnswer;
+use store::REFUSALS;
+use store::answer_in;
 
 // At most so many halvings of at most 4,096 terms are not done at a time.
 const MOST_PENDING: usize = 12;
@@ -28,20 +27,6 @@ fn zero(nodes: &mut [u64], slots: &mut [u32], arena: DagArena) -> Built
     ensures { λ r. ⌜ Zero (now (nodes .entry)) (now (slots .entry)) arena (now (nodes .exit)) (now (slots .exit)) r ⌝ }
 {
     store::intern(nodes, slots, arena, CONSTANT, BITS_OF_ZERO, 0, &[])
-}
-
-// An answer as one number: an id is below this, and a refusal's number is added to it.
-const REFUSALS: u64 = MOST_NODES;
-
-// The answer that a number stands for.
-fn answer_in(number: u64) -> NodeAnswer
-    ensures { λ r. ⌜ r ≡ answerIn number ⌝ }
-{
-    if REFUSALS <= number {
-        NodeAnswer::Refused(number - REFUSALS)
-    } else {
-        NodeAnswer::Id(number)
-    }
 }
 
 // The sum of two terms or of two sums, as a number. Sums made one after another have ids one after another, so that a prune done again
@@ -60,7 +45,7 @@ fn add(
         (now (nodes .exit)) (now (slots .exit)) r (arenaOf (now (count .exit)) (now (size .exit))) ⌝ }
 {
     let operands = [left as u32, right as u32];
-    let answer = store::intern_likely(
+    let number = store::intern_likely(
         nodes,
         slots,
         count,
@@ -71,13 +56,10 @@ fn add(
         &operands,
         *next,
     );
-    match answer {
-        NodeAnswer::Id(id) => {
-            *next = id + 1;
-            id
-        }
-        NodeAnswer::Refused(number) => REFUSALS + number,
+    if number < REFUSALS {
+        *next = number + 1;
     }
+    number
 }
 
 // `n` terms halved, and their first half, and so on to one or two terms: the sizes of the second halves are put from a depth on,

@@ -1,7 +1,10 @@
 -- `store::interning::intern_counted` meets its contract: the table's answer, seen as the store's.
 use Rattle.dedup.specs.declared.Insertion.the-variants.{Old, New, Refused}
 use Rattle.store.proofs.NewNodes.{new-formed, new-plain, new-places, new-key}
+use mathlib.Core.Path.{refl}
+use native.Mathlib.Omega.{arith}
 use Rattle.store.proofs.Refining.{seen}
+use Rattle.store.proofs.Numbers.{interns-number, refusal-small}
 use borrow.Author.Needs.{needs}
 use Rattle.store.proofs.interning.intern_counted.Statement.{statement}
 use Rattle.store.proofs.interning.intern_counted.Tie as tie
@@ -24,6 +27,14 @@ enum-known-answer-2 c = search needs
 enum-known-answer-3 : tie.Need-enum-known-answer-3
 enum-known-answer-3 c = search needs
 
+add-result : tie.Need-add-result
+add-result c =
+    let s = c .before .before .before .before .before .before .before .before .before .before .before .before .before .before .before .before in
+    let f = s .pre .0 in
+    let i = seen _ _ _ _ (new-places _ _ _ _ _ f) (new-formed _ _ _ _ _ f) (s .pre .1) _ _ _ (c .before .before .before .before .before .before .before .get-or-insert .ensures) (search needs) (search needs) (Refused _) (c .before .answer3 .given .1) in
+    let small = refusal-small _ _ _ _ _ _ _ _ i _ refl in
+    omega (arith, small)
+
 same-length : tie.Need-same-length
 same-length c = search needs
 
@@ -35,7 +46,7 @@ returns c =
     let s = c .before .before .before .before .before .before .before .before .before .before .before .before .before .before .before .before in
     let f = s .pre .0 in
     rw (← new-plain _ _ _ _ _ f)
-    (seen _ _ _ _ (new-places _ _ _ _ _ f) (new-formed _ _ _ _ _ f) (s .pre .1) _ _ _ (c .before .before .before .before .before .before .before .get-or-insert .ensures) (search needs) (search needs) (Old _) (c .before .answer .given .1))
+    (interns-number _ _ _ _ _ _ _ _ (seen _ _ _ _ (new-places _ _ _ _ _ f) (new-formed _ _ _ _ _ f) (s .pre .1) _ _ _ (c .before .before .before .before .before .before .before .get-or-insert .ensures) (search needs) (search needs) (Old _) (c .before .answer .given .1)))
 
 same-length-3 : tie.Need-same-length-3
 same-length-3 c = search needs
@@ -48,7 +59,7 @@ returns-2 c =
     let s = c .before .before .before .before .before .before .before .before .before .before .before .before .before .before .before .before in
     let f = s .pre .0 in
     rw (← new-plain _ _ _ _ _ f)
-    (seen _ _ _ _ (new-places _ _ _ _ _ f) (new-formed _ _ _ _ _ f) (s .pre .1) _ _ _ (c .before .before .before .before .before .before .before .get-or-insert .ensures) (search needs) (search needs) (New _) (c .before .answer2 .given .1))
+    (interns-number _ _ _ _ _ _ _ _ (seen _ _ _ _ (new-places _ _ _ _ _ f) (new-formed _ _ _ _ _ f) (s .pre .1) _ _ _ (c .before .before .before .before .before .before .before .get-or-insert .ensures) (search needs) (search needs) (New _) (c .before .answer2 .given .1)))
 
 same-length-5 : tie.Need-same-length-5
 same-length-5 c = search needs
@@ -61,7 +72,7 @@ returns-3 c =
     let s = c .before .before .before .before .before .before .before .before .before .before .before .before .before .before .before .before in
     let f = s .pre .0 in
     rw (← new-plain _ _ _ _ _ f)
-    (seen _ _ _ _ (new-places _ _ _ _ _ f) (new-formed _ _ _ _ _ f) (s .pre .1) _ _ _ (c .before .before .before .before .before .before .before .get-or-insert .ensures) (search needs) (search needs) (Refused _) (c .before .answer3 .given .1))
+    (interns-number _ _ _ _ _ _ _ _ (seen _ _ _ _ (new-places _ _ _ _ _ f) (new-formed _ _ _ _ _ f) (s .pre .1) _ _ _ (c .before .before .before .before .before .before .before .get-or-insert .ensures) (search needs) (search needs) (Refused _) (c .before .answer3 .given .1)))
 
 pub intern-counted-spec : {M : Type 1} → statement M
 intern-counted-spec =
@@ -72,6 +83,7 @@ intern-counted-spec =
     enum-known-answer
     enum-known-answer-2
     enum-known-answer-3
+    add-result
     same-length
     same-length-2
     returns

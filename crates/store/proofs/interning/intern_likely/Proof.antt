@@ -4,6 +4,7 @@ use borrow.Author.Tests.{ltb-true}
 use Rattle.definitions.proofs.Deciding.{both}
 use Rattle.store.proofs.NewNodes.{new-formed, new-plain, new-places}
 use Rattle.store.proofs.Likely.{likely-interns}
+use Rattle.store.proofs.Numbers.{interns-number}
 use borrow.Author.Needs.{needs}
 use Rattle.store.proofs.interning.intern_likely.Statement.{statement}
 use Rattle.store.proofs.interning.intern_likely.Tie as tie
@@ -19,7 +20,7 @@ returns c =
     let s = c .before .before .before .before .before .before .before in
     let f = s .pre .0 in
     let test = both _ _ (sym (c .before .is-node .ensures) ∙ c .if1 .taken) in
-    rw (← new-plain _ _ _ _ _ f) (likely-interns _ _ _ _ _ (new-places _ _ _ _ _ f) (new-formed _ _ _ _ _ f) (s .pre .1) _ (ltb-true _ _ (test .0)) (test .1))
+    rw (← new-plain _ _ _ _ _ f) (interns-number _ _ _ _ _ _ _ _ (likely-interns _ _ _ _ _ (new-places _ _ _ _ _ f) (new-formed _ _ _ _ _ f) (s .pre .1) _ (ltb-true _ _ (test .0)) (test .1)))
 
 intern-counted-requires : tie.Need-intern-counted-requires
 intern-counted-requires c κs = (c .before .before .before .before .before .before .before .before .before .before .before .pre .0, c .before .before .before .before .before .before .before .before .before .before .before .pre .1)

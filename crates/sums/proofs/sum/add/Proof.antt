@@ -1,19 +1,17 @@
--- `sums::sum::add` meets its contract: the store's answer, seen as a number.
+-- `sums::sum::add` meets its contract: the store's number, handed on.
 use native.Mathlib.Omega.{arith}
 use Rattle.definitions.specs.Patterns.{internAdd}
-use Rattle.store.specs.declared.NodeAnswer.the-variants.{Id, Refused}
 use Rattle.sums.proofs.Adding.{add-fits}
-use Rattle.sums.proofs.Stopping.{refusal-small}
-use Rattle.sums.proofs.Numbers.{as-number, id-small}
+use Rattle.sums.proofs.Numbers.{as-number}
 use borrow.Author.Needs.{needs}
 use Rattle.sums.proofs.sum.add.Statement.{statement}
 use Rattle.sums.proofs.sum.add.Tie as tie
 
-cast-t12 : tie.Need-cast-t12
-cast-t12 c = let p = c .before .before .pre in omega (arith, p .0, p .2 .nodes .formed .many)
+cast-t10 : tie.Need-cast-t10
+cast-t10 c = let p = c .before .before .pre in omega (arith, p .0, p .2 .nodes .formed .many)
 
-cast-t13 : tie.Need-cast-t13
-cast-t13 c = let p = c .before .before .pre in omega (arith, p .1, p .2 .nodes .formed .many)
+cast-t11 : tie.Need-cast-t11
+cast-t11 c = let p = c .before .before .pre in omega (arith, p .1, p .2 .nodes .formed .many)
 
 slice-aggregate-intern-likely : tie.Need-slice-aggregate-intern-likely
 slice-aggregate-intern-likely c = search needs
@@ -21,17 +19,8 @@ slice-aggregate-intern-likely c = search needs
 intern-likely-requires : tie.Need-intern-likely-requires
 intern-likely-requires c κs = let p = c .before .before .before .before .before .before .before .before .pre in (add-fits _ _ _ (p .0) (p .1), p .2)
 
-enum-known-answer : tie.Need-enum-known-answer
-enum-known-answer c = search needs
-
 add-next : tie.Need-add-next
-add-next c = let l = id-small _ _ _ _ _ _ _ _ (c .before .answer .given .1) (c .before .before .before .before .before .before .before .intern-likely .ensures) in omega arith
-
-enum-known-answer-2 : tie.Need-enum-known-answer-2
-enum-known-answer-2 c = search needs
-
-add-result : tie.Need-add-result
-add-result c = let s = refusal-small _ _ _ _ _ _ (c .before .answer2 .given .1) (c .before .before .before .before .before .before .before .intern-likely .ensures .builds .answer) in omega (arith, s)
+add-next c = search needs
 
 same-length : tie.Need-same-length
 same-length c = search needs
@@ -41,7 +30,7 @@ same-length-2 c = search needs
 
 returns : tie.Need-returns
 unfolding internAdd
-returns c = as-number _ _ _ _ _ _ _ (Id _) (c .before .answer .given .1) (c .before .before .before .before .before .before .before .intern-likely .ensures)
+returns c = as-number _ _ _ _ _ _ _ _ (c .before .before .before .before .before .intern-likely .ensures)
 
 same-length-3 : tie.Need-same-length-3
 same-length-3 c = search needs
@@ -51,20 +40,17 @@ same-length-4 c = search needs
 
 returns-2 : tie.Need-returns-2
 unfolding internAdd
-returns-2 c = as-number _ _ _ _ _ _ _ (Refused _) (c .before .answer2 .given .1) (c .before .before .before .before .before .before .before .intern-likely .ensures)
+returns-2 c = as-number _ _ _ _ _ _ _ _ (c .before .before .before .before .before .intern-likely .ensures)
 
 pub add-spec : {M : Type 1} → statement M
 add-spec =
     tie.close
     (tie.spec
-    cast-t12
-    cast-t13
+    cast-t10
+    cast-t11
     slice-aggregate-intern-likely
     intern-likely-requires
-    enum-known-answer
     add-next
-    enum-known-answer-2
-    add-result
     same-length
     same-length-2
     returns

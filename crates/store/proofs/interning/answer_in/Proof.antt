@@ -1,10 +1,10 @@
--- `sums::sum::answer_in` meets its contract: by whether the number is past every id.
+-- `store::interning::answer_in` meets its contract: by whether the number is past every id.
 use mathlib.Core.Path.{refl}
 use borrow.Author.Tests.{le-leb, lt-leb}
 use Rattle.arena.specs.Layout.{mostNodes}
-use Rattle.sums.specs.Number.{answerIn}
-use Rattle.sums.proofs.sum.answer_in.Statement.{statement}
-use Rattle.sums.proofs.sum.answer_in.Tie as tie
+use Rattle.store.specs.Number.{answerIn}
+use Rattle.store.proofs.interning.answer_in.Statement.{statement}
+use Rattle.store.proofs.interning.answer_in.Tie as tie
 
 returns : tie.Need-returns
 unfolding answerIn
