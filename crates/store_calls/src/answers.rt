@@ -54,7 +54,7 @@ pub fn of_built(built: Built) -> Performed
 }
 
 // The answer of a walk.
-pub(crate) fn of_walk(outcome: walk::WalkOutcome) -> Performed
+pub fn of_walk(outcome: walk::WalkOutcome) -> Performed
     ensures { λ r. ⌜ (answerOf (r .answer) ≡ Walk.meaning (outcome .answer)) × (r .arena ≡ outcome .arena) ⌝ }
 {
     let answer = outcome.answer;
@@ -84,7 +84,7 @@ pub(crate) fn of_walk(outcome: walk::WalkOutcome) -> Performed
 }
 
 // The answer of a prune.
-pub(crate) fn of_prune(outcome: pruner::PruneOutcome) -> Performed
+pub fn of_prune(outcome: pruner::PruneOutcome) -> Performed
     ensures { λ r. ⌜ (answerOf (r .answer) ≡ Pruner.meaning (outcome .answer)) × (r .arena ≡ outcome .arena) ⌝ }
 {
     let answer = outcome.answer;

@@ -1,5 +1,6 @@
 // The calls of the C interface without the audit, and audit and hash alone, for the benchmark. A call's `requires` is that the store is
-// sound, as every call leaves it.
+// sound, as every call leaves it. A call is that of its layer and not `perform_sound`, so that what makes a node has one caller here and is
+// compiled into it.
 // Nothing asks that of a caller in another language, so these functions stand in a library of their own and in no header.
 ghost use mathlib.Core.Path.{_≡_};
 ghost use mathlib.Core.Bool.{true};
@@ -18,8 +19,8 @@ use definitions::mode::Mode;
 use outputs::leaving::leave_built;
 use outputs::leaving::leave_pruned;
 use outputs::leaving::leave_simplified;
-use store_calls::Call;
-use store_calls::perform_sound;
+use store_calls::of_prune;
+use store_calls::of_walk;
 
 // The audit alone: whether the store is sound.
 #[no_mangle]
@@ -89,14 +90,8 @@ pub extern "C" fn curvalique_simplify_sound(
         count: *count,
         size: *size,
     };
-    let call = Call::Simplify {
-        mode: Mode::Standard,
-        root,
-        depth,
-        budget,
-    };
-    let performed = perform_sound(nodes, slots, arena, call, &[]);
-    leave_simplified(performed, count, size, id, spent, steps)
+    let outcome = walk::simplify_sound(nodes, slots, arena, Mode::Standard, root, depth, budget);
+    leave_simplified(of_walk(outcome), count, size, id, spent, steps)
 }
 
 // A prune of a root at a threshold.
@@ -123,7 +118,6 @@ pub extern "C" fn curvalique_prune_sound(
         count: *count,
         size: *size,
     };
-    let call = Call::Prune { root, threshold };
-    let performed = perform_sound(nodes, slots, arena, call, &[]);
-    leave_pruned(performed, count, size, id, kept, dropped)
+    let outcome = pruner::prune_sound(nodes, slots, arena, root, threshold);
+    leave_pruned(of_prune(outcome), count, size, id, kept, dropped)
 }
