@@ -11,7 +11,7 @@ use native.Mathlib.Omega.{arith}
 use native.Mathlib.Decide.{decLt}
 use Rattle.arena.specs.declared.node.DagNode.{DagNode}
 use Rattle.definitions.specs.Says.{Says}
-use Rattle.arena.specs.Kind.{listed}
+use Rattle.kinds.specs.Kind.{listed}
 use Rattle.arena.specs.Node.{flagsEnd, nodeHash, coefficient}
 use Rattle.arena.specs.Nodes.{AllBelow, AllZero, LowerChildren, WellFormed}
 use Rattle.definitions.proofs.Deciding.{says-no, says-map, says-eq}

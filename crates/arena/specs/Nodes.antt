@@ -6,7 +6,7 @@ use mathlib.Core.List.{List}
 use lib.ListN.{length, getD}
 use Rattle.arena.specs.declared.node.DagNode.{DagNode}
 use Rattle.arena.specs.Layout.{nodeWords, mostNodes}
-use Rattle.arena.specs.Kind.{listed}
+use Rattle.kinds.specs.Kind.{listed}
 use Rattle.arena.specs.Node.{nodeAt, one, flagsEnd, nodeHash, coefficient}
 
 -- every id of a list is below one

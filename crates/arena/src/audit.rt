@@ -13,12 +13,12 @@ use crate::FLAGS;
 use crate::FLAGS_END;
 use crate::HASH;
 use crate::KIND;
-use crate::MOST_CHILDREN;
 use crate::MOST_NODES;
 use crate::NODE_WORDS;
 use crate::PAYLOAD;
-use crate::kind::is_listed;
 use crate::node::coefficient_of;
+use definitions::MOST_CHILDREN;
+use kinds::is_listed;
 
 // Whether all of these ids are below an id.
 fn all_below(children: &[u64], id: u64) -> bool

@@ -6,11 +6,11 @@ use mathlib.Core.List.{List}
 use lib.Dec.{leb}
 use native.Mathlib.Omega.{arith}
 use borrow.Author.Tests.{ne-eqb, le-leb, leb-true}
-use Rattle.arena.specs.Kind as Kind
-use Rattle.arena.specs.Kind.{operatorArity, controlArity}
+use Rattle.kinds.specs.Kind as Kind
+use Rattle.kinds.specs.Kind.{operatorArity, controlArity}
 use Rattle.arena.specs.Node.{canonical}
 use Rattle.definitions.proofs.Deciding.{both}
-use Rattle.arena.proofs.Listing as L
+use Rattle.kinds.proofs.Listing as L
 use Rattle.definitions.specs.Node.{childCountListed, node, variableKind, constantKind, addKind, negKind, functionKind, controlKind, forLoopControl, lastOperator, bothFlags}
 use Rattle.definitions.specs.Machine.{requested, request, operator}
 use Rattle.builder.specs.Stores.{Asked}

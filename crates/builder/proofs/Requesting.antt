@@ -6,8 +6,8 @@ use mathlib.Core.List.{List}
 use lib.ListN.{length}
 use native.Mathlib.Omega.{arith}
 use Rattle.arena.specs.declared.DagArena.{DagArena}
-use Rattle.arena.specs.Kind as Kind
-use Rattle.arena.proofs.Listing.{listed-few}
+use Rattle.kinds.specs.Kind as Kind
+use Rattle.kinds.proofs.Listing.{listed-few}
 use Rattle.definitions.specs.Node as N
 use Rattle.definitions.specs.Intern as I
 use Rattle.definitions.specs.Refusals.{badOperand, badCode, notANumber, badChildCount}

@@ -4,7 +4,7 @@ use mathlib.Core.Path.{_≡_}
 use mathlib.Core.Bool.{Bool, true, false}
 use mathlib.Core.List.{List}
 use Rattle.arena.specs.declared.DagArena.{DagArena}
-use Rattle.arena.specs.Kind as Kind
+use Rattle.kinds.specs.Kind as Kind
 use Rattle.arena.specs.Node.{canonical}
 use Rattle.definitions.specs.Node as N
 use Rattle.definitions.specs.Refusals.{notSound}

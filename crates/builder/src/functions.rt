@@ -3,7 +3,7 @@ ghost use Rattle.definitions.specs.Machine as M;
 ghost use Rattle.builder.specs.Stores.{Stores};
 use crate::building::build;
 use arena::DagArena;
-use arena::kind::FUNCTION;
+use kinds::FUNCTION;
 use store::Built;
 
 // A function, by its number, over its operands.

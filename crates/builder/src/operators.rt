@@ -8,13 +8,13 @@ ghost use Rattle.builder.specs.Stores.{Stores};
 use crate::building::build;
 use arena::DagArena;
 use arena::REORDERABLE;
-use arena::kind::ADD;
-use arena::kind::DIV;
-use arena::kind::MOD;
-use arena::kind::MUL;
-use arena::kind::NEG;
-use arena::kind::POW;
-use arena::kind::SUB;
+use kinds::ADD;
+use kinds::DIV;
+use kinds::MOD;
+use kinds::MUL;
+use kinds::NEG;
+use kinds::POW;
+use kinds::SUB;
 use store::Built;
 
 // Operator codes run from 0 Add to 6 Neg.

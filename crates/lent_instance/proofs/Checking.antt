@@ -10,7 +10,7 @@ use native.Mathlib.Omega.{arith}
 use native.Mathlib.Decide.{decLt}
 use borrow.Author.Tests.{le-ltb}
 use Rattle.arena.specs.Layout.{nodeWords, mostChildren, mostNodes, arenaOf}
-use Rattle.arena.specs.Kind.{listed}
+use Rattle.kinds.specs.Kind.{listed}
 use Rattle.arena.specs.Node.{nodeAt, one, flagsEnd, nodeHash, coefficient}
 use Rattle.arena.specs.Nodes.{WellFormed, Nodes}
 use Rattle.arena.proofs.Words.{children-length}

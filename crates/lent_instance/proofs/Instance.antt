@@ -11,7 +11,7 @@ use lib.Ieee.{binary64, ofBits, le, lt, eq, add as addFloat, mul as mulFloat, to
 use native.Mathlib.Omega.{arith}
 use borrow.Author.Tests.{lt-leb}
 use Rattle.arena.specs.Layout.{nodeWords}
-use Rattle.arena.specs.Kind.{listed, operatorArity}
+use Rattle.kinds.specs.Kind.{listed, operatorArity}
 use Rattle.arena.specs.Node.{nodeAt, wordsOf, one, nodeHash, coefficient, newNode, wordsFrom}
 use Rattle.hash.specs.Fnv.{nodeHashOf, fnvFrom, timesPrime, bytes32, bytes64, childrenBytes}
 use Rattle.definitions.specs.Machine.{variable, constant, add}

@@ -9,10 +9,10 @@ ghost use Rattle.sums.specs.Sums.{mostPending, part, Inside, Summable, Z
 use arena::DagArena;
 use arena::MOST_NODES;
 use arena::REORDERABLE;
-use arena::kind::ADD;
-use arena::kind::CONSTANT;
 use chains::MOST_TERMS;
 use fold::BITS_OF_ZERO;
+use kinds::ADD;
+use kinds::CONSTANT;
 use store::Built;
 use store::NodeAnswer;
 

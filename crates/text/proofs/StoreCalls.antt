@@ -12,7 +12,7 @@ use borrow.Author.Tests.{le-leb, lt-leb, le-ltb}
 use Rattle.arena.specs.declared.node.DagNode.{DagNode}
 use Rattle.arena.specs.declared.DagArena.{DagArena}
 use Rattle.arena.specs.Layout.{nodeWords, mostNodes, mostChildren}
-use Rattle.arena.specs.Kind as Kind
+use Rattle.kinds.specs.Kind as Kind
 use Rattle.arena.specs.Node.{nodeOf, put, find}
 use Rattle.arena.specs.Nodes.{WellFormed}
 use Rattle.arena.proofs.Putting.{put-length}

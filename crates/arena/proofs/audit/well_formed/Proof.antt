@@ -10,7 +10,7 @@ use Rattle.arena.specs.Nodes.{LowerChildren}
 use Rattle.definitions.proofs.Deciding.{says-no}
 use Rattle.arena.proofs.Words.{part-length, part-words, part-taken}
 use Rattle.arena.proofs.Forming.{not-listed, only-weighed}
-use Rattle.arena.proofs.Listing as L
+use Rattle.kinds.proofs.Listing as L
 use borrow.Author.Needs.{needs}
 use Rattle.arena.proofs.audit.well_formed.Statement.{statement}
 use Rattle.arena.proofs.audit.well_formed.Tie as tie

@@ -7,9 +7,8 @@ use lib.Dec.{eqb, leb, ltb}
 use lib.Ieee.{binary64, nanBits}
 use native.Mathlib.Omega.{arith}
 use borrow.Author.Tests.{eq-eqb, ne-eqb, le-leb, lt-leb, lt-ltb, le-ltb, eqb-true, leb-true}
-use Rattle.definitions.specs.Limits.{mostOperands}
-use Rattle.arena.specs.Layout.{mostChildren}
-use Rattle.arena.specs.Kind.{operatorArity, controlArity, listed, isSymbolNumber}
+use Rattle.definitions.specs.Limits.{mostChildren, mostOperands}
+use Rattle.kinds.specs.Kind.{operatorArity, controlArity, listed, isSymbolNumber}
 use Rattle.definitions.specs.Node.{nanConstant}
 use Rattle.definitions.proofs.Deciding.{both, same-test}
 

@@ -1,10 +1,10 @@
--- `arena::kind::is_listed_other` meets its contract: one law for each kind.
+-- `kinds::is_listed_other` meets its contract: one law for each kind.
 use mathlib.Core.Path.{_∙_}
 use native.Mathlib.Omega.{arith}
 use borrow.Author.Needs.{needs}
-use Rattle.arena.proofs.Listing as L
-use Rattle.arena.proofs.kind.is_listed_other.Statement.{statement}
-use Rattle.arena.proofs.kind.is_listed_other.Tie as tie
+use Rattle.kinds.proofs.Listing as L
+use Rattle.kinds.proofs.is_listed_other.Statement.{statement}
+use Rattle.kinds.proofs.is_listed_other.Tie as tie
 
 control-arity-requires : tie.Need-control-arity-requires
 control-arity-requires c κs = search needs

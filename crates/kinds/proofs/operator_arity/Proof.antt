@@ -1,8 +1,8 @@
--- `arena::kind::operator_arity` meets its contract: by the digits of the kind.
+-- `kinds::operator_arity` meets its contract: by the digits of the kind.
 use borrow.Author.Needs.{needs}
-use Rattle.arena.proofs.Listing as L
-use Rattle.arena.proofs.kind.operator_arity.Statement.{statement}
-use Rattle.arena.proofs.kind.operator_arity.Tie as tie
+use Rattle.kinds.proofs.Listing as L
+use Rattle.kinds.proofs.operator_arity.Statement.{statement}
+use Rattle.kinds.proofs.operator_arity.Tie as tie
 
 mul-below : tie.Need-mul-below
 mul-below c = search needs

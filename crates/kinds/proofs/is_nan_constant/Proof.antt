@@ -1,8 +1,8 @@
--- `arena::kind::is_nan_constant` meets its contract.
+-- `kinds::is_nan_constant` meets its contract.
 use borrow.Author.Needs.{needs}
-use Rattle.arena.proofs.Listing as L
-use Rattle.arena.proofs.kind.is_nan_constant.Statement.{statement}
-use Rattle.arena.proofs.kind.is_nan_constant.Tie as tie
+use Rattle.kinds.proofs.Listing as L
+use Rattle.kinds.proofs.is_nan_constant.Statement.{statement}
+use Rattle.kinds.proofs.is_nan_constant.Tie as tie
 
 is-nan-requires : tie.Need-is-nan-requires
 is-nan-requires c κs = search needs

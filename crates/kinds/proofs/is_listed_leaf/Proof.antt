@@ -1,10 +1,10 @@
--- `arena::kind::is_listed_leaf` meets its contract.
+-- `kinds::is_listed_leaf` meets its contract.
 use mathlib.Core.Path.{ap, _∙_}
 use mathlib.Core.Bool.{not}
 use borrow.Author.Needs.{needs}
-use Rattle.arena.proofs.Listing as L
-use Rattle.arena.proofs.kind.is_listed_leaf.Statement.{statement}
-use Rattle.arena.proofs.kind.is_listed_leaf.Tie as tie
+use Rattle.kinds.proofs.Listing as L
+use Rattle.kinds.proofs.is_listed_leaf.Statement.{statement}
+use Rattle.kinds.proofs.is_listed_leaf.Tie as tie
 
 is-nan-requires : tie.Need-is-nan-requires
 is-nan-requires c κs = search needs

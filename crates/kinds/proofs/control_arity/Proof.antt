@@ -1,7 +1,7 @@
--- `arena::kind::control_arity` meets its contract.
-use Rattle.arena.proofs.Listing as L
-use Rattle.arena.proofs.kind.control_arity.Statement.{statement}
-use Rattle.arena.proofs.kind.control_arity.Tie as tie
+-- `kinds::control_arity` meets its contract.
+use Rattle.kinds.proofs.Listing as L
+use Rattle.kinds.proofs.control_arity.Statement.{statement}
+use Rattle.kinds.proofs.control_arity.Tie as tie
 
 returns : tie.Need-returns
 returns c = L.four _ _ (c .match .keys1)

@@ -1,9 +1,9 @@
--- `arena::kind::is_listed` meets its contract: by the range of the kind.
+-- `kinds::is_listed` meets its contract: by the range of the kind.
 use mathlib.Core.Path.{_∙_}
 use borrow.Author.Needs.{needs}
-use Rattle.arena.proofs.Listing as L
-use Rattle.arena.proofs.kind.is_listed.Statement.{statement}
-use Rattle.arena.proofs.kind.is_listed.Tie as tie
+use Rattle.kinds.proofs.Listing as L
+use Rattle.kinds.proofs.is_listed.Statement.{statement}
+use Rattle.kinds.proofs.is_listed.Tie as tie
 
 is-listed-leaf-requires : tie.Need-is-listed-leaf-requires
 is-listed-leaf-requires c κs = search needs

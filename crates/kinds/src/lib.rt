@@ -4,8 +4,8 @@
 ghost use mathlib.Core.Path.{_≡_};
 ghost use Prim.Native.Nat.{_≤_, _<_};
 ghost use Rattle.definitions.specs.Node.{constantKind, addKind, negKind, nanConstant};
-ghost use Rattle.arena.specs.Kind.{operatorArity, controlArity, listed};
-use crate::MOST_CHILDREN;
+ghost use Rattle.kinds.specs.Kind.{operatorArity, controlArity, listed};
+use definitions::MOST_CHILDREN;
 use text_language::is_nan;
 
 pub const VARIABLE: u64 = 0;
