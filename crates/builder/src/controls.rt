@@ -1,8 +1,8 @@
 // Controls.
 ghost use Rattle.definitions.specs.Machine as M;
 ghost use Rattle.builder.specs.Stores.{Stores};
-use crate::building::build;
 use arena::DagArena;
+use building::build;
 use kinds::CONTROL;
 use kinds::FOR_LOOP;
 use kinds::IF_ELSE;

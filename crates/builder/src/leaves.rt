@@ -1,8 +1,8 @@
 // Variables and constants.
 ghost use Rattle.definitions.specs.Machine as M;
 ghost use Rattle.builder.specs.Stores.{Stores};
-use crate::building::build;
 use arena::DagArena;
+use building::build;
 use kinds::CONSTANT;
 use kinds::VARIABLE;
 use store::Built;

@@ -36,9 +36,9 @@ use Rattle.store.specs.Interning.{Interns}
 use Rattle.store.specs.Memory.{Memory, memory, model, answerOf}
 use Rattle.store.proofs.NewNodes.{new-formed, new-plain, new-places}
 use Rattle.store.proofs.Refining.{out, refined}
-use Rattle.builder.specs.Stores.{BuildsSound, Asked}
-use Rattle.builder.proofs.Requesting.{refuse-nan, refuse-operand, fits, interned}
-use Rattle.builder.proofs.Requesting as Requesting
+use Rattle.building.specs.Requests.{BuildsSound, Asked}
+use Rattle.building.proofs.Requesting.{refuse-nan, refuse-operand, fits, interned}
+use Rattle.building.proofs.Requesting as Requesting
 
 -- ---- a node
 

@@ -24,8 +24,8 @@ use Rattle.store.specs.Interning.{Interns}
 use Rattle.store.proofs.Viewing.{plain-length}
 use Rattle.store.proofs.Keeping.{kept-refl}
 use Rattle.store.proofs.Leaving.{leaves-unsound, leaves-kept}
-use Rattle.builder.specs.Stores.{BuildsSound, BuildsAudited, unsound, sound, Asked}
-use Rattle.builder.proofs.Operands.{below-each}
+use Rattle.building.specs.Requests.{BuildsSound, BuildsAudited, unsound, sound, Asked}
+use Rattle.building.proofs.Operands.{below-each}
 
 -- a call that wants what was asked for
 module _ (c : M.Store) (q : M.Request) (e : requested c ≡ q) (m : Memory) where

@@ -3,8 +3,8 @@ use mathlib.Core.Bool.{Bool, _&&_}
 use lib.Dec.{leb}
 use borrow.Author.Tests.{le-leb, lt-leb}
 use Rattle.definitions.specs.Node.{lastOperator, bothFlags}
-use Rattle.builder.proofs.operators.is_operator.Statement.{statement}
-use Rattle.builder.proofs.operators.is_operator.Tie as tie
+use Rattle.building.proofs.is_operator.Statement.{statement}
+use Rattle.building.proofs.is_operator.Tie as tie
 
 returns : tie.Need-returns
 returns c = ap (λ (b : Bool). b && leb (c .before .args .flags) bothFlags) (sym (le-leb (c .before .args .code) lastOperator (c .if1 .taken)))

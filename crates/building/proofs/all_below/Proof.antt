@@ -1,13 +1,13 @@
--- `builder::building::all_below` meets its contract. The loop's invariant: the operands left decide.
+-- `building::all_below` meets its contract. The loop's invariant: the operands left decide.
 use Prim.Native.Nat.{_-_, _≤_}
 use mathlib.Core.Path.{_≡_, refl}
 use lib.ListN.{length, drop}
 use native.Mathlib.Omega.{arith}
 use borrow.Author.Needs.{needs}
 use Rattle.definitions.specs.Machine.{allBelow}
-use Rattle.builder.proofs.Operands.{below-stops, below-next, below-ends}
-use Rattle.builder.proofs.building.all_below.Statement.{statement}
-use Rattle.builder.proofs.building.all_below.Tie as tie
+use Rattle.building.proofs.Operands.{below-stops, below-next, below-ends}
+use Rattle.building.proofs.all_below.Statement.{statement}
+use Rattle.building.proofs.all_below.Tie as tie
 
 abbrev Inv-loop : tie.InvT-loop
 Inv-loop operands count j₀ j = (j ≤ length operands) × (allBelow count operands ≡ allBelow count (drop j operands))

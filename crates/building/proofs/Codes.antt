@@ -13,7 +13,7 @@ use Rattle.definitions.proofs.Deciding.{both}
 use Rattle.kinds.proofs.Listing as L
 use Rattle.definitions.specs.Node.{childCountListed, node, variableKind, constantKind, addKind, negKind, functionKind, controlKind, forLoopControl, lastOperator, bothFlags}
 use Rattle.definitions.specs.Machine.{requested, request, operator}
-use Rattle.builder.specs.Stores.{Asked}
+use Rattle.building.specs.Requests.{Asked}
 
 operator-counts : (kind n : ℕ) → addKind ≤ kind → kind ≤ negKind → childCountListed kind 0 n ≡ Kind.listed kind 0 n
 unfolding childCountListed Kind.listed operatorArity

@@ -1,14 +1,20 @@
-// What all constructors share.
+// What all constructors share: a node over its operands, or the refusal of a request; and the codes of operators.
 ghost use mathlib.Core.Path.{_≡_};
+ghost use mathlib.Core.Bool.{_&&_};
+ghost use lib.Dec.{leb};
 ghost use Rattle.definitions.specs.Node as N;
+ghost use Rattle.definitions.specs.Node.{lastOperator, bothFlags};
 ghost use Rattle.definitions.specs.Machine as M;
 ghost use Rattle.store.specs.Sound.{Sound};
-ghost use Rattle.builder.specs.Stores.{StoresSound, StoresAudited, Asked};
+ghost use Rattle.building.specs.Requests.{StoresSound, StoresAudited, Asked};
 use arena::DagArena;
+use arena::REORDERABLE;
 use definitions::refusals::BAD_CHILD_COUNT;
 use definitions::refusals::BAD_CODE;
 use definitions::refusals::BAD_OPERAND;
 use definitions::refusals::NOT_SOUND;
+use kinds::ADD;
+use kinds::NEG;
 use kinds::is_listed;
 use kinds::is_nan_constant;
 use store::Built;
@@ -16,6 +22,20 @@ use store::NodeAnswer;
 use store::audit;
 use store::intern;
 use text_language::NOT_A_NUMBER;
+
+// Operator codes run from 0 Add to 6 Neg.
+const LAST_OPERATOR: u64 = NEG - ADD;
+
+// Whether an operator's code and flags are listed.
+pub fn is_operator(code: u64, flags: u64) -> bool
+    ensures { λ r. ⌜ r ≡ (leb code lastOperator && leb flags bothFlags) ⌝ }
+{
+    if code <= LAST_OPERATOR {
+        flags <= REORDERABLE
+    } else {
+        false
+    }
+}
 
 // Whether all operands are ids below the count.
 fn all_below(operands: &[u32], count: u64) -> bool
@@ -75,7 +95,7 @@ pub fn build_sound(
 }
 
 // The same after the audit: 20 comes first.
-pub(crate) fn build(
+pub fn build(
     nodes: &mut [u64],
     slots: &mut [u32],
     arena: DagArena,

@@ -1,8 +1,8 @@
 use borrow.Author.Tests.{not-true, not-false}
-use Rattle.builder.specs.Stores.{unsound, sound}
+use Rattle.building.specs.Requests.{unsound, sound}
 use borrow.Author.Needs.{needs}
-use Rattle.builder.proofs.building.build.Statement.{statement}
-use Rattle.builder.proofs.building.build.Tie as tie
+use Rattle.building.proofs.build.Statement.{statement}
+use Rattle.building.proofs.build.Tie as tie
 
 audit-requires : tie.Need-audit-requires
 audit-requires c κs = search needs

@@ -1,10 +1,10 @@
--- `builder::building::build_sound` meets its contract: one law for each answer.
+-- `building::build_sound` meets its contract: one law for each answer.
 use mathlib.Core.Path.{sym, _∙_}
 use borrow.Author.Tests.{not-true, not-false}
-use Rattle.builder.proofs.Requesting.{refuse-code, refuse-nan, refuse-count, refuse-operand, fits, interned}
+use Rattle.building.proofs.Requesting.{refuse-code, refuse-nan, refuse-count, refuse-operand, fits, interned}
 use borrow.Author.Needs.{needs}
-use Rattle.builder.proofs.building.build_sound.Statement.{statement}
-use Rattle.builder.proofs.building.build_sound.Tie as tie
+use Rattle.building.proofs.build_sound.Statement.{statement}
+use Rattle.building.proofs.build_sound.Tie as tie
 
 returns : tie.Need-returns
 returns c = refuse-code _ _ _ _ _ _ _ _ (c .before .before .before .before .pre .0) (c .before .before .before .before .pre .1) (not-true _ (c .if1 .taken))
