@@ -26,8 +26,8 @@ use Rattle.definitions.specs.Exact.{Exact, bound}
 use Rattle.definitions.specs.Promise.{FreshController, All, Balanced, Promise}
 use Rattle.definitions.proofs.Histories.{demand3}
 use Rattle.store.specs.View.{plainNode, nodesIn}
-use Rattle.dedup.specs.Table.{hashAt}
-use Rattle.dedup.proofs.Inserting.{inserted-length}
+use Rattle.slots.specs.Table.{hashAt}
+use Rattle.slots.proofs.Inserting.{inserted-length}
 use Rattle.definitions.specs.Limits.{firstTableSize}
 use Rattle.names.specs.Entry.{entryAt, SoundEntry}
 use Rattle.names.specs.Sound.{SoundNames as NamesSound, namesOf}

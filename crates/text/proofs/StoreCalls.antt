@@ -18,11 +18,11 @@ use Rattle.arena.specs.Nodes.{WellFormed}
 use Rattle.arena.proofs.Putting.{put-length}
 use Rattle.arena.proofs.Adding.{nodes-add}
 use Rattle.dedup.specs.declared.Insertion.the-variants.{New}
-use Rattle.dedup.specs.Table.{TableSize, hashAt, inserted}
+use Rattle.slots.specs.Table.{TableSize, hashAt, inserted}
 use Rattle.dedup.specs.Intern as Dedup
 use Rattle.dedup.specs.Intern.{Interned, answered, newAnswer, internAnswer, wordsAfter, Absent}
-use Rattle.dedup.proofs.Doubling.{at-least, doubled-twice}
-use Rattle.dedup.proofs.Inserting.{inserted-length}
+use Rattle.slots.proofs.Doubling.{at-least, doubled-twice}
+use Rattle.slots.proofs.Inserting.{inserted-length}
 use Rattle.dedup.proofs.Answers.{old-answer, refuse-count, refuse-words, refuse-slots}
 use Rattle.definitions.specs.Node as N
 use Rattle.definitions.specs.Intern.{capacity}
