@@ -10,7 +10,7 @@ use crate::number::spaced_hex_at;
 use crate::word::LINE_FEED;
 use arena::DagNode;
 use arena::FLAGS_END;
-use arena::audit::lower_children;
+use child_places::lower_children;
 use definitions::MOST_CHILDREN;
 use kinds::is_listed;
 

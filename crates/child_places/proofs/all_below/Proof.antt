@@ -1,12 +1,12 @@
--- `arena::audit::all_below` meets its contract. The invariant: the ids passed are below.
+-- `child_places::all_below` meets its contract. The invariant: the ids passed are below.
 use Prim.Native.Nat.{ℕ, _-_, _≤_, _<_}
 use lib.ListN.{length, getD}
 use native.Mathlib.Omega.{arith}
 use borrow.Author.Needs.{needs}
 use borrow.Author.Count.{below-more}
 use Rattle.definitions.proofs.Deciding.{says-yes, says-no}
-use Rattle.arena.proofs.audit.all_below.Statement.{statement}
-use Rattle.arena.proofs.audit.all_below.Tie as tie
+use Rattle.child_places.proofs.all_below.Statement.{statement}
+use Rattle.child_places.proofs.all_below.Tie as tie
 
 abbrev Inv-loop : tie.InvT-loop
 Inv-loop children id j₀ j = (j ≤ length children) × ((k : ℕ) → k < j → getD children k 0 < id)

@@ -1,15 +1,15 @@
--- `arena::audit::all_zero` meets its contract. The invariant: what is gathered is 0 exactly if the words passed are.
+-- `child_places::all_zero` meets its contract. The invariant: what is gathered is 0 exactly if the words passed are.
 use Prim.Native.Nat.{ℕ, _-_, _≤_, _<_}
 use mathlib.Core.Path.{_≡_, refl}
 use lib.ListN.{length, getD}
 use native.Mathlib.Omega.{arith}
 use borrow.Author.Needs.{needs}
 use borrow.Author.Count.{below-more}
-use Rattle.arena.specs.Nodes.{AllZero}
+use Rattle.child_places.specs.Places.{AllZero}
 use Rattle.definitions.proofs.Deciding.{says-map, says-eq}
-use Rattle.arena.proofs.Forming.{or-zero, zero-or, zeros-passed}
-use Rattle.arena.proofs.audit.all_zero.Statement.{statement}
-use Rattle.arena.proofs.audit.all_zero.Tie as tie
+use Rattle.child_places.proofs.Forming.{or-zero, zero-or, zeros-passed}
+use Rattle.child_places.proofs.all_zero.Statement.{statement}
+use Rattle.child_places.proofs.all_zero.Tie as tie
 
 abbrev Inv-loop : tie.InvT-loop
 Inv-loop words any₀ j₀ any j = (j ≤ length words) × (any ≡ 0 → (k : ℕ) → k < j → getD words k 0 ≡ 0) × (AllZero words → any ≡ 0)

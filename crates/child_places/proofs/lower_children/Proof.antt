@@ -1,4 +1,4 @@
--- `arena::audit::lower_children` meets its contract: the places in use and the unused ones.
+-- `child_places::lower_children` meets its contract: the places in use and the unused ones.
 use Prim.Native.Nat.{_≤_}
 use mathlib.Core.Path.{sym}
 use lib.ListN.{length}
@@ -6,10 +6,10 @@ use lib.Seq.{length-take-le}
 use native.Mathlib.Omega.{arith}
 use borrow.Author.Tests.{not-true, not-false}
 use Rattle.definitions.proofs.Deciding.{says-no, says-map}
-use Rattle.arena.proofs.Forming.{places-lower, lower-unused, lower-used}
+use Rattle.child_places.proofs.Forming.{places-lower, lower-unused, lower-used}
 use borrow.Author.Needs.{needs}
-use Rattle.arena.proofs.audit.lower_children.Statement.{statement}
-use Rattle.arena.proofs.audit.lower_children.Tie as tie
+use Rattle.child_places.proofs.lower_children.Statement.{statement}
+use Rattle.child_places.proofs.lower_children.Tie as tie
 
 used-few : (s : tie.Start) → s .args .arity ≤ length (s .args .places .now)
 used-few s = omega (arith, s .pre .0, s .pre .1)

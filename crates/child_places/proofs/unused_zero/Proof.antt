@@ -1,10 +1,10 @@
--- `arena::audit::unused_zero` meets its contract: the unused places are looked at in one part or two.
+-- `child_places::unused_zero` meets its contract: the unused places are looked at in one part or two.
 use borrow.Author.Tests.{not-true, not-false}
 use Rattle.definitions.proofs.Deciding.{says-no, says-map}
-use Rattle.arena.proofs.Forming.{zeros-tail, tail-zeros, zeros-joined, zeros-rest, zeros-first}
+use Rattle.child_places.proofs.Forming.{zeros-tail, tail-zeros, zeros-joined, zeros-rest, zeros-first}
 use borrow.Author.Needs.{needs}
-use Rattle.arena.proofs.audit.unused_zero.Statement.{statement}
-use Rattle.arena.proofs.audit.unused_zero.Tie as tie
+use Rattle.child_places.proofs.unused_zero.Statement.{statement}
+use Rattle.child_places.proofs.unused_zero.Tie as tie
 
 sub-all-zero : tie.Need-sub-all-zero
 sub-all-zero c = search needs
