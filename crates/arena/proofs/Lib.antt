@@ -1,4 +1,3 @@
-pub mod Listing
 pub mod Words
 pub mod Places
 pub mod OneNode

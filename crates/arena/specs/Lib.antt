@@ -1,4 +1,3 @@
 pub mod Layout
-pub mod Kind
 pub mod Node
 pub mod Nodes

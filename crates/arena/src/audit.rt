@@ -1,11 +1,10 @@
 // The audit of nodes, for refusal 20.
-ghost use mathlib.Core.Path.{_≡_};
 ghost use Prim.Native.Nat.{_+_, _*_, _≤_};
-ghost use lib.ListN.{length, drop};
+ghost use lib.ListN.{length};
 ghost use Rattle.definitions.specs.Says.{Says};
-ghost use Rattle.arena.specs.Layout.{nodeWords, mostChildren};
+ghost use Rattle.arena.specs.Layout.{nodeWords};
 ghost use Rattle.arena.specs.Node.{nodeAt};
-ghost use Rattle.arena.specs.Nodes.{AllBelow, AllZero, LowerChildren, WellFormed, AllWellFormed};
+ghost use Rattle.arena.specs.Nodes.{WellFormed, AllWellFormed};
 use crate::ARITY;
 use crate::CHILDREN;
 use crate::COEFFICIENT;
@@ -13,69 +12,13 @@ use crate::FLAGS;
 use crate::FLAGS_END;
 use crate::HASH;
 use crate::KIND;
-use crate::MOST_CHILDREN;
 use crate::MOST_NODES;
 use crate::NODE_WORDS;
 use crate::PAYLOAD;
-use crate::kind::is_listed;
 use crate::node::coefficient_of;
-
-// Whether all of these ids are below an id.
-fn all_below(children: &[u64], id: u64) -> bool
-    ensures { λ r. ⌜ Says r (AllBelow id (now (children .entry))) ⌝ }
-{
-    let mut j: usize = 0;
-    while j < children.len() {
-        if id <= children[j] {
-            return false;
-        }
-        j += 1;
-    }
-    true
-}
-
-// Whether all of these words are 0, without a branch for each.
-fn all_zero(words: &[u64]) -> bool
-    ensures { λ r. ⌜ Says r (AllZero (now (words .entry))) ⌝ }
-{
-    let mut any: u64 = 0;
-    let mut j: usize = 0;
-    while j < words.len() {
-        any = any | words[j];
-        j += 1;
-    }
-    any == 0
-}
-
-// Most nodes have at most so many children.
-const FEW_CHILDREN: usize = 2;
-
-// Whether the unused child places are 0. Those past the first few are looked at by themselves if so few are used: they are
-// a fixed number.
-fn unused_zero(places: &[u64], used: usize) -> bool
-    requires { ⌜ (length (now places) ≡ mostChildren) × (used ≤ mostChildren) ⌝ }
-    ensures { λ r. ⌜ Says r (AllZero (drop used (now (places .entry)))) ⌝ }
-{
-    if used <= FEW_CHILDREN {
-        if !all_zero(&places[FEW_CHILDREN..]) {
-            return false;
-        }
-        return all_zero(&places[used..FEW_CHILDREN]);
-    }
-    all_zero(&places[used..])
-}
-
-// Whether the children are lower than the id and the unused places 0.
-pub fn lower_children(places: &[u64], arity: u64, id: u64) -> bool
-    requires { ⌜ (length (now places) ≡ mostChildren) × (arity ≤ mostChildren) ⌝ }
-    ensures { λ r. ⌜ Says r (LowerChildren id arity (now (places .entry))) ⌝ }
-{
-    let used = arity as usize;
-    if !unused_zero(places, used) {
-        return false;
-    }
-    all_below(&places[..used], id)
-}
+use child_places::lower_children;
+use definitions::MOST_CHILDREN;
+use kinds::is_listed;
 
 // Whether the node of an id is as listed. Its words are read where they stand. The children are tested before they are cut to
 // 4 bytes for the hash.

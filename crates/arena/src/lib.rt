@@ -1,9 +1,9 @@
 // The nodes of a store (arena.rs, node.rs): words of 64 bits in a lent list. 01: "Ids count from 0."
 pub mod audit;
-pub mod kind;
 pub mod node;
 
 pub use audit::audit_nodes;
+use definitions::MOST_CHILDREN;
 pub use node::DagNode;
 pub use node::has_children;
 pub use node::has_parts;
@@ -12,9 +12,6 @@ pub use node::load;
 pub use node::mark;
 pub use node::store_node;
 pub use node::store_parts;
-
-// 02 (g): "Functions may have up to 16 children".
-pub const MOST_CHILDREN: usize = 16;
 
 // 02 (g): "A node becomes 22 words", 01's "of 64 bits in a lent list: kind, payload, hash, coefficient bits, flags, child
 // count" and the child places. Each word's place is counted from the node's first.

@@ -15,10 +15,10 @@ use crate::COEFFICIENT;
 use crate::FLAGS;
 use crate::HASH;
 use crate::KIND;
-use crate::MOST_CHILDREN;
 use crate::NODE_WORDS;
 use crate::PAYLOAD;
-use crate::kind::CONSTANT;
+use definitions::MOST_CHILDREN;
+use kinds::CONSTANT;
 
 // The binary64 bits of 1.0.
 pub const BITS_OF_ONE: u64 = 0x3ff0_0000_0000_0000;

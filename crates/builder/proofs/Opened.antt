@@ -7,9 +7,9 @@ use native.Mathlib.Omega.{arith}
 use borrow.Author.Tests.{lt-ltb, le-ltb}
 use Rattle.arena.specs.declared.DagArena.{DagArena}
 use Rattle.arena.specs.Nodes.{AllWellFormed}
-use Rattle.dedup.specs.Table.{hashAt}
-use Rattle.dedup.specs.Insert.{FitsTable, Rehashed}
-use Rattle.dedup.proofs.Inserting.{inserted-none}
+use Rattle.slots.specs.Table.{hashAt}
+use Rattle.slots.specs.Insert.{FitsTable, Rehashed}
+use Rattle.slots.proofs.Inserting.{inserted-none}
 use Rattle.definitions.specs.Limits.{firstTableSize}
 use Rattle.definitions.specs.Refusals.{noSlotPlace}
 use Rattle.definitions.specs.Promise.{Fresh}

@@ -1,12 +1,12 @@
 // Controls.
 ghost use Rattle.definitions.specs.Machine as M;
 ghost use Rattle.builder.specs.Stores.{Stores};
-use crate::building::build;
 use arena::DagArena;
-use arena::kind::CONTROL;
-use arena::kind::FOR_LOOP;
-use arena::kind::IF_ELSE;
-use arena::kind::SELECT;
+use building::build;
+use kinds::CONTROL;
+use kinds::FOR_LOOP;
+use kinds::IF_ELSE;
+use kinds::SELECT;
 use store::Built;
 
 // Select, over three operands.

@@ -1,9 +1,9 @@
 // Functions.
 ghost use Rattle.definitions.specs.Machine as M;
 ghost use Rattle.builder.specs.Stores.{Stores};
-use crate::building::build;
 use arena::DagArena;
-use arena::kind::FUNCTION;
+use building::build;
+use kinds::FUNCTION;
 use store::Built;
 
 // A function, by its number, over its operands.

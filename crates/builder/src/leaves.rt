@@ -1,10 +1,10 @@
 // Variables and constants.
 ghost use Rattle.definitions.specs.Machine as M;
 ghost use Rattle.builder.specs.Stores.{Stores};
-use crate::building::build;
 use arena::DagArena;
-use arena::kind::CONSTANT;
-use arena::kind::VARIABLE;
+use building::build;
+use kinds::CONSTANT;
+use kinds::VARIABLE;
 use store::Built;
 
 // A variable, by its symbol.

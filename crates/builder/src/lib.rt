@@ -1,5 +1,4 @@
 // The builder's calls (builder.rs): each audits the store once, refuses or answers an id, and leaves a sound store.
-pub mod building;
 pub mod controls;
 pub mod functions;
 pub mod leaves;
@@ -7,7 +6,6 @@ pub mod opening;
 pub mod operators;
 pub mod reading;
 
-pub use building::build_sound;
 pub use controls::control;
 pub use controls::for_loop;
 pub use controls::if_else;
@@ -19,7 +17,6 @@ pub use opening::FreshStore;
 pub use opening::fresh;
 pub use operators::add;
 pub use operators::div;
-pub use operators::is_operator;
 pub use operators::modulo;
 pub use operators::mul;
 pub use operators::neg;

@@ -1,9 +1,9 @@
 // A fresh store.
 ghost use Rattle.builder.specs.Opens.{Opens};
 use arena::DagArena;
-use dedup::filling::rehash;
-use dedup::sizes::FIRST_SIZE;
 use definitions::refusals::NO_SLOT_PLACE;
+use slots::FIRST_SIZE;
+use slots::rehash;
 
 // The counts of a fresh store, or the number of a refusal.
 pub enum FreshStore {

@@ -1,24 +1,18 @@
 // Operators. 01: "`add` and `mul` give flags 3, other constructors 0; `operator` takes flags 0 to 3."
-ghost use mathlib.Core.Path.{_≡_};
-ghost use mathlib.Core.Bool.{_&&_};
-ghost use lib.Dec.{leb};
-ghost use Rattle.definitions.specs.Node.{lastOperator, bothFlags};
 ghost use Rattle.definitions.specs.Machine as M;
 ghost use Rattle.builder.specs.Stores.{Stores};
-use crate::building::build;
 use arena::DagArena;
 use arena::REORDERABLE;
-use arena::kind::ADD;
-use arena::kind::DIV;
-use arena::kind::MOD;
-use arena::kind::MUL;
-use arena::kind::NEG;
-use arena::kind::POW;
-use arena::kind::SUB;
+use building::build;
+use building::is_operator;
+use kinds::ADD;
+use kinds::DIV;
+use kinds::MOD;
+use kinds::MUL;
+use kinds::NEG;
+use kinds::POW;
+use kinds::SUB;
 use store::Built;
-
-// Operator codes run from 0 Add to 6 Neg.
-const LAST_OPERATOR: u64 = NEG - ADD;
 
 // The sum of two.
 pub fn add(nodes: &mut [u64], slots: &mut [u32], arena: DagArena, a: u32, b: u32) -> Built
@@ -74,17 +68,6 @@ pub fn neg(nodes: &mut [u64], slots: &mut [u32], arena: DagArena, a: u32) -> Bui
 {
     let operands = [a];
     build(nodes, slots, arena, true, NEG, 0, 0, &operands)
-}
-
-// Whether an operator's code and flags are listed.
-pub fn is_operator(code: u64, flags: u64) -> bool
-    ensures { λ r. ⌜ r ≡ (leb code lastOperator && leb flags bothFlags) ⌝ }
-{
-    if code <= LAST_OPERATOR {
-        flags <= REORDERABLE
-    } else {
-        false
-    }
 }
 
 // Any operator, by its code, with any flags and operands.

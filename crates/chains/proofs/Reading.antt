@@ -11,7 +11,7 @@ use Rattle.definitions.specs.Limits.{mostChildren, mostOperands, mostNodes}
 use Rattle.definitions.specs.Node.{at, addKind}
 use Rattle.definitions.proofs.Deciding.{both}
 use Rattle.arena.specs.declared.DagArena.{DagArena}
-use Rattle.arena.specs.Kind.{operatorArity}
+use Rattle.kinds.specs.Kind.{operatorArity}
 use Rattle.store.specs.View.{nodesIn, Sound, listed}
 use Rattle.store.specs.Lookup.{Lookup}
 use Rattle.store.proofs.Viewing.{plain-length}

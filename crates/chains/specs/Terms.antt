@@ -13,7 +13,7 @@ use Rattle.chains.specs.declared.chain.Waiting.{Waiting}
 use Rattle.chains.specs.declared.chain.Waiting.the-variants.{Before, Nowhere}
 use Rattle.chains.specs.declared.chain.Flattened.{Flattened}
 use Rattle.chains.specs.declared.chain.Flattened.the-variants.{Terms, TooMany}
-pub use Rattle.arena.specs.Nodes.{AllBelow}
+pub use Rattle.child_places.specs.Places.{AllBelow}
 
 -- the children of a node in memory
 abbrev pub childrenIn : List ℕ → ℕ → ℕ → List ℕ

@@ -11,7 +11,7 @@ ghost use Rattle.store.specs.View.{nodesIn};
 ghost use Rattle.store.specs.Lookup.{Lookup};
 ghost use Rattle.chains.specs.Terms.{childrenIn, Readable, Pushes, HasTerm, PutsTerm, Closes, Flattens};
 use crate::keeping::keeps;
-use arena::kind::ADD;
+use kinds::ADD;
 
 // 01: "over 4,096 terms" is refused.
 pub const MOST_TERMS: usize = 4096;

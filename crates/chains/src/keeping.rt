@@ -7,8 +7,8 @@ ghost use Rattle.definitions.specs.Patterns.{constantValue};
 ghost use Rattle.definitions.specs.Prune as Prune;
 ghost use Rattle.store.specs.View.{nodesIn};
 ghost use Rattle.store.specs.Lookup.{Lookup};
-use arena::kind::CONSTANT;
 use arena::node::BITS_OF_ONE;
+use kinds::CONSTANT;
 
 // The bits of a number whose absolute value is the term's magnitude.
 fn magnitude_of_term(nodes: &[u64], count: u64, id: u64) -> u64

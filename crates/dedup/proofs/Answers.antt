@@ -18,11 +18,11 @@ use Rattle.arena.proofs.Adding.{nodes-add}
 use Rattle.dedup.specs.declared.Insertion.the-variants.{Old, New, Refused}
 use Rattle.definitions.specs.Refusals.{noNodePlace, noSlotPlace}
 use Rattle.definitions.specs.Intern.{capacity}
-use Rattle.dedup.specs.Table.{Table, hashAt}
-use Rattle.dedup.specs.Insert.{FirstFree, FitsTable, Rehashed}
+use Rattle.slots.specs.Table.{Table, hashAt}
+use Rattle.slots.specs.Insert.{FirstFree, FitsTable, Rehashed}
 use Rattle.dedup.specs.Intern.{Interned, answered, newAnswer, internAnswer, wordsAfter, Inserts, Absent}
-use Rattle.dedup.proofs.Doubling.{at-least, doubled-twice}
-use Rattle.dedup.proofs.Inserting.{table-add, past-add}
+use Rattle.slots.proofs.Doubling.{at-least, doubled-twice}
+use Rattle.slots.proofs.Inserting.{table-add, past-add}
 
 -- an old node
 pub old-answer : (w slots : List ℕ) (a : DagArena) (key : DagNode) (id : ℕ) → find w (a .count) key ≡ some id → Nodes w (a .count) → Table (hashAt w) (a .count) slots (a .size) → Inserts w slots a key (answered (Old id) (a .count) (a .size)) w slots

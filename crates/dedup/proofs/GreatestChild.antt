@@ -14,8 +14,9 @@ use Rattle.arena.specs.Nodes.{AllWellFormed}
 use Rattle.arena.proofs.OneNode.{not-one}
 use Rattle.arena.proofs.Places.{places-at}
 use Rattle.dedup.specs.declared.probing.Place.the-variants.{Free}
-use Rattle.dedup.specs.Probe.{greatestChild, comparedId, holds, Probed, OverNewest}
-use Rattle.dedup.specs.Insert.{FirstFree}
+use Rattle.dedup.specs.Probe.{greatestChild, comparedId, Probed, OverNewest}
+use Rattle.slots.specs.Held.{holds}
+use Rattle.slots.specs.Insert.{FirstFree}
 
 -- ---- the greatest, place by place
 pub greatest-none : greatestChild [] ≡ 0

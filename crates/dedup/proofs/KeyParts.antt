@@ -6,7 +6,7 @@ use lib.ListN.{length}
 use Rattle.hash.specs.Fnv.{nodeHashOf}
 use Rattle.arena.specs.Layout.{mostChildren}
 use Rattle.arena.specs.Node.{nodeHash, nodeOf, Key}
-use Rattle.dedup.specs.Insert.{FirstFree}
+use Rattle.slots.specs.Insert.{FirstFree}
 use Rattle.arena.proofs.Places.{places-taken, places-length}
 
 module _ (kind payload flags : ℕ) (c : List ℕ) where

@@ -13,12 +13,13 @@ use Rattle.arena.specs.Nodes.{Nodes}
 use Rattle.definitions.proofs.Deciding.{is-false}
 use Rattle.arena.proofs.OneNode.{one-hash}
 use Rattle.arena.proofs.Finding.{find-none, find-one}
-use Rattle.dedup.specs.Table.{slotFrom, Placed, Table, hashAt}
-use Rattle.dedup.specs.Probe.{holds, Passed, Frees, Finds}
-use Rattle.dedup.specs.Insert.{Room}
-use Rattle.dedup.proofs.Searching.{holds-known, held}
-use Rattle.dedup.proofs.FreePlaces.{not-round}
-use Rattle.dedup.proofs.Inserting.{table-order}
+use Rattle.slots.specs.Table.{slotFrom, Placed, Table, hashAt}
+use Rattle.dedup.specs.Probe.{Passed, Frees, Finds}
+use Rattle.slots.specs.Held.{holds}
+use Rattle.slots.specs.Insert.{Room}
+use Rattle.slots.proofs.Held.{holds-known, held}
+use Rattle.slots.proofs.FreePlaces.{not-round}
+use Rattle.slots.proofs.Inserting.{table-order}
 
 -- a table with an empty slot is not passed whole
 pub not-passed : (w : List ℕ) (known : ℕ) (slots : List ℕ) (size : ℕ) (key : DagNode) → Room slots size → Passed w known slots size key size → ⊥

@@ -1,56 +1,20 @@
 -- What a search passes, and where it ends.
-use Prim.Native.Nat.{ℕ, zero, suc, _+_, _-_, _%_, _≤_, _<_}
-use mathlib.Core.Path.{_≡_, refl, sym, ap, _∙_, subst}
-use mathlib.Core.Bool.{true, false, _&&_, false≢true}
+use Prim.Native.Nat.{ℕ, _+_, _%_, _<_}
+use mathlib.Core.Path.{_≡_, sym, ap, _∙_, subst}
+use mathlib.Core.Bool.{true, false}
 use mathlib.Core.List.{List}
 use lib.ListN.{getD}
-use lib.Dec.{ltb}
 use native.Mathlib.Omega.{arith}
 use native.Mathlib.Nat.{mod-lt}
 use borrow.Author.Count.{below-more}
-use borrow.Author.Tests.{lt-ltb, le-ltb, ltb-true}
 use Rattle.arena.specs.declared.node.DagNode.{DagNode}
-use Rattle.arena.specs.Node.{nodeAt, one, nodeHash}
-use Rattle.arena.specs.Nodes.{AllWellFormed}
-use Rattle.definitions.proofs.Deciding.{both}
-use Rattle.arena.proofs.OneNode.{not-one, one-is, one-hash}
 use Rattle.dedup.specs.declared.probing.Place.{Place}
 use Rattle.dedup.specs.declared.probing.Place.the-variants.{Here, Free, Nowhere}
-use Rattle.dedup.specs.Table.{slotFrom}
-use Rattle.dedup.specs.Probe.{holds, Passed, Reaches, Frees, Finds, Probed}
+use Rattle.slots.specs.Table.{slotFrom}
+use Rattle.slots.specs.Held.{holds}
+use Rattle.slots.specs.Insert.{FirstFree}
+use Rattle.dedup.specs.Probe.{Passed, Reaches, Frees, Finds, Probed}
 
--- ---- a slot in use
-module _ (w : List ℕ) (known : ℕ) (key : DagNode) where
-  pub holds-is : (slot : ℕ) → 0 < slot → holds w known key slot ≡ (ltb (slot - 1) known && one (nodeAt w (slot - 1)) key)
-  unfolding holds
-  holds-is zero l = absurd (omega arith)
-  holds-is (suc id) l = let e : id ≡ suc id - 1 = omega arith in ap (λ (x : ℕ). ltb x known && one (nodeAt w x) key) e
-
-  -- an id that is not known
-  pub holds-beyond : (slot id : ℕ) → 0 < slot → id ≡ slot - 1 → known ≤ id → false ≡ holds w known key slot
-  holds-beyond slot id l e m = sym (holds-is slot l ∙ (rw (le-ltb (slot - 1) known (omega arith)) refl))
-
-  pub holds-known : (slot id : ℕ) → 0 < slot → id ≡ slot - 1 → id < known → one (nodeAt w id) key ≡ holds w known key slot
-  holds-known slot id l e m = rw e (sym (holds-is slot l ∙ (rw (lt-ltb (slot - 1) known (omega arith)) refl)))
-
-  -- another hash is another node
-  pub other-hash : (id : ℕ) → id < known → AllWellFormed w known → key .hash ≡ nodeHash key → (nodeAt w id .hash ≡ key .hash → ⊥) → false ≡ one (nodeAt w id) key
-  other-hash id m f h n = not-one (nodeAt w id) key (λ o. n (f .each id m .hashed ∙ one-hash (nodeAt w id) key (one-is (nodeAt w id) key o) ∙ sym h))
-
-  pub holds-hash : (slot id : ℕ) → 0 < slot → id ≡ slot - 1 → id < known → AllWellFormed w known → key .hash ≡ nodeHash key → (nodeAt w id .hash ≡ key .hash → ⊥) → false ≡ holds w known key slot
-  holds-hash slot id l e m f h n = other-hash id m f h n ∙ holds-known slot id l e m
-
-  -- a slot that holds the key is in use, by a known id
-  pub held : (slot : ℕ) → holds w known key slot ≡ true → (0 < slot) × (slot - 1 < known) × (one (nodeAt w (slot - 1)) key ≡ true)
-  unfolding holds
-  held zero h = absurd (false≢true h)
-  held (suc id) h =
-      let t = both (ltb id known) (one (nodeAt w id) key) h in
-      let e : id ≡ suc id - 1 = omega arith in
-      let l = ltb-true id known (t .0) in
-      (omega arith, omega arith, ap (λ (x : ℕ). one (nodeAt w x) key) (sym e) ∙ t .1)
-
--- ---- a search
 module _ (w : List ℕ) (known : ℕ) (slots : List ℕ) (size : ℕ) (key : DagNode) where
   pub passed-none : (far : ℕ) → far ≡ 0 → Passed w known slots size key far
   passed-none far e = record { used = λ d l. absurd (omega arith); other = λ d l. absurd (omega arith) }
@@ -96,3 +60,7 @@ module _ (w : List ℕ) (known : ℕ) (slots : List ℕ) (size : ℕ) (key : Dag
   -- a place that a search reaches is one of the table
   pub reached-in : (at : ℕ) → Reaches w known slots size key at → at < size
   reached-in at r = let n = r .near in rw (r .is) (mod-lt _ (omega arith))
+
+-- where a search ends at an empty slot
+pub first-free : (w : List ℕ) (known : ℕ) (slots : List ℕ) (size : ℕ) (key : DagNode) (at : ℕ) → Frees w known slots size key at → FirstFree slots size (key .hash) at
+first-free w known slots size key at f = record { far = f .reached .far; near = f .reached .near; is = f .reached .is; empty = f .empty; used = f .reached .passed .used }

@@ -15,7 +15,7 @@ use Rattle.dedup.specs.declared.Insertion.{Insertion}
 use Rattle.dedup.specs.declared.Insertion.the-variants.{Old, New, Refused}
 use Rattle.definitions.specs.Refusals.{noNodePlace, noSlotPlace}
 use Rattle.definitions.specs.Intern.{capacity}
-use Rattle.dedup.specs.Table.{Table, hashAt}
+use Rattle.slots.specs.Table.{Table, hashAt}
 
 -- an answer, and the counts of the store after it
 pub record Interned : Type 0 where

@@ -1,21 +1,16 @@
 -- What a search round the table finds.
-use Prim.Native.Nat.{ℕ, zero, suc, _+_, _%_, _≤_, _<_, max}
+use Prim.Native.Nat.{ℕ, _+_, _%_, _≤_, _<_, max}
 use mathlib.Core.Path.{_≡_}
-use mathlib.Core.Bool.{Bool, true, false, cond, _&&_}
+use mathlib.Core.Bool.{true, false, cond}
 use mathlib.Core.List.{List, [], _∷_}
 use lib.ListN.{length, getD}
 use lib.Dec.{ltb}
 use Rattle.arena.specs.declared.node.DagNode.{DagNode}
-use Rattle.arena.specs.Node.{nodeAt, one}
 use Rattle.arena.specs.Nodes.{AllWellFormed}
 use Rattle.dedup.specs.declared.probing.Place.{Place}
 use Rattle.dedup.specs.declared.probing.Place.the-variants.{Here, Free, Nowhere}
-use Rattle.dedup.specs.Table.{TableSize, slotFrom, InUse}
-
--- a slot holds an id below `known` whose node is one with the key
-unfoldable pub holds : List ℕ → ℕ → DagNode → ℕ → Bool
-holds words known key zero = false
-holds words known key (suc id) = ltb id known && one (nodeAt words id) key
+use Rattle.slots.specs.Table.{TableSize, slotFrom, InUse}
+use Rattle.slots.specs.Held.{holds}
 
 -- the greatest of child places, 0 if there is none
 unfoldable pub greatestChild : List ℕ → ℕ

@@ -2,27 +2,22 @@
 ghost use Rattle.arena.specs.Layout.{arenaOf};
 ghost use Rattle.arena.specs.Node.{nodeOf, Key};
 ghost use Rattle.arena.specs.Nodes.{WellFormed, Nodes};
-ghost use Rattle.dedup.specs.Table.{Table, hashAt};
-ghost use Rattle.dedup.specs.Insert.{FirstFree};
+ghost use Rattle.slots.specs.Table.{Table, hashAt};
+ghost use Rattle.slots.specs.Insert.{FirstFree};
 ghost use Rattle.dedup.specs.Intern.{answered, Inserts, Absent, Full};
 
-pub mod auditing;
-pub mod filling;
 pub mod probing;
-pub mod sizes;
-pub mod window;
 
 use arena::MOST_NODES;
 use arena::NODE_WORDS;
 use arena::store_parts;
-pub use auditing::audit;
 use definitions::refusals::NO_NODE_PLACE;
 use definitions::refusals::NO_SLOT_PLACE;
-use filling::rehash;
 use probing::Place;
 use probing::search;
 use probing::slot_id;
-use sizes::load_limit;
+use slots::load_limit;
+use slots::rehash;
 
 // The id of an old node or of a new one, or the number of a refusal.
 pub enum Insertion {

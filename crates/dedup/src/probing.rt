@@ -4,13 +4,14 @@ ghost use Prim.Native.Nat.{_-_, _^_, _<_};
 ghost use Rattle.definitions.specs.Says.{Says};
 ghost use Rattle.arena.specs.Node.{nodeOf, Key};
 ghost use Rattle.arena.specs.Nodes.{AllWellFormed};
-ghost use Rattle.dedup.specs.Insert.{Room};
-ghost use Rattle.dedup.specs.Probe.{greatestChild, comparedId, holds, Searchable, Probed, OverNewest};
-use crate::filling::free_place;
-use crate::sizes::modulo_size;
+ghost use Rattle.slots.specs.Insert.{Room};
+ghost use Rattle.dedup.specs.Probe.{greatestChild, comparedId, Searchable, Probed, OverNewest};
+ghost use Rattle.slots.specs.Held.{holds};
 use arena::HASH;
 use arena::NODE_WORDS;
 use arena::has_parts;
+use slots::free_place;
+use slots::modulo_size;
 
 // Where a search ends: at a slot that holds the key's node, at an empty one, or at none.
 pub enum Place {

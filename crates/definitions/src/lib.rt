@@ -6,8 +6,11 @@ pub mod refusals;
 ghost use mathlib.Core.Path.{_≡_};
 ghost use Rattle.definitions.specs.Limits.{mostChildren};
 
+// 02 (g): "Functions may have up to 16 children".
+pub const MOST_CHILDREN: usize = 16;
+
 pub fn most_children() -> usize
     ensures { λ r. ⌜ r ≡ mostChildren ⌝ }
 {
-    16
+    MOST_CHILDREN
 }

@@ -10,12 +10,12 @@ use native.Mathlib.Omega.{arith}
 use native.Mathlib.Decide.{decLt}
 use borrow.Author.Tests.{le-ltb}
 use Rattle.arena.specs.Layout.{nodeWords, mostChildren, mostNodes, arenaOf}
-use Rattle.arena.specs.Kind.{listed}
+use Rattle.kinds.specs.Kind.{listed}
 use Rattle.arena.specs.Node.{nodeAt, one, flagsEnd, nodeHash, coefficient}
 use Rattle.arena.specs.Nodes.{WellFormed, Nodes}
 use Rattle.arena.proofs.Words.{children-length}
-use Rattle.dedup.specs.Table.{Table, TableSize, inserted, hashAt}
-use Rattle.dedup.proofs.Inserting.{inserted-length}
+use Rattle.slots.specs.Table.{Table, TableSize, inserted, hashAt}
+use Rattle.slots.proofs.Inserting.{inserted-length}
 use Rattle.definitions.specs.Limits.{firstTableSize}
 use Rattle.definitions.specs.Intern.{capacity}
 use Rattle.store.specs.Sound.{Sound}

@@ -11,7 +11,7 @@ use lib.Ieee.{binary64, ofBits, le, lt, eq, add as addFloat, mul as mulFloat, to
 use native.Mathlib.Omega.{arith}
 use borrow.Author.Tests.{lt-leb}
 use Rattle.arena.specs.Layout.{nodeWords}
-use Rattle.arena.specs.Kind.{listed, operatorArity}
+use Rattle.kinds.specs.Kind.{listed, operatorArity}
 use Rattle.arena.specs.Node.{nodeAt, wordsOf, one, nodeHash, coefficient, newNode, wordsFrom}
 use Rattle.hash.specs.Fnv.{nodeHashOf, fnvFrom, timesPrime, bytes32, bytes64, childrenBytes}
 use Rattle.definitions.specs.Machine.{variable, constant, add}
@@ -26,8 +26,8 @@ use Rattle.definitions.specs.Exact.{Exact, bound}
 use Rattle.definitions.specs.Promise.{FreshController, All, Balanced, Promise}
 use Rattle.definitions.proofs.Histories.{demand3}
 use Rattle.store.specs.View.{plainNode, nodesIn}
-use Rattle.dedup.specs.Table.{hashAt}
-use Rattle.dedup.proofs.Inserting.{inserted-length}
+use Rattle.slots.specs.Table.{hashAt}
+use Rattle.slots.proofs.Inserting.{inserted-length}
 use Rattle.definitions.specs.Limits.{firstTableSize}
 use Rattle.names.specs.Entry.{entryAt, SoundEntry}
 use Rattle.names.specs.Sound.{SoundNames as NamesSound, namesOf}

@@ -5,7 +5,7 @@ use mathlib.Core.List.{List, [], _∷_, _++_}
 use lib.ListN.{length, replicate, take}
 use Rattle.arena.specs.Layout.{nodeWords, mostChildren, arenaOf}
 use Rattle.arena.specs.Node.{canonical, wordsOf, newNode}
-use Rattle.dedup.specs.Table.{inserted, hashAt}
+use Rattle.slots.specs.Table.{inserted, hashAt}
 use Rattle.definitions.specs.Limits.{firstTableSize}
 use Rattle.definitions.specs.Node.{Node}
 use Rattle.definitions.specs.Lists.{LentLists, Controller}

@@ -14,10 +14,11 @@ use Rattle.hash.specs.Fnv.{nodeHashOf}
 use Rattle.arena.specs.declared.node.DagNode.{DagNode}
 use Rattle.arena.specs.Layout.{mostChildren}
 use Rattle.definitions.specs.Says.{Says}
-use Rattle.arena.specs.Kind.{listed}
+use Rattle.kinds.specs.Kind.{listed}
 use Rattle.arena.specs.Node.{flagsEnd, newNode, nodeHash, coefficient}
-use Rattle.arena.specs.Nodes.{LowerChildren, WellFormed}
-use Rattle.arena.proofs.Listing.{listed-few, no-kind}
+use Rattle.child_places.specs.Places.{LowerChildren}
+use Rattle.arena.specs.Nodes.{WellFormed}
+use Rattle.kinds.proofs.Listing.{listed-few, no-kind}
 use Rattle.store.specs.View.{plainNode}
 use Rattle.listing_reader.specs.declared.node.Heading as H
 use Rattle.listing_reader.specs.declared.node.Heading.the-variants as HV

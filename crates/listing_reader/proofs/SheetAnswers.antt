@@ -34,7 +34,7 @@ use Rattle.definitions.proofs.PruneCalls.{remains-of}
 use Rattle.definitions.proofs.Going.{call-step}
 use Rattle.definitions.proofs.SheetCalls.{sheet-as-calls}
 use Rattle.arena.specs.declared.DagArena.{DagArena}
-use Rattle.arena.specs.Kind.{listed as kindListed, operatorArity}
+use Rattle.kinds.specs.Kind.{listed as kindListed, operatorArity}
 use Rattle.store.specs.Sound.{Sound as StoreSound}
 use Rattle.store.specs.View.{nodesIn}
 use Rattle.store.specs.Memory.{Memory, model}

@@ -10,9 +10,9 @@ use crate::number::spaced_hex_at;
 use crate::word::LINE_FEED;
 use arena::DagNode;
 use arena::FLAGS_END;
-use arena::MOST_CHILDREN;
-use arena::audit::lower_children;
-use arena::kind::is_listed;
+use child_places::lower_children;
+use definitions::MOST_CHILDREN;
+use kinds::is_listed;
 
 // What stands before a node's children, and the place after it, or nothing.
 enum Heading {

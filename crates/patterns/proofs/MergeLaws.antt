@@ -11,7 +11,7 @@ use Rattle.fold.specs.Fold.{stored}
 use Rattle.fold.specs.Exactness.{NumberAnswer}
 use Rattle.fold.specs.declared.Folded.{Folded}
 use Rattle.fold.specs.declared.Folded.the-variants as F
-use Rattle.arena.specs.Kind.{operatorArity}
+use Rattle.kinds.specs.Kind.{operatorArity}
 use Rattle.store.specs.View.{nodesIn, listed}
 use Rattle.patterns.specs.Reading.{Split, left, right, neither, splitBy, split}
 use Rattle.patterns.specs.Carrying.{Operand}

@@ -10,7 +10,7 @@ use crate::Replacement;
 use crate::firing::Fired;
 use arena::DagArena;
 use arena::REORDERABLE;
-use arena::kind::CONSTANT;
+use kinds::CONSTANT;
 use store::Built;
 use store::NodeAnswer;
 

@@ -6,7 +6,7 @@ ghost use Rattle.definitions.specs.Patterns as P;
 ghost use Rattle.store.specs.View.{nodesIn};
 ghost use Rattle.store.specs.Lookup.{Lookup};
 ghost use Rattle.patterns.specs.Reading.{valueOf};
-use arena::kind::CONSTANT;
+use kinds::CONSTANT;
 
 // The bits of a node that is a constant.
 pub(crate) enum Constant {

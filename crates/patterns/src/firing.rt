@@ -4,11 +4,11 @@ ghost use mathlib.Core.Path.{_≡_};
 ghost use Rattle.definitions.specs.Firing.{firstFunction, mergeFunction};
 ghost use Rattle.patterns.specs.Fired.{patternOf, nothingFits, decisionBy};
 use crate::PatternResult;
-use arena::kind::ADD;
-use arena::kind::DIV;
-use arena::kind::MUL;
-use arena::kind::POW;
-use arena::kind::SUB;
+use kinds::ADD;
+use kinds::DIV;
+use kinds::MUL;
+use kinds::POW;
+use kinds::SUB;
 
 pub enum Pattern {
     AddZero,

@@ -10,14 +10,14 @@ use crate::constants::is_one;
 use crate::constants::is_positive;
 use crate::constants::is_zero;
 use crate::constants::vanishes;
-use arena::kind::ADD;
-use arena::kind::DIV;
-use arena::kind::MUL;
-use arena::kind::NEG;
-use arena::kind::POW;
-use arena::kind::SUB;
 use arena::node::BITS_OF_ONE;
 use fold::BITS_OF_ZERO;
+use kinds::ADD;
+use kinds::DIV;
+use kinds::MUL;
+use kinds::NEG;
+use kinds::POW;
+use kinds::SUB;
 
 // `x + 0 -> x` and `0 + x -> x`.
 fn add_zero(nodes: &[u64], count: u64, lhs: u64, rhs: u64) -> PatternResult

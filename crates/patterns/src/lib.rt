@@ -18,13 +18,13 @@ ghost use Rattle.patterns.specs.Deciding.{Both, declines};
 ghost use Rattle.patterns.specs.Fired.{Fires};
 ghost use Rattle.patterns.specs.Applied.{Operands, Applicable, Applies};
 use arena::DagArena;
-use arena::kind::ADD;
-use arena::kind::MOD;
-use arena::kind::NEG;
 use definitions::mode::Mode;
 use firing::Decision;
 use firing::Fired;
 use firing::Pattern;
+use kinds::ADD;
+use kinds::MOD;
+use kinds::NEG;
 
 // What stands in the operator's place: an id; a constant; or a constant and then an operator over it and another operand, the
 // constant on the left or on the right.

@@ -11,9 +11,9 @@ use crate::Replacement;
 use crate::constants::Constant;
 use crate::constants::constant_value;
 use crate::declined;
-use arena::kind::ADD;
-use arena::kind::MUL;
 use fold::Folded;
+use kinds::ADD;
+use kinds::MUL;
 
 // The constant among two children: its bits, and the other child. Where both are constants the left one is taken.
 enum ConstantChild {

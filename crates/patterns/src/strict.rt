@@ -17,13 +17,13 @@ use crate::firing::Pattern;
 use crate::firing::first_function;
 use crate::firing::named;
 use crate::folding::constant_fold;
-use arena::kind::ADD;
-use arena::kind::CONSTANT;
-use arena::kind::DIV;
-use arena::kind::MUL;
-use arena::kind::SUB;
 use arena::node::BITS_OF_ONE;
 use fold::BITS_OF_ZERO;
+use kinds::ADD;
+use kinds::CONSTANT;
+use kinds::DIV;
+use kinds::MUL;
+use kinds::SUB;
 
 // The bits of -0.0.
 const BITS_OF_MINUS_ZERO: u64 = 0x8000_0000_0000_0000;

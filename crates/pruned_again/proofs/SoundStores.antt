@@ -8,10 +8,10 @@ use lib.Seq.{length-take-le}
 use lib.Dec.{eqb, leb}
 use native.Mathlib.Omega.{arith}
 use borrow.Author.Tests.{lt-ltb, leb-true, eqb-true, ne-eqb}
-use Rattle.arena.specs.Kind.{listed, operatorArity}
+use Rattle.kinds.specs.Kind.{listed, operatorArity}
 use Rattle.arena.specs.Node.{nodeAt}
 use Rattle.arena.specs.Nodes.{Nodes}
-use Rattle.arena.proofs.Listing.{listed-number}
+use Rattle.kinds.proofs.Listing.{listed-number}
 use Rattle.definitions.specs.Node as N
 use Rattle.definitions.specs.Machine.{allBelow}
 use Rattle.definitions.proofs.Deciding.{both}

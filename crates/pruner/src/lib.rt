@@ -7,12 +7,12 @@ ghost use Rattle.store.specs.View.{Sound};
 ghost use Rattle.store.specs.Memory.{memory, Leaves};
 ghost use Rattle.pruner.specs.Answers.{meaning, PrunesChain, PrunesRoot, PrunesCall, PrunesAudited};
 use arena::DagArena;
-use arena::kind::ADD;
 use chains::Flattened;
 use chains::MOST_TERMS;
 use definitions::refusals::BAD_OPERAND;
 use definitions::refusals::NOT_SOUND;
 use definitions::refusals::TOO_MANY_TERMS;
+use kinds::ADD;
 use threshold::Threshold;
 
 pub enum PruneAnswer {

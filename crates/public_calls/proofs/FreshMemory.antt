@@ -6,8 +6,8 @@ use mathlib.Core.List.{List}
 use lib.ListN.{length, drop, replicate, length-append, length-drop, length-replicate}
 use native.Mathlib.Omega.{arith}
 use borrow.Author.Tests.{ltb-false}
-use Rattle.dedup.specs.Table.{hashAt}
-use Rattle.dedup.proofs.Renewing.{empty}
+use Rattle.slots.specs.Table.{hashAt}
+use Rattle.slots.proofs.Renewing.{empty}
 use Rattle.definitions.specs.Limits.{firstTableSize}
 use Rattle.definitions.specs.Machine.{freshRefused}
 use Rattle.definitions.specs.Promise.{Fresh}

@@ -11,9 +11,9 @@ use Rattle.definitions.specs.Machine as M
 use Rattle.definitions.specs.Machine.{Store, variable, constant, add, sub, mul, div, pow, modulo, neg, operator, function, select, ifElse, forLoop, control}
 use Rattle.store.specs.Memory.{Memory, memory, model, answerOf, Left, left, leftBy, Leaves}
 use Rattle.store.proofs.Leaving.{leaves-unsound}
-use Rattle.builder.specs.Stores.{Asked}
-use Rattle.builder.proofs.Codes.{asked-variable, asked-constant, asked-function, asked-operator, asked-control, asked-control-code, asked-operator-code}
-use Rattle.builder.proofs.Requesting.{stores-sound, refuse-code}
+use Rattle.building.specs.Requests.{Asked}
+use Rattle.building.proofs.Codes.{asked-variable, asked-constant, asked-function, asked-operator, asked-control, asked-control-code, asked-operator-code}
+use Rattle.building.proofs.Requesting.{stores-sound, refuse-code}
 use Rattle.text.proofs.StoreCalls.{request-answered}
 use Rattle.public_calls.specs.Stores.{InWidths, EquationGivesLeaves}
 

@@ -8,7 +8,7 @@ use crate::printing::number;
 use crate::printing::refused;
 use crate::printing::text;
 use arena::DagArena;
-use arena::MOST_CHILDREN;
+use definitions::MOST_CHILDREN;
 use definitions::mode::Mode;
 use patterns::Matched;
 

@@ -1,9 +1,9 @@
 // Hashes and slots made anew over any words, sound or not.
 use arena::DagNode;
 use arena::HASH;
-use arena::MOST_CHILDREN;
 use arena::NODE_WORDS;
 use arena::load;
+use definitions::MOST_CHILDREN;
 
 // Every slot empty.
 fn clear(slots: &mut [u32]) {

@@ -5,8 +5,8 @@ use crate::printing::number;
 use crate::printing::refused;
 use crate::printing::text;
 use arena::DagArena;
-use arena::MOST_CHILDREN;
 use builder::NodeFound;
+use definitions::MOST_CHILDREN;
 use libc::STDOUT_FILENO;
 
 // The hexadecimal digits of a payload.

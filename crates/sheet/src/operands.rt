@@ -7,7 +7,7 @@ ghost use Rattle.definitions.specs.Limits.{mostNodes, mostRecords};
 ghost use Rattle.records.specs.Reading.{operandsFrom};
 ghost use Rattle.sheet.specs.Running.{idBelow, operandsRead, readOf};
 use crate::MOST_RECORDS;
-use arena::MOST_CHILDREN;
+use definitions::MOST_CHILDREN;
 
 // One operand more than a node has children, so that more are refused.
 pub(crate) const OPERANDS_READ: usize = MOST_CHILDREN + 1;

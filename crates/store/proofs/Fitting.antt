@@ -8,7 +8,7 @@ use lib.Ieee.{binary64, nanBits}
 use native.Mathlib.Omega.{arith}
 use Rattle.definitions.specs.Limits.{mostChildren}
 use Rattle.definitions.specs.Node.{constantKind, bothFlags}
-use Rattle.arena.specs.Kind.{operatorArity}
+use Rattle.kinds.specs.Kind.{operatorArity}
 use Rattle.store.specs.View.{listed}
 use Rattle.store.specs.Lookup.{Fits}
 

@@ -12,7 +12,7 @@ use Rattle.arena.specs.declared.DagArena.{DagArena}
 use Rattle.arena.specs.Layout.{nodeWords, flagsWord}
 use Rattle.arena.specs.Node.{nodeAt, marked, canonical}
 use Rattle.arena.proofs.Marking.{withMark, mark-length, mark-other, mark-here, mark-nodes}
-use Rattle.dedup.proofs.Marking.{mark-table}
+use Rattle.slots.proofs.Marking.{mark-table}
 use Rattle.definitions.specs.Node as N
 use Rattle.definitions.specs.Walk as W
 use Rattle.store.specs.Sound.{Sound}

@@ -13,7 +13,7 @@ use Rattle.arena.specs.declared.DagArena.{DagArena}
 use Rattle.arena.specs.Layout.{nodeWords, mostChildren, kindWord, payloadWord, flagsWord, arityWord, childrenWord}
 use Rattle.arena.specs.Node.{wordsFrom, nodeAt, canonical}
 use Rattle.arena.specs.Nodes.{WellFormed}
-use Rattle.arena.proofs.Listing.{listed-few, listed-number}
+use Rattle.kinds.proofs.Listing.{listed-few, listed-number}
 use Rattle.arena.proofs.Words.{words-length, words-at, words-are}
 use Rattle.definitions.specs.Node as N
 use Rattle.store.specs.Sound.{Sound}

@@ -20,10 +20,10 @@ use Rattle.arena.proofs.Putting.{put-past, put-old, put-new}
 use Rattle.arena.proofs.Finding.{found-at}
 use Rattle.dedup.specs.declared.Insertion as DA
 use Rattle.dedup.specs.declared.Insertion.the-variants as DV
-use Rattle.dedup.specs.Table.{Table, hashAt}
+use Rattle.slots.specs.Table.{Table, hashAt}
 use Rattle.dedup.specs.Intern as D
 use Rattle.dedup.specs.Intern.{Interned, answered, newAnswer, internAnswer, wordsAfter}
-use Rattle.dedup.proofs.Inserting.{slots-one}
+use Rattle.slots.proofs.Inserting.{slots-one}
 use Rattle.definitions.specs.Node as N
 use Rattle.definitions.specs.Refusals.{noNodePlace, noSlotPlace}
 use Rattle.definitions.specs.Intern as I

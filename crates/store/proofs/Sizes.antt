@@ -9,7 +9,7 @@ use native.Mathlib.Omega.{arith}
 use native.Mathlib.Decide.{decLt}
 use native.Mathlib.Nat.{pow-suc, mul-assoc, mul-comm, mul-one, mul-le-mul-left}
 use borrow.Author.Tests.{le-leb, lt-leb, lt-ltb, le-ltb, leb-true, leb-false}
-use Rattle.dedup.specs.Table.{TableSize}
+use Rattle.slots.specs.Table.{TableSize}
 use Rattle.definitions.specs.Limits.{mostNodes, firstTableSize, mostDoublings}
 use Rattle.definitions.specs.Refusals.{noNodePlace, noSlotPlace}
 use Rattle.definitions.specs.Intern.{capacity, tableSizeFrom, tableSize, noPlace, Lent}

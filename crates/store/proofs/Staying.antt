@@ -12,8 +12,8 @@ use borrow.Author.Tests.{leb-false}
 use Rattle.arena.specs.Layout.{nodeWords}
 use Rattle.definitions.specs.Limits.{firstTableSize, mostDoublings}
 use Rattle.definitions.specs.Intern.{capacity, tableSizeFrom, tableSize}
-use Rattle.dedup.specs.Table.{inserted}
-use Rattle.dedup.proofs.Inserting.{inserted-length}
+use Rattle.slots.specs.Table.{inserted}
+use Rattle.slots.proofs.Inserting.{inserted-length}
 use Rattle.definitions.specs.Machine.{Call, Answer, State}
 use Rattle.store.specs.View.{Grown}
 use Rattle.store.specs.Stored.{nodesWords, hashIn}

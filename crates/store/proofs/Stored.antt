@@ -15,8 +15,8 @@ use Rattle.arena.specs.Node.{nodeAt, wordsOf, newNode, nodeHash, canonical, fla
 use Rattle.arena.specs.Nodes.{WellFormed, AllWellFormed}
 use Rattle.arena.proofs.Words.{words-at, children-length}
 use Rattle.hash.specs.Fnv.{nodeHashOf}
-use Rattle.dedup.specs.Table.{inserted, hashAt}
-use Rattle.dedup.proofs.Inserting.{inserted-same}
+use Rattle.slots.specs.Table.{inserted, hashAt}
+use Rattle.slots.proofs.Inserting.{inserted-same}
 use Rattle.definitions.specs.Node as N
 use Rattle.definitions.specs.Limits.{mostDoublings}
 use Rattle.definitions.specs.Intern.{tableSizeFrom}

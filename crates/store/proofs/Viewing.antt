@@ -18,7 +18,7 @@ use Rattle.arena.specs.Node as A
 use Rattle.arena.specs.Node.{nodeAt, one}
 use Rattle.arena.specs.Nodes.{WellFormed, Nodes}
 use Rattle.definitions.proofs.Deciding.{both, same-test, is-false}
-use Rattle.arena.proofs.Listing.{listed-few}
+use Rattle.kinds.proofs.Listing.{listed-few}
 use Rattle.arena.proofs.Words.{children-length}
 use Rattle.arena.proofs.OneNode.{children-eq, children-refl, one-sym, one-trans}
 use Rattle.arena.proofs.Finding.{find-none}

@@ -7,7 +7,7 @@ use lib.ListN.{length, drop}
 use lib.Dec.{eqb}
 use Rattle.arena.specs.declared.DagArena.{DagArena}
 use Rattle.arena.specs.Layout.{nodeWords, arenaOf}
-use Rattle.dedup.specs.Table.{inserted}
+use Rattle.slots.specs.Table.{inserted}
 use Rattle.definitions.specs.Limits.{mostDoublings}
 use Rattle.definitions.specs.Refusals.{notSound, noNodePlace, noSlotPlace}
 use Rattle.definitions.specs.Node as N

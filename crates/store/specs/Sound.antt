@@ -3,7 +3,7 @@ use mathlib.Core.List.{List}
 use Prim.Native.Nat.{ℕ}
 use Rattle.arena.specs.declared.DagArena.{DagArena}
 use Rattle.arena.specs.Nodes.{Nodes}
-use Rattle.dedup.specs.Table.{Table, hashAt}
+use Rattle.slots.specs.Table.{Table, hashAt}
 
 pub record Sound (words slots : List ℕ) (arena : DagArena) : Type 0 where
   -- "kinds, payloads (symbols and function numbers below 2^32), child counts .. are as listed", 02 (b): no constant is a NaN: field `kinds`

@@ -8,7 +8,7 @@ use Rattle.arena.specs.declared.node.DagNode.{DagNode}
 use Rattle.arena.specs.declared.DagArena.{DagArena}
 use Rattle.arena.specs.Layout.{nodeWords}
 use Rattle.arena.specs.Node.{nodeAt, canonical}
-unfoldable pub use Rattle.arena.specs.Kind.{listed}
+unfoldable pub use Rattle.kinds.specs.Kind.{listed}
 use Rattle.definitions.specs.Node as N
 use Rattle.definitions.specs.Intern as I
 use Rattle.store.specs.declared.Built.{Built}

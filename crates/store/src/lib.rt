@@ -33,5 +33,5 @@ pub struct Built {
 pub fn audit(nodes: &[u64], slots: &[u32], arena: DagArena) -> bool
     ensures { λ r. ⌜ Says r (Sound (now (nodes .entry)) (now (slots .entry)) arena) ⌝ }
 {
-    dedup::audit(nodes, slots, arena)
+    table_audit::audit(nodes, slots, arena)
 }

@@ -13,16 +13,16 @@ pub use answers::of_built;
 pub use answers::of_prune;
 pub use answers::of_walk;
 use arena::DagArena;
-use arena::kind::ADD;
-use arena::kind::CONSTANT;
-use arena::kind::CONTROL;
-use arena::kind::FOR_LOOP;
-use arena::kind::FUNCTION;
-use arena::kind::VARIABLE;
-use builder::build_sound;
-use builder::is_operator;
+use building::build_sound;
+use building::is_operator;
 use definitions::mode::Mode;
 use definitions::refusals::NOT_SOUND;
+use kinds::ADD;
+use kinds::CONSTANT;
+use kinds::CONTROL;
+use kinds::FOR_LOOP;
+use kinds::FUNCTION;
+use kinds::VARIABLE;
 
 // A call, but for its operands, which stand beside it: an enum holds no list. An operator, function or control is over the operands; no
 // other call looks at them.

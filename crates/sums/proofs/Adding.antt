@@ -3,7 +3,7 @@ use Prim.Native.Nat.{ℕ, _<_}
 use mathlib.Core.Path.{refl}
 use mathlib.Core.List.{[], _∷_}
 use Rattle.definitions.specs.Node.{addKind, bothFlags}
-use Rattle.arena.specs.Kind.{operatorArity}
+use Rattle.kinds.specs.Kind.{operatorArity}
 use Rattle.store.specs.View.{listed}
 use Rattle.store.specs.Lookup.{Fits}
 use Rattle.store.proofs.Fitting.{operator-fits}

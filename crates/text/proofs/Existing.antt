@@ -18,8 +18,8 @@ use Rattle.definitions.specs.Making.{Controller, LentLists, bind, storing, perf
 use Rattle.store.specs.declared.NodeAnswer.{NodeAnswer}
 use Rattle.store.specs.declared.NodeAnswer.the-variants.{Id, Refused}
 use Rattle.store.specs.Memory.{memory, answerOf}
-use Rattle.builder.specs.Stores.{BuildsSound, Asked}
-use Rattle.builder.proofs.Codes.{asked-variable, asked-constant, asked-operator}
+use Rattle.building.specs.Requests.{BuildsSound, Asked}
+use Rattle.building.proofs.Codes.{asked-variable, asked-constant, asked-operator}
 use Rattle.names.specs.declared.NameReply as Named
 use Rattle.names.specs.declared.NameReply.the-variants as named
 use Rattle.names.specs.Sound as Names

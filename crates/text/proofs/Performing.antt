@@ -16,7 +16,7 @@ use Rattle.store.specs.View.{nodesIn}
 use Rattle.store.proofs.Staying.{stays-refl, stays-trans, kept-stays}
 use Rattle.store.proofs.Keeping.{later}
 use Rattle.store.proofs.Viewing.{plain-length}
-use Rattle.builder.specs.Stores.{BuildsSound}
+use Rattle.building.specs.Requests.{BuildsSound}
 use Rattle.definitions.specs.Beside.{beside}
 use Rattle.definitions.specs.Limits.{mostNodes}
 use Rattle.definitions.proofs.NameLists.{names-longer}

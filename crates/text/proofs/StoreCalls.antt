@@ -12,17 +12,17 @@ use borrow.Author.Tests.{le-leb, lt-leb, le-ltb}
 use Rattle.arena.specs.declared.node.DagNode.{DagNode}
 use Rattle.arena.specs.declared.DagArena.{DagArena}
 use Rattle.arena.specs.Layout.{nodeWords, mostNodes, mostChildren}
-use Rattle.arena.specs.Kind as Kind
+use Rattle.kinds.specs.Kind as Kind
 use Rattle.arena.specs.Node.{nodeOf, put, find}
 use Rattle.arena.specs.Nodes.{WellFormed}
 use Rattle.arena.proofs.Putting.{put-length}
 use Rattle.arena.proofs.Adding.{nodes-add}
 use Rattle.dedup.specs.declared.Insertion.the-variants.{New}
-use Rattle.dedup.specs.Table.{TableSize, hashAt, inserted}
+use Rattle.slots.specs.Table.{TableSize, hashAt, inserted}
 use Rattle.dedup.specs.Intern as Dedup
 use Rattle.dedup.specs.Intern.{Interned, answered, newAnswer, internAnswer, wordsAfter, Absent}
-use Rattle.dedup.proofs.Doubling.{at-least, doubled-twice}
-use Rattle.dedup.proofs.Inserting.{inserted-length}
+use Rattle.slots.proofs.Doubling.{at-least, doubled-twice}
+use Rattle.slots.proofs.Inserting.{inserted-length}
 use Rattle.dedup.proofs.Answers.{old-answer, refuse-count, refuse-words, refuse-slots}
 use Rattle.definitions.specs.Node as N
 use Rattle.definitions.specs.Intern.{capacity}
@@ -36,9 +36,9 @@ use Rattle.store.specs.Interning.{Interns}
 use Rattle.store.specs.Memory.{Memory, memory, model, answerOf}
 use Rattle.store.proofs.NewNodes.{new-formed, new-plain, new-places}
 use Rattle.store.proofs.Refining.{out, refined}
-use Rattle.builder.specs.Stores.{BuildsSound, Asked}
-use Rattle.builder.proofs.Requesting.{refuse-nan, refuse-operand, fits, interned}
-use Rattle.builder.proofs.Requesting as Requesting
+use Rattle.building.specs.Requests.{BuildsSound, Asked}
+use Rattle.building.proofs.Requesting.{refuse-nan, refuse-operand, fits, interned}
+use Rattle.building.proofs.Requesting as Requesting
 
 -- ---- a node
 

@@ -5,7 +5,7 @@ use mathlib.Core.List.{List}
 use Rattle.arena.specs.declared.DagArena.{DagArena}
 use Rattle.definitions.specs.Machine as M
 use Rattle.store.specs.Memory.{Memory, memory}
-use Rattle.builder.specs.Stores.{BuildsSound}
+use Rattle.building.specs.Requests.{BuildsSound}
 use Rattle.outputs.specs.Calls.{arenaOf, lentMemory}
 
 pub built-left : (q : M.Request) (m : Memory) (a : M.Answer) (words slots : List ℕ) (arena : DagArena) (count size : ℕ)

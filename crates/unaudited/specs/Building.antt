@@ -5,7 +5,7 @@ use mathlib.Core.List.{List, [], _∷_}
 use Rattle.definitions.specs.Node as N
 use Rattle.definitions.specs.Machine as M
 use Rattle.store.specs.Memory.{Memory}
-use Rattle.builder.specs.Stores.{BuildsSound}
+use Rattle.building.specs.Requests.{BuildsSound}
 use Rattle.outputs.specs.Calls.{LeftBehind}
 
 -- the request for this node: its answer, left as the number that is returned and the id behind its pointer

@@ -11,7 +11,7 @@ ghost use Rattle.definitions.specs.Machine as M;
 ghost use Rattle.definitions.specs.Walk.{standard};
 ghost use Rattle.store.specs.Sound.{Sound};
 ghost use Rattle.store.specs.Memory.{Leaves};
-ghost use Rattle.builder.specs.Stores.{Asked};
+ghost use Rattle.building.specs.Requests.{Asked};
 ghost use Rattle.outputs.specs.Calls.{arenaOf, lentMemory, unlessRefused, isSpent, OutputsStay};
 ghost use Rattle.unaudited.specs.Building.{BuildsNode};
 use arena::DagArena;
@@ -60,7 +60,7 @@ pub extern "C" fn curvalique_build_sound(
         count: *count,
         size: *size,
     };
-    let built = builder::build_sound(nodes, slots, arena, true, kind, payload, flags, operands);
+    let built = building::build_sound(nodes, slots, arena, true, kind, payload, flags, operands);
     leave_built(built, count, size, id)
 }
 

@@ -2,7 +2,7 @@
 ghost use Rattle.walk.specs.Turns.{Turnable, Starts, Steps, memoryOf, stackOf};
 use crate::turn;
 use arena::DagArena;
-use arena::MOST_CHILDREN;
+use definitions::MOST_CHILDREN;
 use definitions::mode::Mode;
 
 // 01: "the walk's stacks are filled arrays of 256 frames".

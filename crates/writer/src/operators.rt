@@ -1,11 +1,11 @@
 // Operators and kinds as texts have them: signs, and where an operand stands without brackets.
 ghost use Rattle.writer.specs.Placing.{Ranked, JoinsKind};
-use arena::kind::ADD;
-use arena::kind::CONSTANT;
-use arena::kind::DIV;
-use arena::kind::MUL;
-use arena::kind::POW;
-use arena::kind::SUB;
+use kinds::ADD;
+use kinds::CONSTANT;
+use kinds::DIV;
+use kinds::MUL;
+use kinds::POW;
+use kinds::SUB;
 
 // The ranks of the four kinds of text: each is one of the higher ones.
 pub(crate) const FACTOR: u64 = 1;

@@ -14,11 +14,11 @@ use crate::operators::FACTOR;
 use crate::operators::SUM;
 use crate::operators::joint_of;
 use crate::operators::rank;
-use arena::kind::CONSTANT;
-use arena::kind::NEG;
 use expression_text::CLOSING_BRACKET;
 use expression_text::MINUS;
 use expression_text::OPENING_BRACKET;
+use kinds::CONSTANT;
+use kinds::NEG;
 use text_language::MOST_BYTES;
 
 // The longest leaf, a name of 32 bytes, has a place in front of the longest text: a place below `SPARE` says that a text is too long.

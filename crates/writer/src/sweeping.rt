@@ -22,12 +22,12 @@ use arena::FLAGS;
 use arena::MOST_NODES;
 use arena::NODE_WORDS;
 use arena::REORDERABLE;
-use arena::kind::ADD;
-use arena::kind::CONSTANT;
-use arena::kind::MUL;
-use arena::kind::NEG;
-use arena::kind::POW;
-use arena::kind::VARIABLE;
+use kinds::ADD;
+use kinds::CONSTANT;
+use kinds::MUL;
+use kinds::NEG;
+use kinds::POW;
+use kinds::VARIABLE;
 
 const NODES: usize = MOST_NODES as usize;
 

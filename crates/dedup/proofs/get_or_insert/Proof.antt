@@ -1,9 +1,10 @@
 -- `dedup::get_or_insert` meets its contract: by where the search ends.
 use mathlib.Core.Path.{sym}
 use native.Mathlib.Omega.{arith}
-use Rattle.dedup.proofs.Searching.{was-here, was-free, was-nowhere, reached-in, held}
-use Rattle.dedup.proofs.Placing.{first-free}
-use Rattle.dedup.proofs.Inserting.{room}
+use Rattle.dedup.proofs.Searching.{was-here, was-free, was-nowhere, reached-in}
+use Rattle.slots.proofs.Held.{held}
+use Rattle.dedup.proofs.Searching.{first-free}
+use Rattle.slots.proofs.Inserting.{room}
 use Rattle.dedup.proofs.KeyParts.{key-hash, key-hashed, free-from-hash}
 use Rattle.dedup.proofs.Keys.{not-passed, found, absent}
 use Rattle.dedup.proofs.Answers.{old-answer}

@@ -1,6 +1,6 @@
 -- `dedup::insert` meets its contract: one law for each answer.
 use native.Mathlib.Omega.{arith}
-use Rattle.dedup.proofs.FreePlaces.{free-in}
+use Rattle.slots.proofs.FreePlaces.{free-in}
 use Rattle.dedup.proofs.KeyParts.{key-hash, key-places, free-from-hash}
 use Rattle.dedup.proofs.Answers.{refuse-count, refuse-words, added}
 use borrow.Author.Needs.{needs}

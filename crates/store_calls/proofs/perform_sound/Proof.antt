@@ -1,7 +1,7 @@
 use mathlib.Core.Path.{refl}
 use Rattle.definitions.specs.Machine as M
-use Rattle.builder.proofs.Codes.{asked-variable, asked-constant, asked-operator-code, asked-function, asked-control-code, operator-request}
-use Rattle.builder.proofs.Requesting.{stores-sound}
+use Rattle.building.proofs.Codes.{asked-variable, asked-constant, asked-operator-code, asked-function, asked-control-code, operator-request}
+use Rattle.building.proofs.Requesting.{stores-sound}
 use Rattle.store_calls.proofs.Handing.{performed}
 use borrow.Author.Needs.{needs}
 use Rattle.store_calls.proofs.perform_sound.Statement.{statement}

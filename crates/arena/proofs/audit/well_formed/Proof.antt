@@ -6,11 +6,11 @@ use borrow.Author.Tests.{not-true, not-false}
 use Rattle.hash.specs.Fnv.{nodeHashOf}
 use Rattle.arena.specs.Layout.{nodeWords, mostChildren, childrenWord}
 use Rattle.arena.specs.Node.{nodeAt, nodeHash}
-use Rattle.arena.specs.Nodes.{LowerChildren}
+use Rattle.child_places.specs.Places.{LowerChildren}
 use Rattle.definitions.proofs.Deciding.{says-no}
 use Rattle.arena.proofs.Words.{part-length, part-words, part-taken}
 use Rattle.arena.proofs.Forming.{not-listed, only-weighed}
-use Rattle.arena.proofs.Listing as L
+use Rattle.kinds.proofs.Listing as L
 use borrow.Author.Needs.{needs}
 use Rattle.arena.proofs.audit.well_formed.Statement.{statement}
 use Rattle.arena.proofs.audit.well_formed.Tie as tie

@@ -2,7 +2,6 @@
 use mathlib.Core.Path.{refl}
 use borrow.Author.Tests.{eq-eqb, ne-eqb}
 use Rattle.arena.specs.Node.{coefficient}
-use Rattle.arena.proofs.Listing as L
 use Rattle.arena.proofs.node.coefficient_of.Statement.{statement}
 use Rattle.arena.proofs.node.coefficient_of.Tie as tie
 

@@ -2,7 +2,6 @@
 use mathlib.Core.Path.{refl}
 use borrow.Author.Needs.{needs}
 use Rattle.arena.specs.Node.{nodeAt}
-use Rattle.arena.proofs.Listing as L
 use Rattle.arena.proofs.node.load.Statement.{statement}
 use Rattle.arena.proofs.node.load.Tie as tie
 

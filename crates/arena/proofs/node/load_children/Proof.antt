@@ -8,7 +8,6 @@ use borrow.Author.Needs.{needs}
 use borrow.Author.Count.{below-more}
 use Rattle.arena.specs.Layout.{mostChildren}
 use Rattle.arena.proofs.Words.{words-are}
-use Rattle.arena.proofs.Listing as L
 use Rattle.arena.proofs.node.load_children.Statement.{statement}
 use Rattle.arena.proofs.node.load_children.Tie as tie
 

@@ -2,7 +2,6 @@
 use mathlib.Core.Path.{refl}
 use borrow.Author.Needs.{needs}
 use Rattle.arena.specs.Node.{marked}
-use Rattle.arena.proofs.Listing as L
 use Rattle.arena.proofs.node.mark.Statement.{statement}
 use Rattle.arena.proofs.node.mark.Tie as tie
 

@@ -8,7 +8,6 @@ use native.Mathlib.Omega.{arith}
 use native.Mathlib.Numerals.{add-one}
 use borrow.Author.Needs.{needs}
 use Rattle.arena.specs.Layout.{mostChildren}
-use Rattle.arena.proofs.Listing as L
 use Rattle.arena.proofs.node.store_children.Statement.{statement}
 use Rattle.arena.proofs.node.store_children.Tie as tie
 

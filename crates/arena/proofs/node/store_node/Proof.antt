@@ -4,7 +4,6 @@ use lib.ListN.{length-set}
 use native.Mathlib.Omega.{arith}
 use borrow.Author.Needs.{needs}
 use Rattle.arena.proofs.Putting.{stored}
-use Rattle.arena.proofs.Listing as L
 use Rattle.arena.proofs.node.store_node.Statement.{statement}
 use Rattle.arena.proofs.node.store_node.Tie as tie
 

@@ -1,7 +1,7 @@
 use mathlib.Core.Path.{refl}
 use Rattle.definitions.specs.Machine as M
-use Rattle.builder.proofs.Codes.{asked-operator-code, operator-request}
-use Rattle.builder.proofs.Requesting.{stores-audited}
+use Rattle.building.proofs.Codes.{asked-operator-code, operator-request}
+use Rattle.building.proofs.Requesting.{stores-audited}
 use borrow.Author.Needs.{needs}
 use Rattle.builder.proofs.operators.operator.Statement.{statement}
 use Rattle.builder.proofs.operators.operator.Tie as tie

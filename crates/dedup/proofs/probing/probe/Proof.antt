@@ -5,8 +5,8 @@ use native.Mathlib.Omega.{arith}
 use native.Mathlib.Nat.{mod-lt}
 use Rattle.arena.specs.Node.{nodeOf}
 use Rattle.dedup.specs.Probe.{Passed}
-use Rattle.dedup.proofs.Doubling.{positive}
-use Rattle.dedup.proofs.Rounds.{round-next}
+use Rattle.slots.proofs.Doubling.{positive}
+use Rattle.slots.proofs.Rounds.{round-next}
 use Rattle.dedup.proofs.KeyParts.{key-hash}
 use Rattle.dedup.proofs.Searching.{passed-none, passed-more, ends-free, ends-here, ends-nowhere}
 use borrow.Author.Needs.{needs}

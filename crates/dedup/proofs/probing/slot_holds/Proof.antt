@@ -5,7 +5,7 @@ use Rattle.arena.specs.Node.{nodeAt}
 use Rattle.dedup.specs.Probe.{comparedId}
 use Rattle.dedup.proofs.GreatestChild.{compared-one}
 use Rattle.dedup.proofs.KeyParts.{key-hash, key-hashed}
-use Rattle.dedup.proofs.Searching.{holds-beyond, holds-known, other-hash}
+use Rattle.slots.proofs.Held.{holds-beyond, holds-known, other-hash}
 use borrow.Author.Needs.{needs}
 use Rattle.dedup.proofs.probing.slot_holds.Statement.{statement}
 use Rattle.dedup.proofs.probing.slot_holds.Tie as tie

@@ -1,4 +1,4 @@
-use Rattle.builder.proofs.Codes.{asked-constant}
+use Rattle.building.proofs.Codes.{asked-constant}
 use borrow.Author.Needs.{needs}
 use Rattle.text.proofs.making.number.Statement.{statement}
 use Rattle.text.proofs.making.number.Tie as tie

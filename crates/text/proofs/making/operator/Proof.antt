@@ -1,5 +1,5 @@
 use native.Mathlib.Omega.{arith}
-use Rattle.builder.proofs.Codes.{asked-operator}
+use Rattle.building.proofs.Codes.{asked-operator}
 use Rattle.text.proofs.Operators.{low-kind, high-kind, joining-kind, flags-low}
 use borrow.Author.Needs.{needs}
 use Rattle.text.proofs.making.operator.Statement.{statement}

@@ -1,4 +1,4 @@
-use Rattle.builder.proofs.Codes.{asked-variable}
+use Rattle.building.proofs.Codes.{asked-variable}
 use borrow.Author.Needs.{needs}
 use Rattle.text.proofs.making.variable.Statement.{statement}
 use Rattle.text.proofs.making.variable.Tie as tie

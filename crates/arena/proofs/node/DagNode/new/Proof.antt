@@ -6,7 +6,6 @@ use native.Mathlib.Omega.{arith}
 use borrow.Author.Needs.{needs}
 use Rattle.arena.specs.Layout.{mostChildren}
 use Rattle.arena.specs.Node.{newNode}
-use Rattle.arena.proofs.Listing as L
 use Rattle.arena.proofs.node.DagNode.new.Statement.{statement}
 use Rattle.arena.proofs.node.DagNode.new.Tie as tie
 

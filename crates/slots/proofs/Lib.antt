@@ -1,0 +1,12 @@
+pub mod Doubling
+pub mod Rounds
+pub mod Held
+pub mod Pigeon
+pub mod FreePlaces
+pub mod TrailingZeros
+pub mod EmptySlots
+pub mod Placing
+pub mod Ordering
+pub mod Inserting
+pub mod Renewing
+pub mod Marking

@@ -1,0 +1,4 @@
+pub mod Table
+pub mod Held
+pub mod Insert
+pub mod Window

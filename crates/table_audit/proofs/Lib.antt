@@ -1,0 +1,3 @@
+pub mod UsedSlots
+pub mod OwnSlots
+pub mod AuditedTable
