@@ -1,10 +1,10 @@
--- `pruner::keeping::keeps` meets its contract.
+-- `magnitudes::keeps` meets its contract.
 use mathlib.Core.Path.{ap, _∙_}
 use borrow.Author.Needs.{needs}
 use lib.Ieee.{Float, binary64, ofBits, le}
 use Rattle.definitions.specs.Prune.{keeps}
-use Rattle.chains.proofs.keeping.keeps.Statement.{statement}
-use Rattle.chains.proofs.keeping.keeps.Tie as tie
+use Rattle.magnitudes.proofs.keeps.Statement.{statement}
+use Rattle.magnitudes.proofs.keeps.Tie as tie
 
 magnitude-of-term-requires : tie.Need-magnitude-of-term-requires
 magnitude-of-term-requires c κs = search needs

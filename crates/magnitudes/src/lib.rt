@@ -23,7 +23,7 @@ fn magnitude_of_term(nodes: &[u64], count: u64, id: u64) -> u64
 }
 
 // Whether a term is kept.
-pub(crate) fn keeps(nodes: &[u64], count: u64, threshold: u64, id: u64) -> bool
+pub fn keeps(nodes: &[u64], count: u64, threshold: u64, id: u64) -> bool
     requires { ⌜ Lookup (now nodes) count id ⌝ }
     ensures { λ r. ⌜ r ≡ Prune.keeps (nodesIn (now (nodes .entry)) count) (ofBits binary64 threshold) id ⌝ }
 {

@@ -1,9 +1,9 @@
--- `pruner::keeping::magnitude_of_term` meets its contract.
+-- `magnitudes::magnitude_of_term` meets its contract.
 use mathlib.Core.Path.{sym, _∙_}
 use borrow.Author.Needs.{needs}
-use Rattle.chains.proofs.Filtering.{constant-magnitude, other-magnitude}
-use Rattle.chains.proofs.keeping.magnitude_of_term.Statement.{statement}
-use Rattle.chains.proofs.keeping.magnitude_of_term.Tie as tie
+use Rattle.magnitudes.proofs.Magnitudes.{constant-magnitude, other-magnitude}
+use Rattle.magnitudes.proofs.magnitude_of_term.Statement.{statement}
+use Rattle.magnitudes.proofs.magnitude_of_term.Tie as tie
 
 kind-requires : tie.Need-kind-requires
 kind-requires c κs = search needs
