@@ -11,9 +11,9 @@ use arena::DagArena;
 use arena::REORDERABLE;
 use arena::kind::ADD;
 use arena::kind::MUL;
+use decisions::firing::Fired;
 use definitions::mode::Mode;
 use patterns::Matched;
-use patterns::firing::Fired;
 use store::Built;
 use store::NodeAnswer;
 

@@ -25,7 +25,7 @@ use Rattle.walk.specs.declared.state.WalkProgress.{WalkProgress}
 use Rattle.walk.specs.declared.state.Status.{Status}
 use Rattle.walk.specs.declared.state.Status.the-variants.{Going}
 use Rattle.rebuild.specs.Memory.{Memory, memory, SoundMemory, nodesOf, lentOf, Keeps}
-use Rattle.patterns.specs.declared.firing.Fired.{Fired}
+use Rattle.decisions.specs.declared.firing.Fired.{Fired}
 use Rattle.rebuild.specs.Rebuild.{Rebuildable, finished, Finishes}
 use Rattle.walk.specs.Stack.{mostFrames, mostValues, Stack, stack, framesOf, valuesOf, framesIn, valuesIn, topId, topCursor, topFrame, framesUnder, ValuesBelow, held, Valid, Whole, Invariant}
 use Rattle.walk.specs.Turns.{Descendable, Descends, Settleable, settledValues, settledProgress, Settles, Turnable, turned, turnOf, Turns}
