@@ -14,7 +14,7 @@ use Rattle.definitions.specs.Refusals.{badNameLength, notSound, noNamePlace}
 use Rattle.definitions.specs.Names.{NameCall, internName, lookupName, NameAnswer, numbered, named, refused, NameResult, answers, nameCall, internAt, lookupAt, numberFrom, lengthAllowed, shortestName, longestName, mostNames}
 use Rattle.names.specs.declared.NameReply.{NameReply}
 use Rattle.names.specs.declared.NameReply.the-variants.{Numbered, Unknown, Named, Refused}
-use Rattle.names.specs.Sound.{SoundNames, namesOf, lentEntries}
+use Rattle.name_entries.specs.Sound.{SoundNames, namesOf, lentEntries}
 use Rattle.names.specs.Memory.{nameMemory, namesAfter, NamesLeft, namesLeft}
 use Rattle.names.specs.Calls.{answerOf, NameListCalled, plainly, namesLeftBy}
 use Rattle.calls.specs.declared.handing.LastReply.the-variants as Last

@@ -1,4 +1,4 @@
--- Terms by their magnitude, and a term that `flatten` puts after the first ones kept or before the last ones kept.
+-- A term that `flatten` puts after the first ones kept or before the last ones kept.
 use Prim.Native.Nat.{ℕ, suc, _+_, _-_, _<_, _≤_}
 use mathlib.Core.Path.{_≡_, refl, sym, ap, _∙_}
 use mathlib.Core.Bool.{Bool, true, false, cond}
@@ -6,28 +6,11 @@ use mathlib.Core.Logic.{_⊎_, ⊎-elim}
 use mathlib.Core.List.{List, [], _∷_, _++_, append-nil, append-assoc}
 use lib.ListN.{length, take, drop, set, length-set}
 use lib.Seq.{drop-cons, drop-set-lt, take-suc-set, take-set-le, getD-set-same}
-use lib.Ieee.{binary64, ofBits}
 use native.Mathlib.Omega.{arith}
 use native.Mathlib.Numerals.{add-one}
-use mathlib.Core.Option.{none, some}
-use borrow.Author.Tests.{eq-eqb, ne-eqb}
 use Rattle.definitions.specs.Limits.{mostTerms}
-use Rattle.definitions.specs.Node.{Node, constantKind}
-use Rattle.definitions.specs.Patterns.{constantValue}
-use Rattle.definitions.specs.Prune.{filter, absolute, magnitude}
+use Rattle.definitions.specs.Prune.{filter}
 
--- ---- a term's magnitude: "constant: |v|; other: 1.0"
-pub constant-magnitude : (n : Node) (payload : ℕ) → n .kind ≡ constantKind → payload ≡ n .payload → absolute (ofBits binary64 payload) ≡ magnitude (constantValue n)
-unfolding constantValue
-constant-magnitude n payload e q =
-    ap (λ (b : ℕ). absolute (ofBits binary64 b)) q
-    ∙ ap (λ (b : Bool). magnitude (cond b (some (ofBits binary64 (n .payload))) none)) (sym (eq-eqb (n .kind) constantKind e))
-
-pub other-magnitude : (n : Node) → (n .kind ≡ constantKind → ⊥) → absolute (ofBits binary64 0x3ff0_0000_0000_0000) ≡ magnitude (constantValue n)
-unfolding constantValue ofBits
-other-magnitude n e = ap (λ (b : Bool). magnitude (cond b (some (ofBits binary64 (n .payload))) none)) (sym (ne-eqb (n .kind) constantKind e))
-
--- ---- a term put beside those kept
 -- it is counted if it is kept
 abbrev pub Counts : Bool → ℕ → ℕ → Type 0
 Counts keeps kept kept′ = ((keeps ≡ true) × (kept′ ≡ kept + 1)) ⊎ ((keeps ≡ false) × (kept′ ≡ kept))

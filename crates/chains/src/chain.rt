@@ -10,7 +10,6 @@ ghost use Rattle.definitions.specs.Prune.{chain};
 ghost use Rattle.store.specs.View.{nodesIn};
 ghost use Rattle.store.specs.Lookup.{Lookup};
 ghost use Rattle.chains.specs.Terms.{childrenIn, Readable, Pushes, HasTerm, PutsTerm, Closes, Flattens};
-use crate::keeping::keeps;
 use kinds::ADD;
 
 // 01: "over 4,096 terms" is refused.
@@ -112,7 +111,7 @@ fn put_term(
         (now (terms .exit)) ⌝ }
 {
     terms[place] = id as u32;
-    keeps(nodes, count, threshold, id)
+    magnitudes::keeps(nodes, count, threshold, id)
 }
 
 // The terms kept in the first places and in the last ones, side by side. Where there are none in the first places nothing is moved.

@@ -15,7 +15,7 @@ use Rattle.names.specs.declared.NameBytes.{NameBytes}
 use Rattle.names.specs.Calls.{answerOf, NameListCalled, NameCalled, NameClauses, plainly, bytesBeside, LengthFits}
 use Rattle.names.specs.Memory.{NamesLeft}
 use Rattle.names.proofs.Clauses.{name-equation-gives-clauses}
-use Rattle.names.specs.Sound.{SoundNames, lentEntries, namesOf}
+use Rattle.name_entries.specs.Sound.{SoundNames, lentEntries, namesOf}
 use Rattle.outputs.specs.Calls.{OutputsStay}
 use Rattle.outputs.specs.NameCalls.{nameUnlessRefused, numberIfKnown, nameIfKnown, Known, Padded, nameOutputs}
 

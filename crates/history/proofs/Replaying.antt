@@ -23,7 +23,7 @@ use Rattle.store.specs.Memory.{memory, model}
 use Rattle.builder.specs.declared.opening.FreshStore.{FreshStore}
 use Rattle.builder.specs.declared.opening.FreshStore.the-variants as F
 use Rattle.builder.specs.Opens.{freshAnswer, freshSlots, freshMemory, Opens}
-use Rattle.names.specs.Sound.{lentEntries}
+use Rattle.name_entries.specs.Sound.{lentEntries}
 use Rattle.names.specs.Memory.{nameMemory, nameModel}
 use Rattle.names.proofs.Modelled.{no-names}
 use Rattle.calls.specs.declared.handing.CallResult.{CallResult}

@@ -12,7 +12,7 @@ use Rattle.definitions.proofs.Listing.{last-more}
 use Rattle.definitions.proofs.NameLists.{names-longer}
 use Rattle.store.specs.declared.NodeAnswer.{NodeAnswer}
 use Rattle.store.proofs.Staying.{stays-refl, leaves-stays}
-use Rattle.names.specs.Sound.{namesOf, lentEntries}
+use Rattle.name_entries.specs.Sound.{namesOf, lentEntries}
 use Rattle.names.proofs.Listing.{names-length}
 use Rattle.names.proofs.Clauses.{equation-gives-clauses, clauses-long}
 use Rattle.text.specs.Memory.{ControllerMemory, BothSound, Extends}

@@ -12,7 +12,7 @@ use Rattle.definitions.specs.Listing.{lastOf}
 use Rattle.definitions.specs.Controller.{LentLists, ControllerCall, ControllerAnswer, emptyController, controllers, Part}
 use Rattle.definitions.specs.Promise.{FreshController, Promise, All}
 use Rattle.store.specs.View.{lent}
-use Rattle.names.specs.Sound.{lentEntries}
+use Rattle.name_entries.specs.Sound.{lentEntries}
 use Rattle.calls.specs.declared.handing.CallResult.{CallResult}
 use Rattle.calls.specs.declared.handing.LastReply.the-variants as Last
 use Rattle.history.specs.declared.Run.{Run}

@@ -12,8 +12,8 @@ use Rattle.definitions.specs.Lists.{LentLists, Controller}
 use Rattle.definitions.specs.Controller.{ControllerCall, building, simplifying, pruning, pruningBySetting, naming, reading, ControllerAnswer, controllerCall, AfterCall, controllerAnswers, controllers, Part, storePart, namesPart, takes, untaken, SamePart}
 use Rattle.definitions.specs.Promise.{ControllerCalled, FreshController, History, done, next, All}
 use Rattle.definitions.proofs.Histories.{all-of, call-untouched}
-use Rattle.names.specs.Entry.{entryAt, SoundEntry}
-use Rattle.names.specs.Sound.{SoundNames, lentEntries}
+use Rattle.name_entries.specs.Entry.{entryAt, SoundEntry}
+use Rattle.name_entries.specs.Sound.{SoundNames, lentEntries}
 use Rattle.text.specs.Memory.{lentController}
 use Rattle.lent_instance.specs.Memory.{lentHere, memoryFor}
 

@@ -29,8 +29,8 @@ use Rattle.store.specs.View.{plainNode, nodesIn}
 use Rattle.slots.specs.Table.{hashAt}
 use Rattle.slots.proofs.Inserting.{inserted-length}
 use Rattle.definitions.specs.Limits.{firstTableSize}
-use Rattle.names.specs.Entry.{entryAt, SoundEntry}
-use Rattle.names.specs.Sound.{SoundNames as NamesSound, namesOf}
+use Rattle.name_entries.specs.Entry.{entryAt, SoundEntry}
+use Rattle.name_entries.specs.Sound.{SoundNames as NamesSound, namesOf}
 use Rattle.names.proofs.Modelled.{no-names}
 use Rattle.text.specs.Memory.{ControllerMemory, lentController}
 use Rattle.lent_instance.specs.Memory.{lentNodes, lentNames, lentHere, wordsFor, bytesFor, memoryFor}

@@ -10,7 +10,7 @@ use Rattle.definitions.specs.Limits.{firstTableSize}
 use Rattle.definitions.specs.Node.{Node}
 use Rattle.definitions.specs.Lists.{LentLists, Controller}
 use Rattle.definitions.specs.Names.{entryBytes}
-use Rattle.names.specs.Entry.{entryOf}
+use Rattle.name_entries.specs.Entry.{entryOf}
 use Rattle.names.specs.Memory.{NameMemory, nameMemory}
 use Rattle.store.specs.Memory.{Memory, memory}
 use Rattle.text.specs.Memory.{ControllerMemory, controllerMemory}

@@ -15,11 +15,11 @@ use Rattle.names.specs.declared.NameReply.the-variants.{Unknown, Named, 
 use Rattle.names.specs.declared.NameBytes.{NameBytes}
 use Rattle.names.specs.declared.EntryFound.{EntryFound}
 use Rattle.names.specs.declared.EntryFound.the-variants.{At, Nothing}
-use Rattle.names.specs.Entry.{nameIn, entryOf, putEntry, SoundEntry, IsEntry, IsEntryOf, IsByte}
-use Rattle.names.specs.Sound.{SoundNames, namesOf, nameAt, lentEntries}
+use Rattle.name_entries.specs.Entry.{nameIn, entryOf, putEntry, SoundEntry, IsEntry, IsEntryOf, IsByte}
+use Rattle.name_entries.specs.Sound.{SoundNames, namesOf, nameAt, lentEntries}
 use Rattle.names.specs.Calls.{Allowed, FindsEntry, FoundAt, plainly, namesLeftBy, bytesBeside, nameBytesOf, NameCalled, CallClauses}
 use Rattle.names.specs.Memory.{nameMemory}
-use Rattle.names.proofs.Entries.{entry-of-length, sound-entry, name-length}
+use Rattle.name_entries.proofs.Entries.{entry-of-length, sound-entry, name-length}
 use Rattle.names.proofs.Finding.{NotBelow}
 use Rattle.names.proofs.Listing.{number-found, number-none, names-length, names-at}
 use Rattle.names.proofs.Storing.{holds, held, names-more, sound-more, put-length, put-past}

@@ -12,11 +12,11 @@ use Rattle.definitions.specs.Names.{NameCall, internName, lookupName, nameOf, N
 use Rattle.names.specs.declared.NameReply.{NameReply}
 use Rattle.names.specs.declared.NameReply.the-variants.{Numbered, Unknown, Named, Refused}
 use Rattle.names.specs.declared.NameBytes.{NameBytes}
-use Rattle.names.specs.Entry.{entryAt, entryOf, putEntry}
-use Rattle.names.specs.Sound.{SoundNames, nameAt, lentEntries}
+use Rattle.name_entries.specs.Entry.{entryAt, entryOf, putEntry}
+use Rattle.name_entries.specs.Sound.{SoundNames, nameAt, lentEntries}
 use Rattle.names.specs.Memory.{nameMemory, NamesLeft, namesLeft}
 use Rattle.names.specs.Calls.{answerOf, Allowed, FoundAt, plainly, namesLeftBy, NameListCalled, bytesBeside, LengthFits, givenAs, nameBytesOf, NameCalled, CallClauses, EquationGivesClauses, NameEquationGivesClauses}
-use Rattle.names.proofs.Entries.{entry-length, name-length}
+use Rattle.name_entries.proofs.Entries.{entry-length, name-length}
 use Rattle.names.proofs.Finding.{NotBelow}
 use Rattle.names.proofs.Calling.{called-unsound, intern-known, intern-new, intern-full, intern-length, lookup-known, lookup-unknown, lookup-length, name-known, name-unknown}
 use Rattle.names.proofs.Determined.{clauses-give-equation, either}

@@ -10,11 +10,11 @@ use native.Mathlib.Decide.{ℕ-discrete}
 use native.Mathlib.Omega.{arith}
 use Rattle.definitions.specs.Refusals.{notSound}
 use Rattle.definitions.specs.Names.{NameCall, NameAnswer, numbered, unknown, named, refused, entryBytes}
-use Rattle.names.specs.Entry.{entryAt, entryOf}
-use Rattle.names.specs.Sound.{SoundNames, namesOf, nameAt}
+use Rattle.name_entries.specs.Entry.{entryAt, entryOf}
+use Rattle.name_entries.specs.Sound.{SoundNames, namesOf, nameAt}
 use Rattle.names.specs.Calls.{namesLeftBy, NameListCalled, CallClauses, ClausesGiveEquation, NamesOneWay}
 use Rattle.names.specs.Memory.{NameMemory, nameMemory, namesBytes, namesAfter, NamesLeft, namesLeft}
-use Rattle.names.proofs.Entries.{entry-length, sound-entry}
+use Rattle.name_entries.proofs.Entries.{entry-length, sound-entry}
 use Rattle.names.proofs.Listing.{names-length}
 
 -- ---- a sound list's bytes

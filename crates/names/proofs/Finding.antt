@@ -7,7 +7,7 @@ use native.Mathlib.Omega.{arith}
 use borrow.Author.Count.{below-more}
 use Rattle.names.specs.declared.EntryFound.the-variants.{At, Nothing}
 use Rattle.definitions.specs.Says.{Says}
-use Rattle.names.specs.Entry.{entryAt, IsEntry}
+use Rattle.name_entries.specs.Entry.{entryAt, IsEntry}
 use Rattle.names.specs.Calls.{FindsEntry}
 
 -- no entry below a number is the key

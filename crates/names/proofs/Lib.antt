@@ -1,8 +1,3 @@
-pub mod Words
-pub mod Entries
-pub mod Chains
-pub mod Auditing
-pub mod Copying
 pub mod Finding
 pub mod Listing
 pub mod Storing

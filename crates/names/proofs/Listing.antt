@@ -12,7 +12,7 @@ use native.Mathlib.Omega.{arith}
 use native.Mathlib.Decide.{decLt}
 use Rattle.definitions.specs.Names.{sameName, numberFrom}
 use Rattle.definitions.proofs.NameLists.{same-self, same-one}
-use Rattle.names.specs.Sound.{namesOf, nameAt}
+use Rattle.name_entries.specs.Sound.{namesOf, nameAt}
 
 same-other : (a b : List ℕ) → (a ≡ b → ⊥) → sameName a b ≡ false
 same-other a b n = go (sameName a b) refl

@@ -6,7 +6,7 @@ use native.Mathlib.Omega.{arith}
 use Rattle.definitions.specs.Refusals.{notSound}
 use Rattle.definitions.specs.Names.{NameCall, NameAnswer}
 use Rattle.definitions.specs.Beside.{NamesCalled, FreshNames}
-use Rattle.names.specs.Sound.{SoundNames, namesOf}
+use Rattle.name_entries.specs.Sound.{SoundNames, namesOf}
 use Rattle.names.specs.Calls.{NameListCalled}
 use Rattle.names.specs.Memory.{nameMemory, nameModel}
 use Rattle.names.proofs.Clauses.{equation-gives-clauses}

@@ -9,10 +9,10 @@ use native.Mathlib.Omega.{arith}
 use native.Mathlib.Decide.{decLt}
 use borrow.Author.Count.{below-more}
 use Rattle.definitions.specs.Names.{entryBytes, mostNames}
-use Rattle.names.specs.Entry.{entryAt, nameIn, entryOf, putEntry, SoundEntry}
-use Rattle.names.specs.Sound.{SoundNames, namesOf, nameAt, lentEntries}
+use Rattle.name_entries.specs.Entry.{entryAt, nameIn, entryOf, putEntry, SoundEntry}
+use Rattle.name_entries.specs.Sound.{SoundNames, namesOf, nameAt, lentEntries}
 use Rattle.names.specs.Calls.{Allowed}
-use Rattle.names.proofs.Entries.{entry-length, sound-entry, name-of-entry, entry-of-sound, entry-of-length}
+use Rattle.name_entries.proofs.Entries.{entry-length, sound-entry, name-of-entry, entry-of-sound, entry-of-length}
 use Rattle.names.proofs.Finding.{NotBelow}
 use Rattle.names.proofs.Listing.{names-agree}
 

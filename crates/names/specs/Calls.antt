@@ -10,8 +10,8 @@ use Rattle.names.specs.declared.NameReply.the-variants.{Numbered, Unknow
 use Rattle.names.specs.declared.NameBytes.{NameBytes}
 use Rattle.names.specs.declared.EntryFound.{EntryFound}
 use Rattle.names.specs.declared.EntryFound.the-variants.{At, Nothing}
-use Rattle.names.specs.Entry.{entryAt}
-use Rattle.names.specs.Sound.{SoundNames, namesOf, lentEntries}
+use Rattle.name_entries.specs.Entry.{entryAt}
+use Rattle.name_entries.specs.Sound.{SoundNames, namesOf, lentEntries}
 use Rattle.names.specs.Memory.{NameMemory, nameMemory, nameModel, namesAfter, NamesLeft, namesLeft}
 
 -- what an answer says, with the bytes beside it

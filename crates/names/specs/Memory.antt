@@ -4,8 +4,8 @@ use mathlib.Core.List.{List, [], _∷_, _++_}
 use lib.ListN.{length, drop}
 use Rattle.definitions.specs.Names.{NameAnswer, entryBytes}
 use Rattle.definitions.specs.Beside.{NameModel}
-use Rattle.names.specs.Entry.{entryOf}
-use Rattle.names.specs.Sound.{SoundNames, namesOf, lentEntries}
+use Rattle.name_entries.specs.Entry.{entryOf}
+use Rattle.name_entries.specs.Sound.{SoundNames, namesOf, lentEntries}
 
 -- the lent bytes, with the count
 pub record NameMemory : Type 0 where

@@ -1,18 +1,17 @@
 // The symbol registry: names in a lent list of entries of 33 bytes, numbered in order of first interning.
-mod audit;
-mod entry;
-
 ghost use mathlib.Core.Path.{_≡_};
 ghost use mathlib.Core.List.{[]};
 ghost use Prim.Native.Nat.{_*_, _≤_};
 ghost use lib.ListN.{length};
 ghost use Rattle.definitions.specs.Names.{entryBytes, internName, lookupName};
 ghost use Rattle.definitions.specs.Says.{Says};
-ghost use Rattle.names.specs.Sound.{SoundNames};
+ghost use Rattle.name_entries.specs.Sound.{SoundNames};
 ghost use Rattle.names.specs.Calls.{answerOf, Allowed, FindsEntry, NameListCalled, NameCalled};
 use definitions::refusals::BAD_NAME_LENGTH;
 use definitions::refusals::NO_NAME_PLACE;
 use definitions::refusals::NOT_SOUND;
+use name_entries::audit;
+use name_entries::entry;
 
 // What a call answers: a name's number, none such, the length of a name that stands beside it, or a refusal's number.
 pub enum NameReply {

@@ -11,13 +11,12 @@ use Rattle.definitions.specs.Intern as I
 use Rattle.definitions.specs.Walk.{Mode}
 use Rattle.definitions.specs.Firing.{Pattern, applyAs, firing}
 use Rattle.store.specs.View.{nodesIn, lent, Kept}
-use Rattle.store.specs.Lookup.{Lookup}
 use Rattle.store.specs.declared.Built.{Built}
 use Rattle.store.specs.declared.NodeAnswer.{NodeAnswer}
 use Rattle.store.specs.declared.NodeAnswer.the-variants as A
-use Rattle.patterns.specs.Fired.{firedOf}
-use Rattle.patterns.specs.declared.firing.Fired.{Fired}
-use Rattle.patterns.specs.declared.firing.Fired.the-variants.{Nothing}
+use Rattle.decisions.specs.Fired.{firedOf}
+use Rattle.decisions.specs.declared.firing.Fired.{Fired}
+use Rattle.decisions.specs.declared.firing.Fired.the-variants.{Nothing}
 use Rattle.patterns.specs.declared.Applied.{Applied}
 use Rattle.patterns.specs.declared.Matched.{Matched}
 use Rattle.patterns.specs.declared.Matched.the-variants.{Declined, Id, Refused}
@@ -26,11 +25,6 @@ use Rattle.patterns.specs.declared.Matched.the-variants.{Declined, Id, R
 pub record Operands (count : ℕ) (children : List ℕ) : Type 0 where
   pub few : length children ≤ mostChildren
   pub low : (j : ℕ) → j < length children → getD children j 0 < count
-
--- the same, for reading
-pub record Applicable (w : List ℕ) (count : ℕ) (children : List ℕ) : Type 0 where
-  pub few : length children ≤ mostChildren
-  pub lookup : (j : ℕ) → j < length children → Lookup w count (getD children j 0)
 
 -- an answer over the nodes after it: no pattern fits, or the nodes with the id, or the nodes with the refusal
 abbrev pub plainMatched : Matched → List Node → Option I.Built

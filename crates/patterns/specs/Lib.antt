@@ -1,6 +1,2 @@
-pub mod Reading
-pub mod Carrying
-pub mod Deciding
-pub mod Fired
+pub mod Applicable
 pub mod Applied
-pub mod Strictly

@@ -1,44 +1,28 @@
 // The patterns of patterns.rs over the store, first that fits: identities, then folding, then merging; and the strict ones of 02 (i). Each
 // pattern decides over the nodes as they are what is to stand in an operator's place; `carry_out` then makes it. Which pattern it is goes
 // with the decision.
-mod carrying;
-mod constants;
-pub mod firing;
-mod folding;
-mod identities;
-mod merging;
-mod strict;
+mod answers;
 
-ghost use mathlib.Core.Path.{_≡_};
 ghost use mathlib.Core.List.{[], _∷_};
 ghost use Rattle.definitions.specs.Modes.{modeOf};
 ghost use Rattle.definitions.specs.Walk.{standard};
 ghost use Rattle.store.specs.View.{Sound};
-ghost use Rattle.patterns.specs.Deciding.{Both, declines};
-ghost use Rattle.patterns.specs.Fired.{Fires};
-ghost use Rattle.patterns.specs.Applied.{Operands, Applicable, Applies};
+ghost use Rattle.decisions.specs.Deciding.{Both};
+ghost use Rattle.decisions.specs.Fired.{Fires};
+ghost use Rattle.patterns.specs.Applicable.{Applicable};
+ghost use Rattle.patterns.specs.Applied.{Operands, Applies};
 use arena::DagArena;
+use decisions::PatternResult;
+use decisions::declined;
+use decisions::firing;
+use decisions::firing::Decision;
+use decisions::firing::Fired;
+use decisions::firing::Pattern;
+use decisions::folding;
 use definitions::mode::Mode;
-use firing::Decision;
-use firing::Fired;
-use firing::Pattern;
 use kinds::ADD;
 use kinds::MOD;
 use kinds::NEG;
-
-// What stands in the operator's place: an id; a constant; or a constant and then an operator over it and another operand, the
-// constant on the left or on the right.
-pub(crate) enum Replacement {
-    Id(u64),
-    Constant(u64),
-    ConstantLeft { kind: u64, bits: u64, other: u64 },
-    ConstantRight { kind: u64, bits: u64, other: u64 },
-}
-
-pub(crate) enum PatternResult {
-    Fits(Replacement),
-    Declined,
-}
 
 // What try_apply did: no pattern fits, or the id of its result, or the refusal (21, 22) that stopped it.
 pub enum Matched {
@@ -54,16 +38,6 @@ pub struct Applied {
     pub fired: Fired,
 }
 
-// Whether a pattern does not fit.
-pub(crate) fn declined(result: PatternResult) -> bool
-    ensures { λ r. ⌜ r ≡ declines result ⌝ }
-{
-    match result {
-        PatternResult::Fits(_) => false,
-        PatternResult::Declined => true,
-    }
-}
-
 // The first pattern that fits an operator of two operands.
 fn binary_pattern(nodes: &[u64], count: u64, kind: u64, lhs: u64, rhs: u64) -> Decision
     requires { ⌜ Both (now nodes) count lhs rhs ⌝ }
@@ -77,7 +51,7 @@ fn binary_pattern(nodes: &[u64], count: u64, kind: u64, lhs: u64, rhs: u64) -> D
     if !declined(folded) {
         return firing::named(folded, Pattern::ConstantFold);
     }
-    let merged = merging::merge(nodes, count, kind, lhs, rhs);
+    let merged = merges::merge(nodes, count, kind, lhs, rhs);
     firing::named(merged, firing::merge_function(kind))
 }
 
@@ -95,7 +69,7 @@ fn operator_pattern(
 {
     match mode {
         Mode::Standard => binary_pattern(nodes, count, kind, lhs, rhs),
-        Mode::Strict => strict::strict_pattern(nodes, count, kind, lhs, rhs),
+        Mode::Strict => strict_patterns::strict_pattern(nodes, count, kind, lhs, rhs),
     }
 }
 
@@ -150,8 +124,8 @@ pub fn try_apply(
     let fired = decision.fired;
     match result {
         PatternResult::Fits(replacement) => {
-            let built = carrying::carry_out(nodes, slots, arena, replacement);
-            carrying::answered(built, fired)
+            let built = replacements::carry_out(nodes, slots, arena, replacement);
+            answers::answered(built, fired)
         }
         PatternResult::Declined => Applied {
             matched: Matched::Declined,

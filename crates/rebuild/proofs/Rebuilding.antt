@@ -27,7 +27,7 @@ use Rattle.store.proofs.Reading as R
 use Rattle.store.proofs.Keeping.{kept-refl, kept-trans}
 use Rattle.patterns.specs.Applied as A
 use Rattle.patterns.specs.Applied.{Applies, Operands, plainMatched, firesAt}
-use Rattle.patterns.specs.Fired.{firedOf}
+use Rattle.decisions.specs.Fired.{firedOf}
 use Rattle.patterns.specs.declared.Matched.{Matched}
 use Rattle.patterns.specs.declared.Matched as Matches
 use Rattle.patterns.specs.declared.Applied.{Applied}

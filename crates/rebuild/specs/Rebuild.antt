@@ -12,8 +12,8 @@ use Rattle.store.specs.View as View
 use Rattle.store.specs.View.{nodesIn, Kept, Builds, Low}
 use Rattle.store.specs.declared.NodeAnswer.{NodeAnswer}
 use Rattle.store.specs.declared.NodeAnswer.the-variants.{Id, Refused}
-use Rattle.patterns.specs.declared.firing.Fired.{Fired}
-use Rattle.patterns.specs.Fired.{firedOf}
+use Rattle.decisions.specs.declared.firing.Fired.{Fired}
+use Rattle.decisions.specs.Fired.{firedOf}
 use Rattle.rebuild.specs.declared.Finished.{Finished}
 use Rattle.rebuild.specs.Memory.{Memory, SoundMemory, nodesOf, lentOf, Keeps}
 

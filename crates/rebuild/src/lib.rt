@@ -9,11 +9,13 @@ ghost use Rattle.rebuild.specs.Memory.{memory};
 ghost use Rattle.rebuild.specs.Rebuild.{Rebuildable, Rebuilds, MarkedAs, Finishes};
 use arena::DagArena;
 use arena::REORDERABLE;
+use decisions::firing::Fired;
 use definitions::mode::Mode;
 use kinds::ADD;
+use kinds::ADD;
+use kinds::MUL;
 use kinds::MUL;
 use patterns::Matched;
-use patterns::firing::Fired;
 use store::Built;
 use store::NodeAnswer;
 

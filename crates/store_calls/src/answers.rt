@@ -1,7 +1,7 @@
 // The answers of a store's calls.
 ghost use mathlib.Core.Path.{_≡_};
 ghost use Rattle.store.specs.Memory as Store;
-ghost use Rattle.walk.specs.Answers as Walk;
+ghost use Rattle.runs.specs.Answers as Walk;
 ghost use Rattle.pruner.specs.Answers as Pruner;
 ghost use Rattle.store_calls.specs.Calls.{answerOf};
 use arena::DagArena;

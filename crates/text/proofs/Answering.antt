@@ -7,7 +7,7 @@ use Rattle.arena.specs.declared.DagArena.{DagArena}
 use Rattle.store.specs.declared.NodeAnswer.{NodeAnswer}
 use Rattle.store.specs.declared.NodeAnswer.the-variants.{Refused}
 use Rattle.store.specs.Memory.{memory, model}
-use Rattle.names.specs.Sound as Names
+use Rattle.name_entries.specs.Sound as Names
 use Rattle.text_language.specs.Program.{Token, tokens, FitsProgram}
 use Rattle.definitions.specs.Making.{Made, run}
 use Rattle.text_language.specs.Reading.{anyNan, Refuses, nan}

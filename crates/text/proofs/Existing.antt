@@ -22,7 +22,7 @@ use Rattle.building.specs.Requests.{BuildsSound, Asked}
 use Rattle.building.proofs.Codes.{asked-variable, asked-constant, asked-operator}
 use Rattle.names.specs.declared.NameReply as Named
 use Rattle.names.specs.declared.NameReply.the-variants as named
-use Rattle.names.specs.Sound as Names
+use Rattle.name_entries.specs.Sound as Names
 use Rattle.names.specs.Calls as Calls
 use Rattle.names.specs.Calls.{NameListCalled, CallClauses, namesLeftBy}
 use Rattle.names.specs.Memory.{nameMemory, namesAfter, namesLeft}

@@ -23,7 +23,7 @@ use Rattle.definitions.proofs.NameLists.{names-longer}
 use Rattle.names.specs.Memory.{nameMemory, nameModel}
 use Rattle.names.specs.declared.NameReply as Named
 use Rattle.names.specs.declared.NameReply.the-variants as named
-use Rattle.names.specs.Sound as Names
+use Rattle.name_entries.specs.Sound as Names
 use Rattle.names.specs.Calls as Calls
 use Rattle.names.proofs.Listing.{names-length}
 use Rattle.names.proofs.Clauses.{equation-gives-clauses}

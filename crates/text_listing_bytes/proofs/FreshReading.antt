@@ -22,7 +22,7 @@ use Rattle.builder.specs.declared.opening.FreshStore.{FreshStore}
 use Rattle.builder.specs.declared.opening.FreshStore.the-variants as fresh
 use Rattle.builder.specs.Opens.{Opens, freshAnswer, freshSlots}
 use Rattle.names.specs.Memory.{nameMemory, nameModel}
-use Rattle.names.specs.Sound.{lentEntries}
+use Rattle.name_entries.specs.Sound.{lentEntries}
 use Rattle.names.proofs.Modelled.{no-names}
 use Rattle.listing_lines.specs.declared.SheetOutcome as Outcome
 use Rattle.listing_lines.specs.declared.SheetOutcome.the-variants as outcome

@@ -15,7 +15,7 @@ use Rattle.names.specs.declared.NameBytes.{NameBytes}
 use Rattle.names.specs.Calls.{answerOf, NameCalled, NameClauses, LengthFits}
 use Rattle.names.specs.Memory.{NamesLeft}
 use Rattle.names.proofs.Clauses.{name-equation-gives-clauses}
-use Rattle.names.specs.Sound.{SoundNames, namesOf, lentEntries}
+use Rattle.name_entries.specs.Sound.{SoundNames, namesOf, lentEntries}
 use Rattle.names.proofs.Listing.{names-length}
 use Rattle.listing_lines.specs.declared.line.Line.{Line}
 use Rattle.listing_lines.specs.Line.{lineBytes, numberBytes, text, EmptyLine, ExtendsLine, Holds}

@@ -16,7 +16,7 @@ use Rattle.store.specs.declared.NodeAnswer.{NodeAnswer}
 use Rattle.store.specs.declared.NodeAnswer.the-variants.{Id, Refused}
 use Rattle.store.specs.Memory.{memory, model}
 use Rattle.store.specs.View.{nodesIn, lent}
-use Rattle.names.specs.Sound.{SoundNames, namesOf, lentEntries}
+use Rattle.name_entries.specs.Sound.{SoundNames, namesOf, lentEntries}
 use Rattle.listing_lines.specs.Line.{lineBytes}
 use Rattle.listing_lines.specs.Outcome as Shown
 use Rattle.listing_lines.specs.Outcome.{allLines}

@@ -16,7 +16,7 @@ use Rattle.text_language.specs.Refusals.{outsideLanguage}
 use Rattle.store.specs.declared.NodeAnswer.{NodeAnswer}
 use Rattle.store.specs.declared.NodeAnswer.the-variants.{Id, Refused}
 use Rattle.store.specs.View.{lent}
-use Rattle.names.specs.Sound.{namesOf, lentEntries}
+use Rattle.name_entries.specs.Sound.{namesOf, lentEntries}
 use Rattle.listing_lines.specs.declared.SheetOutcome as Outcome
 use Rattle.listing_lines.specs.declared.SheetOutcome.the-variants as outcome
 use Rattle.listing_lines.specs.Line.{lineBytes}

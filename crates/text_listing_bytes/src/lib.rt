@@ -4,7 +4,7 @@ mod reading;
 
 ghost use Prim.Native.Nat.{_≤_};
 ghost use Rattle.arena.specs.Nodes.{Nodes};
-ghost use Rattle.names.specs.Sound.{SoundNames};
+ghost use Rattle.name_entries.specs.Sound.{SoundNames};
 ghost use Rattle.text_listing_bytes.specs.Listed.{textLent, Lines, ListedText};
 use arena::NODE_WORDS;
 use listing_lines::LINE_BYTES;

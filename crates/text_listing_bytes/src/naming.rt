@@ -2,7 +2,7 @@
 ghost use mathlib.Core.Path.{_≡_};
 ghost use Prim.Native.Nat.{_+_, _*_, _≤_, _<_};
 ghost use lib.ListN.{length};
-ghost use Rattle.names.specs.Sound.{SoundNames, namesOf};
+ghost use Rattle.name_entries.specs.Sound.{SoundNames, namesOf};
 ghost use Rattle.listing_lines.specs.Line.{lineBytes, Holds};
 ghost use Rattle.listing_lines.specs.Filling.{PutsLine};
 ghost use Rattle.text_listing_bytes.specs.Names.{nameLine, nameLines, nameLength};

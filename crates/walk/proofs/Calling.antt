@@ -21,12 +21,13 @@ use Rattle.store.proofs.Keeping.{kept-refl}
 use Rattle.store.proofs.Leaving.{leaves-unsound, leaves-kept}
 use Rattle.store.specs.Memory.{Leaves, changesNothing, keepsInterned}
 use Rattle.arena.specs.declared.DagArena.{DagArena}
-use Rattle.walk.specs.declared.state.Walk.{Walk}
-use Rattle.walk.specs.declared.WalkOutcome as Outcomes
-use Rattle.walk.specs.declared.WalkAnswer.the-variants.{Refused}
+use Rattle.runs.specs.declared.state.Walk.{Walk}
+use Rattle.runs.specs.declared.WalkOutcome as Outcomes
+use Rattle.runs.specs.declared.WalkAnswer.the-variants.{Refused}
 use Rattle.rebuild.specs.Memory.{Memory, memory, SoundMemory, nodesOf, lentOf, Keeps}
-use Rattle.walk.specs.Answers.{meaning}
-use Rattle.walk.specs.Turns.{Starts, Startable, WalksRoot}
+use Rattle.runs.specs.Answers.{meaning}
+use Rattle.runs.specs.States.{Starts}
+use Rattle.runs.specs.Runs.{Startable, WalksRoot}
 use Rattle.walk.proofs.Refusing.{refused-full}
 
 -- a refusal that changes nothing is neither 21 nor 22

@@ -5,34 +5,16 @@ ghost use Rattle.definitions.specs.Machine as M;
 ghost use Rattle.definitions.specs.Modes.{modeOf};
 ghost use Rattle.store.specs.Memory.{memory, Leaves};
 ghost use Rattle.rebuild.specs.Memory.{SoundMemory};
-ghost use Rattle.walk.specs.Answers.{meaning};
-
-mod run;
-pub mod state;
-mod turn;
-
+ghost use Rattle.runs.specs.Answers.{meaning};
 use arena::DagArena;
 use definitions::mode::Mode;
 use definitions::refusals::BAD_CODE;
 use definitions::refusals::BAD_OPERAND;
 use definitions::refusals::NOT_SOUND;
-use state::MOST_DEPTH;
-use state::Walk;
-
-pub enum WalkAnswer {
-    // What the root was simplified to.
-    Simplified { id: u64, steps: u64 },
-    // The root, with the budget used up and frames left.
-    Spent { id: u64, steps: u64 },
-    // The number of a refusal.
-    Refused(u64),
-}
-
-// An answer, and the store's count and size after it.
-pub struct WalkOutcome {
-    pub answer: WalkAnswer,
-    pub arena: DagArena,
-}
+pub use runs::WalkAnswer;
+pub use runs::WalkOutcome;
+use runs::state::Walk;
+use turns::state::MOST_DEPTH;
 
 fn refuse(number: u64, arena: DagArena) -> WalkOutcome
     ensures { λ r. ⌜ r ≡ record { answer = WalkAnswer.Refused number; arena = arena } ⌝ }
@@ -65,7 +47,7 @@ pub fn simplify_sound(
         return refuse(BAD_OPERAND, arena);
     }
     let walk = Walk::new(arena, mode, id, depth as usize);
-    run::run(nodes, slots, walk, id, budget)
+    runs::run::run(nodes, slots, walk, id, budget)
 }
 
 // A walk with any arguments on any store, which is audited first.

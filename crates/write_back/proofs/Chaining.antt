@@ -13,9 +13,9 @@ use Rattle.store.specs.Memory.{Memory, model, Leaves}
 use Rattle.names.specs.Memory.{nameModel}
 use Rattle.text.specs.Memory.{ControllerMemory}
 use Rattle.text.specs.Reading.{ReadsText}
-use Rattle.walk.specs.declared.WalkAnswer as Walk
-use Rattle.walk.specs.declared.WalkAnswer.the-variants as walk
-use Rattle.walk.specs.Answers as WalkAnswers
+use Rattle.runs.specs.declared.WalkAnswer as Walk
+use Rattle.runs.specs.declared.WalkAnswer.the-variants as walk
+use Rattle.runs.specs.Answers as WalkAnswers
 use Rattle.pruner.specs.declared.PruneAnswer as Prune
 use Rattle.pruner.specs.declared.PruneAnswer.the-variants as prune
 use Rattle.pruner.specs.Answers as PruneAnswers

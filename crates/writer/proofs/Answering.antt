@@ -17,7 +17,7 @@ use Rattle.definitions.specs.Controller.{Controller, controllerCall, onText, fr
 use Rattle.arena.specs.declared.DagArena.{DagArena}
 use Rattle.store.specs.Sound.{Sound}
 use Rattle.store.proofs.Viewing.{plain-length}
-use Rattle.names.specs.Sound as Names
+use Rattle.name_entries.specs.Sound as Names
 use Rattle.text.specs.Memory.{ControllerMemory, controllerMemory, controllerOf, lentOf, BothSound}
 use Rattle.expression_text.specs.Written.{textOf, depthOf}
 use Rattle.expression_text.specs.Proper.{Proper}

@@ -14,7 +14,7 @@ use Rattle.writer.specs.Expression.{isSome, orAny}
 use Rattle.text_language.specs.Reading.{mostBytes, mostNested}
 use Rattle.writer.specs.Placing.{spare, space, placed, PlacedText, Open}
 use Rattle.writer.specs.Sweeping.{Copies, Texted, WritesExpression, Unreached}
-use Rattle.names.specs.Sound as Names
+use Rattle.name_entries.specs.Sound as Names
 use Rattle.definitions.specs.Limits.{mostNodes}
 use Rattle.definitions.specs.Refusals.{noText, textTooLong}
 use Rattle.writer.specs.declared.WriteAnswer.the-variants.{Length, Refused}

@@ -9,8 +9,8 @@ use lib.Dec.{eqb}
 use native.Mathlib.Omega.{arith}
 use native.Mathlib.Nat.{pow-suc}
 use borrow.Author.Tests.{eq-eqb, ne-eqb, le-leb}
-use Rattle.names.specs.Sound as Names
-use Rattle.names.specs.Entry.{entryAt}
+use Rattle.name_entries.specs.Sound as Names
+use Rattle.name_entries.specs.Entry.{entryAt}
 use Rattle.expression_text.specs.Numeral.{decimals, hexes, hexByte, numeral}
 use Rattle.expression_text.specs.Numeral.{mostWhole}
 use Rattle.writer.specs.Placing.{spare, space, IsWhole, NamedSymbol, Open, PutsBytes}

@@ -9,8 +9,8 @@ use native.Mathlib.Omega.{arith}
 use native.Mathlib.Decide.{decLt}
 use Rattle.definitions.specs.Node.{at}
 use Rattle.store.specs.View.{nodesIn}
-use Rattle.names.specs.Sound as Names
-use Rattle.names.specs.Entry.{entryAt}
+use Rattle.name_entries.specs.Sound as Names
+use Rattle.name_entries.specs.Entry.{entryAt}
 use Rattle.names.proofs.Listing.{names-length, names-at}
 use Rattle.text_language.specs.Grammar.{Expr, constant, variable}
 use Rattle.expression_text.specs.Numeral.{numeral}

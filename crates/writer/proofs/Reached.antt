@@ -18,8 +18,8 @@ use Rattle.store.specs.View.{nodesIn, plainNode}
 use Rattle.store.specs.Lookup.{Lookup}
 use Rattle.store.proofs.Reading as R
 use Rattle.store.proofs.Viewing.{at-plain}
-use Rattle.names.specs.Sound as Names
-use Rattle.names.specs.Entry.{entryAt}
+use Rattle.name_entries.specs.Sound as Names
+use Rattle.name_entries.specs.Entry.{entryAt}
 use Rattle.names.proofs.Listing.{names-length, names-at}
 use Rattle.text_language.specs.Grammar.{Expr, isLetter, isWord}
 use Rattle.text_language.specs.Program.{Join, plus, minus, times, over, raise}

@@ -20,9 +20,9 @@ use Rattle.definitions.proofs.Going.{Whole, Goes}
 use Rattle.definitions.proofs.Readings.{reading-goes, reading-says}
 use Rattle.store.specs.Memory.{model}
 use Rattle.names.specs.Memory.{nameModel}
-use Rattle.names.specs.Sound as NameList
-use Rattle.names.specs.Entry.{entryAt}
-use Rattle.names.proofs.Entries.{entry-length, name-length}
+use Rattle.name_entries.specs.Sound as NameList
+use Rattle.name_entries.specs.Entry.{entryAt}
+use Rattle.name_entries.proofs.Entries.{entry-length, name-length}
 use Rattle.names.proofs.Listing.{names-length, names-at}
 use Rattle.text.specs.Memory.{ControllerMemory, lentController, controllerOf, lentOf, BothSound}
 use Rattle.pruned_again.proofs.Fitting.{fitting}

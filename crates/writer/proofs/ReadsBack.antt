@@ -24,7 +24,7 @@ use Rattle.store.specs.Sound.{Sound}
 use Rattle.store.specs.View.{nodesIn, listed}
 use Rattle.store.proofs.Viewing.{plain-length, at-plain, neat-at, same-one}
 use Rattle.store.proofs.Reading as R
-use Rattle.names.specs.Sound as NameList
+use Rattle.name_entries.specs.Sound as NameList
 use Rattle.names.proofs.Listing.{names-length, names-at, number-found}
 use Rattle.expression_text.specs.Proper.{isName, allWords}
 use Rattle.writer.specs.Expression.{joinExprs, symbolName, isSome, orAny, Standing, aName, aNumber, aMinus, aPair}

@@ -19,7 +19,7 @@ use Rattle.store.specs.Sound.{Sound}
 use Rattle.store.specs.View.{nodesIn, listed}
 use Rattle.store.proofs.Viewing.{plain-length}
 use Rattle.store.proofs.Reading as R
-use Rattle.names.specs.Sound as NameList
+use Rattle.name_entries.specs.Sound as NameList
 use Rattle.names.proofs.Listing.{names-length}
 use Rattle.expression_text.specs.Proper.{isName, Proper}
 use Rattle.writer.specs.Expression.{joinExprs, unary, pairOf, symbolName, overOperands, expressionIn, expressionsIn, expressionOf, isSome, orAny, Standing, aName, aNumber, aMinus, aPair}

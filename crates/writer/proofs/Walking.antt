@@ -10,7 +10,7 @@ use Rattle.definitions.specs.Node.{Node, at}
 use Rattle.store.specs.View.{nodesIn}
 use Rattle.store.specs.Lookup.{Lookup}
 use Rattle.store.proofs.Reading as R
-use Rattle.names.specs.Sound as Names
+use Rattle.name_entries.specs.Sound as Names
 use Rattle.text_language.specs.Grammar.{Expr, constant, variable, negated}
 use Rattle.text_language.specs.Reader.{rank}
 use Rattle.expression_text.specs.Written.{natural, depthOf}

@@ -15,7 +15,7 @@ use Rattle.definitions.specs.Names.{longestName, entryBytes}
 use Rattle.writer.specs.Expression.{joinKind}
 use Rattle.arena.specs.Nodes.{Nodes}
 use Rattle.store.specs.View.{nodesIn}
-use Rattle.names.specs.Sound as Names
+use Rattle.name_entries.specs.Sound as Names
 use Rattle.expression_text.specs.Numeral.{mostWhole, mostDigits, hexDigits, numberSign, numeral, decimals, hexes}
 use Rattle.expression_text.specs.Written.{natural, wrap, bare, deeper, depthOf}
 use Rattle.writer.specs.Expression.{expressionOf, isSome, orAny}

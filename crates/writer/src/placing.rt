@@ -5,7 +5,7 @@ ghost use Prim.Native.Nat.{_+_, _≤_};
 ghost use lib.ListN.{drop};
 ghost use Rattle.definitions.specs.Node as N;
 ghost use Rattle.store.specs.View.{nodesIn};
-ghost use Rattle.names.specs.Sound as Names;
+ghost use Rattle.name_entries.specs.Sound as Names;
 ghost use Rattle.expression_text.specs.Written.{bare};
 ghost use Rattle.writer.specs.Placing.{spare, NamedSymbol, Open, PutsBytes, Writable, PlacedText, meant};
 use crate::bytes::index;

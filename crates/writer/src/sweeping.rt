@@ -7,7 +7,7 @@ ghost use Rattle.definitions.specs.Limits.{mostNodes};
 ghost use Rattle.definitions.specs.Says.{Says};
 ghost use Rattle.store.specs.View.{nodesIn};
 ghost use Rattle.store.specs.Lookup.{Lookup};
-ghost use Rattle.names.specs.Sound as Names;
+ghost use Rattle.name_entries.specs.Sound as Names;
 ghost use Rattle.expression_text.specs.Proper.{isName};
 ghost use Rattle.writer.specs.Expression.{Standing, isSome, symbolName};
 ghost use Rattle.writer.specs.Placing.{KnownText, expressionAt};

@@ -3,8 +3,8 @@ use borrow.Author.Tests.{not-true, not-false}
 use Rattle.definitions.specs.Patterns as P
 use Rattle.definitions.specs.Firing.{applyAs, firing, binaryFiring}
 use Rattle.definitions.specs.Firing as F
-use Rattle.patterns.specs.declared.firing.Pattern.the-variants.{ConstantFold}
-use Rattle.patterns.proofs.FiringLaws as Firing
+use Rattle.decisions.specs.declared.firing.Pattern.the-variants.{ConstantFold}
+use Rattle.decisions.proofs.FiringLaws as Firing
 use borrow.Author.Needs.{needs}
 use Rattle.patterns.proofs.binary_pattern.Statement.{statement}
 use Rattle.patterns.proofs.binary_pattern.Tie as tie

@@ -1,5 +1,5 @@
 use Rattle.store.proofs.Reading as S
-use Rattle.patterns.proofs.CarryLaws as Carries
+use Rattle.patterns.proofs.ApplyLaws as Applies
 use borrow.Author.Needs.{needs}
 use Rattle.patterns.proofs.try_apply.Statement.{statement}
 use Rattle.patterns.proofs.try_apply.Tie as tie
@@ -14,7 +14,7 @@ carry-out-requires : tie.Need-carry-out-requires
 carry-out-requires c κs =
     let decided = c .before .before .before .before .before in
     let s = decided .before .before .before .before .before in
-    (Carries.known-result-low _ (c .before .before .before .result .given .1) (decided .pattern .ensures .decides .low), s .pre .1)
+    (Applies.known-result-low _ (c .before .before .before .result .given .1) (decided .pattern .ensures .decides .low), s .pre .1)
 
 answered-requires : tie.Need-answered-requires
 answered-requires c κs = search needs
@@ -32,7 +32,7 @@ returns : tie.Need-returns
 returns c =
     let built = c .before .before .before .before .before in
     let known = built .before .before .before .before in
-    Carries.applies-built (known .before .before .pattern .ensures) (known .result .given .1) (built .carry-out .ensures) (c .answered .ensures)
+    Applies.applies-built (known .before .before .pattern .ensures) (known .result .given .1) (built .carry-out .ensures) (c .answered .ensures)
 
 same-length-3 : tie.Need-same-length-3
 same-length-3 c = search needs
@@ -40,7 +40,7 @@ same-length-3 c = search needs
 returns-2 : tie.Need-returns-2
 returns-2 c =
     let decided = c .before .before in
-    Carries.applies-none (decided .pattern .ensures) (c .enum-told .given .1) (decided .before .before .before .before .before .pre .1)
+    Applies.applies-none (decided .pattern .ensures) (c .enum-told .given .1) (decided .before .before .before .before .before .pre .1)
 
 pub try-apply-spec : {M : Type 1} → statement M
 try-apply-spec =

@@ -1,5 +1,5 @@
 use mathlib.Core.Path.{refl, sym, ap}
-use Rattle.walk.specs.Answers.{meaning}
+use Rattle.runs.specs.Answers.{meaning}
 use borrow.Author.Needs.{needs}
 use Rattle.store_calls.proofs.answers.of_walk.Statement.{statement}
 use Rattle.store_calls.proofs.answers.of_walk.Tie as tie

@@ -1,4 +1,4 @@
-use Rattle.names.specs.Sound.{namesOf}
+use Rattle.name_entries.specs.Sound.{namesOf}
 use Prim.Native.Nat.{_≤_}
 use mathlib.Core.Path.{_≡_, sym}
 use lib.Seq.{length-take-le}

@@ -3,7 +3,7 @@ use mathlib.Core.Path.{_≡_, refl}
 use lib.ListN.{length}
 use native.Mathlib.Omega.{arith}
 use Rattle.names.proofs.Listing.{names-length}
-use Rattle.names.specs.Sound.{namesOf}
+use Rattle.name_entries.specs.Sound.{namesOf}
 use Rattle.text_listing_bytes.specs.Names.{nameLine}
 use Rattle.text_listing_bytes.proofs.NameLines.{Written, written-none, written-more, written-all}
 use borrow.Author.Needs.{needs}

@@ -1,0 +1,4 @@
+pub mod Reading
+pub mod Carrying
+pub mod Deciding
+pub mod Fired

@@ -1,0 +1,3 @@
+pub mod IdentityLaws
+pub mod Negation
+pub mod KindLaws

@@ -1,0 +1,4 @@
+pub mod Stacks
+pub mod Descending
+pub mod Settling
+pub mod Turning
