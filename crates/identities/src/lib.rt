@@ -13,16 +13,10 @@ use decisions::constants::is_zero;
 use decisions::constants::vanishes;
 use fold::BITS_OF_ZERO;
 use kinds::ADD;
-use kinds::ADD;
-use kinds::DIV;
 use kinds::DIV;
 use kinds::MUL;
-use kinds::MUL;
-use kinds::NEG;
 use kinds::NEG;
 use kinds::POW;
-use kinds::POW;
-use kinds::SUB;
 use kinds::SUB;
 
 // `x + 0 -> x` and `0 + x -> x`.

@@ -13,8 +13,6 @@ use decisions::constants::constant_value;
 use decisions::declined;
 use fold::Folded;
 use kinds::ADD;
-use kinds::ADD;
-use kinds::MUL;
 use kinds::MUL;
 
 // The constant among two children: its bits, and the other child. Where both are constants the left one is taken.

@@ -12,8 +12,6 @@ use arena::REORDERABLE;
 use decisions::firing::Fired;
 use definitions::mode::Mode;
 use kinds::ADD;
-use kinds::ADD;
-use kinds::MUL;
 use kinds::MUL;
 use patterns::Matched;
 use store::Built;

@@ -20,14 +20,9 @@ use decisions::firing::named;
 use decisions::folding::constant_fold;
 use fold::BITS_OF_ZERO;
 use kinds::ADD;
-use kinds::ADD;
-use kinds::CONSTANT;
 use kinds::CONSTANT;
 use kinds::DIV;
-use kinds::DIV;
 use kinds::MUL;
-use kinds::MUL;
-use kinds::SUB;
 use kinds::SUB;
 
 // The bits of -0.0.

@@ -1,6 +1,6 @@
 // How far a walk has come.
 use arena::DagArena;
-use arena::MOST_CHILDREN;
+use definitions::MOST_CHILDREN;
 
 // 01: "the walk's stacks are filled arrays of 256 frames".
 pub const MOST_FRAMES: usize = 256;
