@@ -15,7 +15,7 @@ pub record Sound (words slots : List ℕ) (arena : DagArena) : Type 0 where
   pub nodes : Nodes words (arena .count)
   -- 02 (e): the table is "what inserting all nodes by ascending id into an empty table of the present size gives, each at its first free
   -- place": `filled`. So "each id has just one slot, met from its hash modulo the table size onward, round the end, before an empty one"
-  -- and "every other slot is 0": `table-order` of dedup/proofs/Inserting
+  -- and "every other slot is 0": `table-order` of slots/proofs/Inserting
   -- 20: "a table size that is no power of two from 64 up to the lent slots": `doubled`, `sized`
   -- 20: "or a node count over 7/10 of it": `load`
   pub table : Table (hashAt words) (arena .count) slots (arena .size)
