@@ -1,5 +1,4 @@
 pub mod Words
 pub mod Entries
-pub mod Chains
-pub mod Auditing
+pub mod Bucketing
 pub mod Copying

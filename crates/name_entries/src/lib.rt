@@ -1,3 +1,2 @@
-// The entries of a lent name list, a name's bytes each, and the audit of the list.
-pub mod audit;
+// The entries of a lent name list, a name's bytes each.
 pub mod entry;

@@ -10,7 +10,6 @@ ghost use Rattle.names.specs.Calls.{answerOf, Allowed, FindsEntry, NameL
 use definitions::refusals::BAD_NAME_LENGTH;
 use definitions::refusals::NO_NAME_PLACE;
 use definitions::refusals::NOT_SOUND;
-use name_entries::audit;
 use name_entries::entry;
 
 // What a call answers: a name's number, none such, the length of a name that stands beside it, or a refusal's number.
@@ -43,7 +42,7 @@ enum EntryFound {
 pub fn is_sound(entries: &[u8], count: usize) -> bool
     ensures { λ r. ⌜ Says r (SoundNames (now (entries .entry)) count) ⌝ }
 {
-    audit::audit(entries, count)
+    name_audit::audit(entries, count)
 }
 
 // The number of the entry `key`.
@@ -77,7 +76,7 @@ pub fn intern_allowed(entries: &mut [u8], count: usize, name: &[u8]) -> Interned
             count,
         };
     }
-    if audit::MOST_NAMES <= count {
+    if name_audit::MOST_NAMES <= count {
         return InternedName {
             answer: NameReply::Refused(NO_NAME_PLACE),
             count,
@@ -113,7 +112,7 @@ pub fn intern(entries: &mut [u8], count: usize, name: &[u8]) -> InternedName
         (now (entries .exit))
         (r .count) ⌝ }
 {
-    if !audit::audit(entries, count) {
+    if !name_audit::audit(entries, count) {
         return InternedName {
             answer: NameReply::Refused(NOT_SOUND),
             count,
@@ -133,7 +132,7 @@ pub fn lookup(entries: &[u8], count: usize, name: &[u8]) -> NameReply
     ensures { λ r. ⌜ NameListCalled (now (entries .entry)) count (lookupName (now (name .entry))) (answerOf r []) (now (entries .entry))
         count ⌝ }
 {
-    if !audit::audit(entries, count) {
+    if !name_audit::audit(entries, count) {
         return NameReply::Refused(NOT_SOUND);
     }
     if !length_allowed(name.len()) {
@@ -151,7 +150,7 @@ pub fn lookup(entries: &[u8], count: usize, name: &[u8]) -> NameReply
 pub fn name(entries: &[u8], count: usize, number: u32) -> NameBytes
     ensures { λ r. ⌜ NameCalled (now (entries .entry)) count number r ⌝ }
 {
-    if !audit::audit(entries, count) {
+    if !name_audit::audit(entries, count) {
         return NameBytes {
             answer: NameReply::Refused(NOT_SOUND),
             bytes: [0u8; entry::LONGEST_NAME],

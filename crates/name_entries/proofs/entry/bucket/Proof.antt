@@ -1,7 +1,7 @@
 -- `names::entry::bucket` meets its contract: the words read are those that the definition sums.
 use mathlib.Core.Path.{refl}
 use borrow.Author.Needs.{needs}
-use Rattle.name_entries.proofs.Chains.{words-bucket}
+use Rattle.name_entries.proofs.Bucketing.{words-bucket}
 use Rattle.name_entries.proofs.entry.bucket.Statement.{statement}
 use Rattle.name_entries.proofs.entry.bucket.Tie as tie
 

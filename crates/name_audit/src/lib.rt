@@ -1,12 +1,12 @@
 // The audit of a name list: refusal 20 of 01.
-use crate::entry;
 ghost use mathlib.Core.Path.{_≡_};
 ghost use Prim.Native.Nat.{_*_, _≤_};
 ghost use lib.ListN.{length};
 ghost use Rattle.definitions.specs.Names.{entryBytes, mostNames};
 ghost use Rattle.definitions.specs.Says.{Says};
 ghost use Rattle.name_entries.specs.Sound.{SoundNames, EntriesSound, NoNameTwice};
-ghost use Rattle.name_entries.specs.Buckets.{Chained, StandsBefore};
+ghost use Rattle.name_audit.specs.Chained.{Chained, StandsBefore};
+use name_entries::entry;
 
 pub const MOST_NAMES: usize = 4096;
 

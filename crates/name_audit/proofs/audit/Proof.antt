@@ -1,9 +1,9 @@
--- `names::audit::audit` meets its contract: its tests are the parts of soundness.
+-- `name_audit::audit` meets its contract: its tests are the parts of soundness.
 use native.Mathlib.Omega.{arith}
 use borrow.Author.Tests.{not-true, not-false}
-use Rattle.name_entries.proofs.Auditing.{many-no, lent-no, entries-no, all-parts}
-use Rattle.name_entries.proofs.audit.audit.Statement.{statement}
-use Rattle.name_entries.proofs.audit.audit.Tie as tie
+use Rattle.name_audit.proofs.Auditing.{many-no, lent-no, entries-no, all-parts}
+use Rattle.name_audit.proofs.audit.Statement.{statement}
+use Rattle.name_audit.proofs.audit.Tie as tie
 
 returns : tie.Need-returns
 returns c = many-no _ _ (c .if1 .taken)

@@ -1,30 +1,20 @@
 -- The audit's buckets: each name is compared with those before it in its bucket, and so with every name that could be the same.
-use Prim.Native.Nat.{ℕ, _+_, _-_, _*_, _%_, _≤_, _<_}
+use Prim.Native.Nat.{ℕ, _+_, _-_, _*_, _≤_, _<_}
 use mathlib.Core.Path.{_≡_, refl, sym, ap, _∙_, subst}
 use mathlib.Core.Bool.{Bool, true, false}
 use mathlib.Core.List.{List}
 use lib.ListN.{length, getD, set, replicate, getD-replicate}
 use lib.Seq.{getD-set-same, getD-set-other}
-use lib.Dec.{lit<}
-use native.Mathlib.Nat.{mod-lt}
 use native.Mathlib.Omega.{arith}
 use native.Mathlib.Decide.{decLt, ℕ-discrete}
 use Rattle.definitions.specs.Names.{entryBytes, mostNames}
-use Rattle.name_entries.specs.Entry.{entryAt, IsWord, IsByte, IsEntry}
+use Rattle.name_entries.specs.Entry.{entryAt, nameIn, entryOf, IsEntry}
 use Rattle.definitions.specs.Says.{Says}
 use Rattle.definitions.proofs.Deciding.{says-yes}
-use Rattle.name_entries.specs.Entry.{nameIn, entryOf}
 use Rattle.name_entries.specs.Sound.{EntriesSound, NoNameTwice}
 use Rattle.name_entries.proofs.Entries.{entry-length, sound-entry}
-use Rattle.name_entries.specs.Buckets.{buckets, bucketOf, bucketAt, IsBucket, Latest, Links, Chained, StandsBefore}
-
--- a bucket from the words of an entry
-pub words-bucket : (e : List ℕ) (n w0 w1 w2 w3 r : ℕ) → IsByte (getD e 0 0) n → IsWord e 1 w0 → IsWord e 9 w1 → IsWord e 17 w2 → IsWord e 25 w3 → r ≡ (n + w0 % buckets + 3 * (w1 % buckets) + 5 * (w2 % buckets) + 7 * (w3 % buckets)) % buckets → IsBucket e r
-unfolding bucketOf
-words-bucket e n w0 w1 w2 w3 r b h0 h1 h2 h3 h = record {
-  is = h ∙ rw (b .is, h0 .is, h1 .is, h2 .is, h3 .is) refl;
-  below = rw h (mod-lt _ (lit< tt));
-}
+use Rattle.name_entries.specs.Buckets.{buckets, bucketOf, IsBucket}
+use Rattle.name_audit.specs.Chained.{bucketAt, Latest, Links, Chained, StandsBefore}
 
 -- every name from a place on differs from the name of a number, and the place before it is of the same bucket
 pub record Walked (bytes : List ℕ) (number place : ℕ) : Type 0 where

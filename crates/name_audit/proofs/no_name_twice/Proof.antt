@@ -1,4 +1,4 @@
--- `names::audit::no_name_twice` meets its contract. The loop's invariant: the names passed are sorted into buckets, and no two are the same.
+-- `name_audit::no_name_twice` meets its contract. The loop's invariant: the names passed are sorted into buckets, and no two are the same.
 use Prim.Native.Nat.{_-_, _≤_}
 use mathlib.Core.Path.{_≡_, refl}
 use native.Mathlib.Omega.{arith}
@@ -6,11 +6,11 @@ use borrow.Author.Needs.{needs}
 use lib.ListN.{length}
 use lib.ListN.{length-set}
 use Rattle.definitions.specs.Names.{mostNames}
 use Rattle.name_entries.specs.Buckets.{buckets}
 use Rattle.definitions.proofs.Deciding.{says-yes, says-no}
-use Rattle.name_entries.proofs.Chains.{Sorted, sorted-none, chained, sorted-more, once-all, twice-no}
-use Rattle.name_entries.proofs.audit.no_name_twice.Statement.{statement}
-use Rattle.name_entries.proofs.audit.no_name_twice.Tie as tie
+use Rattle.name_audit.proofs.Chains.{Sorted, sorted-none, chained, sorted-more, once-all, twice-no}
+use Rattle.name_audit.proofs.no_name_twice.Statement.{statement}
+use Rattle.name_audit.proofs.no_name_twice.Tie as tie
 
 abbrev Inv-loop : tie.InvT-loop
 Inv-loop entries count latest₀ before₀ i₀ latest before i = (i ≤ count) × (length latest ≡ buckets) × (length before ≡ mostNames) × Sorted entries i latest before

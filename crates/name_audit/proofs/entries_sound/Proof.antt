@@ -1,13 +1,13 @@
--- `names::audit::entries_sound` meets its contract. The loop's invariant: the entries passed are sound.
+-- `name_audit::entries_sound` meets its contract. The loop's invariant: the entries passed are sound.
 use Prim.Native.Nat.{_-_, _≤_}
 use native.Mathlib.Omega.{arith}
 use borrow.Author.Needs.{needs}
 use borrow.Author.Tests.{not-true, not-false}
 use Rattle.name_entries.specs.Sound.{EntriesSound}
 use Rattle.definitions.proofs.Deciding.{says-yes}
-use Rattle.name_entries.proofs.Auditing.{entry-bad, entry-good}
-use Rattle.name_entries.proofs.audit.entries_sound.Statement.{statement}
-use Rattle.name_entries.proofs.audit.entries_sound.Tie as tie
+use Rattle.name_audit.proofs.Auditing.{entry-bad, entry-good}
+use Rattle.name_audit.proofs.entries_sound.Statement.{statement}
+use Rattle.name_audit.proofs.entries_sound.Tie as tie
 
 abbrev Inv-loop : tie.InvT-loop
 Inv-loop entries count i₀ i = (i ≤ count) × EntriesSound entries i

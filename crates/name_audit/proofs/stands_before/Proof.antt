@@ -1,11 +1,11 @@
--- `names::audit::stands_before` meets its contract. The loop's invariant: every name from the place on differs; the place falls.
+-- `name_audit::stands_before` meets its contract. The loop's invariant: every name from the place on differs; the place falls.
 use mathlib.Core.Path.{sym, subst}
 use native.Mathlib.Omega.{arith}
 use borrow.Author.Needs.{needs}
 use Rattle.definitions.proofs.Deciding.{says-no}
-use Rattle.name_entries.proofs.Chains.{Walked, walk-starts, walk-goes-on, walk-ends, stands-here, stands-not, link-falls}
-use Rattle.name_entries.proofs.audit.stands_before.Statement.{statement}
-use Rattle.name_entries.proofs.audit.stands_before.Tie as tie
+use Rattle.name_audit.proofs.Chains.{Walked, walk-starts, walk-goes-on, walk-ends, stands-here, stands-not, link-falls}
+use Rattle.name_audit.proofs.stands_before.Statement.{statement}
+use Rattle.name_audit.proofs.stands_before.Tie as tie
 
 abbrev Inv-loop : tie.InvT-loop
 Inv-loop entries number before latest place₀ place = Walked entries number place
