@@ -7,6 +7,7 @@ mod calling;
 mod lists;
 mod showing;
 mod state;
+mod writing;
 
 use scripts::applying;
 use scripts::damage;
@@ -48,6 +49,10 @@ fn perform(
         lines::REPEAT | lines::LEND | lines::COUNTS => state::arrange(now, command, list),
         lines::LIST => {
             listing::list(nodes, slots, now.arena, list);
+            now
+        }
+        lines::WRITE => {
+            writing::write(nodes, slots, entries, now, list);
             now
         }
         lines::UNKNOWN => {

@@ -1,14 +1,14 @@
 use borrow.Author.Needs.{needs}
-use Prim.Native.Nat.{_-_, _≤_}
+use Prim.Native.Nat.{_-_}
 use lib.ListN.{length}
-use Rattle.writer_tests.proofs.lines.line_end.Statement.{statement}
-use Rattle.writer_tests.proofs.lines.line_end.Tie as tie
+use Rattle.call_tests.proofs.writing.untouched.Statement.{statement}
+use Rattle.call_tests.proofs.writing.untouched.Tie as tie
 
 abbrev Inv-loop : tie.InvT-loop
-Inv-loop input from at₀ at = (from ≤ at) × (at ≤ length input)
+Inv-loop buffer from i₀ i = Unit {0}
 
 abbrev μ-loop : tie.MeasureT-loop
-μ-loop input from at₀ at = length input - at
+μ-loop buffer from i₀ i = length buffer - i
 
 loop-holds : tie.Need-loop-holds Inv-loop μ-loop
 loop-holds c = search needs
@@ -19,8 +19,8 @@ shared-slice-read-if1 c = search needs
 returns : tie.Need-returns Inv-loop μ-loop
 returns c = search needs
 
-add-at : tie.Need-add-at Inv-loop μ-loop
-add-at c = search needs
+add-i : tie.Need-add-i Inv-loop μ-loop
+add-i c = search needs
 
 loop-less : tie.Need-loop-less Inv-loop μ-loop
 loop-less c = search needs
@@ -31,8 +31,8 @@ loop-again c = search needs
 returns-2 : tie.Need-returns-2 Inv-loop μ-loop
 returns-2 c = search needs
 
-pub line-end-spec : {M : Type 1} → statement M
-line-end-spec =
+pub untouched-spec : {M : Type 1} → statement M
+untouched-spec =
     tie.close
     (tie.spec
     Inv-loop
@@ -40,7 +40,7 @@ line-end-spec =
     loop-holds
     shared-slice-read-if1
     returns
-    add-at
+    add-i
     loop-less
     loop-again
     returns-2)
