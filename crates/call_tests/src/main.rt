@@ -2,13 +2,12 @@
 // title or says what the next commands show. Each line is written as it stands, and behind a command what it answers and leaves. What is
 // written is held to the file `stdout`; docs/ARCHITECTURE.md has the commands.
 ghost use Prim.Native.Nat.{_≤_};
-
-mod calling;
-mod lists;
-mod showing;
-mod state;
-mod writing;
-
+use script_calls::calling;
+use script_calls::lists;
+use script_calls::state;
+use script_calls::state::Now;
+use script_calls::state::at_first;
+use script_calls::writing;
 use scripts::applying;
 use scripts::damage;
 use scripts::lines;
@@ -20,8 +19,6 @@ use scripts::memory::WORDS;
 use scripts::memory::least;
 use scripts::memory::same;
 use scripts::printing::text;
-use state::Now;
-use state::at_first;
 
 // The bytes of the longest script.
 const SCRIPT_BYTES: usize = 262_144;

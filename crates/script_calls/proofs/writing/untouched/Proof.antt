@@ -1,8 +1,8 @@
 use borrow.Author.Needs.{needs}
 use Prim.Native.Nat.{_-_}
 use lib.ListN.{length}
-use Rattle.call_tests.proofs.writing.untouched.Statement.{statement}
-use Rattle.call_tests.proofs.writing.untouched.Tie as tie
+use Rattle.script_calls.proofs.writing.untouched.Statement.{statement}
+use Rattle.script_calls.proofs.writing.untouched.Tie as tie
 
 abbrev Inv-loop : tie.InvT-loop
 Inv-loop buffer from i₀ i = Unit {0}

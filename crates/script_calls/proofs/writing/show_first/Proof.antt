@@ -2,8 +2,8 @@ use mathlib.Core.Path.{sym}
 use lib.Seq.{length-take-le}
 use native.Mathlib.Omega.{arith}
 use borrow.Author.Needs.{needs}
-use Rattle.call_tests.proofs.writing.show_first.Statement.{statement}
-use Rattle.call_tests.proofs.writing.show_first.Tie as tie
+use Rattle.script_calls.proofs.writing.show_first.Statement.{statement}
+use Rattle.script_calls.proofs.writing.show_first.Tie as tie
 
 slice-aggregate-text : tie.Need-slice-aggregate-text
 slice-aggregate-text c = sym (length-take-le _ _ (omega arith))

@@ -9,9 +9,9 @@ use scripts::printing::text;
 use scripts::tokens::narrow;
 
 // The words of the longest list of calls.
-pub(crate) const LIST_WORDS: usize = 600;
+pub const LIST_WORDS: usize = 600;
 
-pub(crate) struct Now {
+pub struct Now {
     pub arena: DagArena,
     pub names: usize,
     // How many words, slots and bytes are lent.
@@ -25,7 +25,7 @@ pub(crate) struct Now {
     pub written: usize,
 }
 
-pub(crate) fn at_first() -> Now {
+pub fn at_first() -> Now {
     let arena = DagArena { count: 0, size: 0 };
     Now {
         arena,
@@ -40,14 +40,14 @@ pub(crate) fn at_first() -> Now {
 }
 
 // Other counts of the store.
-pub(crate) fn with_arena(now: Now, arena: DagArena) -> Now {
+pub fn with_arena(now: Now, arena: DagArena) -> Now {
     let mut after = now;
     after.arena = arena;
     after
 }
 
 // A fresh store, no names and no list.
-pub(crate) fn fresh(nodes: &[u64], slots: &mut [u32], now: Now) -> Now {
+pub fn fresh(nodes: &[u64], slots: &mut [u32], now: Now) -> Now {
     let mut after = now;
     let opened = builder::fresh(nodes, slots);
     let mut arena = DagArena { count: 0, size: 0 };
@@ -66,7 +66,7 @@ pub(crate) fn fresh(nodes: &[u64], slots: &mut [u32], now: Now) -> Now {
 }
 
 // Other counts, other lent sizes, or a number of turns.
-pub(crate) fn arrange(now: Now, command: u32, list: [u64; MOST_VALUES]) -> Now {
+pub fn arrange(now: Now, command: u32, list: [u64; MOST_VALUES]) -> Now {
     let mut after = now;
     match command {
         lines::COUNTS => {

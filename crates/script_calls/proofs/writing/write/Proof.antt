@@ -1,8 +1,8 @@
 use mathlib.Core.Path.{sym}
 use lib.Seq.{length-take-le}
 use borrow.Author.Needs.{needs}
-use Rattle.call_tests.proofs.writing.write.Statement.{statement}
-use Rattle.call_tests.proofs.writing.write.Tie as tie
+use Rattle.script_calls.proofs.writing.write.Statement.{statement}
+use Rattle.script_calls.proofs.writing.write.Tie as tie
 
 array-read-least : tie.Need-array-read-least
 array-read-least c = search needs

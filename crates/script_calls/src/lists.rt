@@ -49,7 +49,7 @@ fn show(replayed: Replayed) {
 }
 
 // Words put behind the list, which is then run whole on a fresh store.
-pub(crate) fn replay(
+pub fn replay(
     nodes: &mut [u64],
     slots: &mut [u32],
     entries: &mut [u8],

@@ -2,8 +2,8 @@ use Prim.Native.Nat.{_-_, _≤_}
 use mathlib.Core.Path.{_≡_}
 use lib.ListN.{length}
 use borrow.Author.Needs.{needs}
-use Rattle.call_tests.proofs.calling.narrowed.Statement.{statement}
-use Rattle.call_tests.proofs.calling.narrowed.Tie as tie
+use Rattle.script_calls.proofs.calling.narrowed.Statement.{statement}
+use Rattle.script_calls.proofs.calling.narrowed.Tie as tie
 
 abbrev Inv-loop : tie.InvT-loop
 Inv-loop list words₀ i₀ words i = (i ≤ 8194) × (length words ≡ 8194)

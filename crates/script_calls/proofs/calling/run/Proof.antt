@@ -2,8 +2,8 @@ use Prim.Native.Nat.{_-_}
 use mathlib.Core.Path.{_≡_}
 use lib.ListN.{length}
 use borrow.Author.Needs.{needs}
-use Rattle.call_tests.proofs.calling.run.Statement.{statement}
-use Rattle.call_tests.proofs.calling.run.Tie as tie
+use Rattle.script_calls.proofs.calling.run.Statement.{statement}
+use Rattle.script_calls.proofs.calling.run.Tie as tie
 
 abbrev Inv-loop : tie.InvT-loop
 Inv-loop nodes₀ slots₀ entries₀ now line code last₀ turn₀ nodes slots entries last turn = (length nodes ≡ length nodes₀) × (length slots ≡ length slots₀) × (length entries ≡ length entries₀)

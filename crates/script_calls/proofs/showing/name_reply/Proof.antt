@@ -1,8 +1,8 @@
 use lib.ListN.{length-take}
 use native.Mathlib.Omega.{arith}
 use borrow.Author.Needs.{needs}
-use Rattle.call_tests.proofs.showing.name_reply.Statement.{statement}
-use Rattle.call_tests.proofs.showing.name_reply.Tie as tie
+use Rattle.script_calls.proofs.showing.name_reply.Statement.{statement}
+use Rattle.script_calls.proofs.showing.name_reply.Tie as tie
 
 enum-known-answer : tie.Need-enum-known-answer
 enum-known-answer c = search needs

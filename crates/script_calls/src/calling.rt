@@ -112,7 +112,7 @@ fn call(
 }
 
 // The call of a line, as often as asked for; the answer of the last is shown.
-pub(crate) fn run(
+pub fn run(
     nodes: &mut [u64],
     slots: &mut [u32],
     entries: &mut [u8],

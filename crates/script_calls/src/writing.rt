@@ -63,13 +63,7 @@ fn write_to(
 }
 
 // A node's text, in a buffer of so many bytes.
-pub(crate) fn write(
-    nodes: &[u64],
-    slots: &[u32],
-    entries: &[u8],
-    now: Now,
-    list: [u64; MOST_VALUES],
-) {
+pub fn write(nodes: &[u64], slots: &[u32], entries: &[u8], now: Now, list: [u64; MOST_VALUES]) {
     let mut buffer = [FILLING; BUFFER];
     let size = least(list[2] as usize, BUFFER);
     write_to(
