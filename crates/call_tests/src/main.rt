@@ -2,12 +2,12 @@
 // title or says what the next commands show. Each line is written as it stands, and behind a command what it answers and leaves. What is
 // written is held to the file `stdout`; docs/ARCHITECTURE.md has the commands.
 ghost use Prim.Native.Nat.{_≤_};
-
-mod calling;
-mod lists;
-mod showing;
-mod state;
-
+use script_calls::calling;
+use script_calls::lists;
+use script_calls::state;
+use script_calls::state::Now;
+use script_calls::state::at_first;
+use script_calls::writing;
 use scripts::applying;
 use scripts::damage;
 use scripts::lines;
@@ -19,8 +19,6 @@ use scripts::memory::WORDS;
 use scripts::memory::least;
 use scripts::memory::same;
 use scripts::printing::text;
-use state::Now;
-use state::at_first;
 
 // The bytes of the longest script.
 const SCRIPT_BYTES: usize = 262_144;
@@ -48,6 +46,10 @@ fn perform(
         lines::REPEAT | lines::LEND | lines::COUNTS => state::arrange(now, command, list),
         lines::LIST => {
             listing::list(nodes, slots, now.arena, list);
+            now
+        }
+        lines::WRITE => {
+            writing::write(nodes, slots, entries, now, list);
             now
         }
         lines::UNKNOWN => {

@@ -1,5 +1,6 @@
 // Lists many sheets in one run, for oracle/compare: each frame of standard input holds a sheet, and a frame with its listing is
-// written to standard output. A frame is a length of 4 bytes, big-endian, then that many bytes.
+// written to standard output. A frame is a length of 4 bytes, big-endian, then that many bytes. `oracle/vectors` writes the files `stdin`
+// and `stdout`: listings of the independent checker, and inside 01's domain of the Rust original.
 ghost use Prim.Native.Nat.{_<_};
 use libc::STDIN_FILENO;
 use libc::STDOUT_FILENO;

@@ -1,107 +1,58 @@
-// Lines that no run of the listing program shows. The first nine are first lines with numbers of up to 20 digits; then come the
-// lines of a store's four nodes; then 4 for an id not below the count, and 20 for a count that is not the store's.
-use arena::DagArena;
-use arena::NODE_WORDS;
-use builder::FreshStore;
-use libc::STDOUT_FILENO;
-use listing_lines::LINE_BYTES;
-use listing_lines::Line;
-use listing_lines::LineFound;
-use listing_lines::SheetOutcome;
-use listing_lines::first_line;
+// Runs the lines of standard input. A line is a letter, a blank and an input; numbers are hexadecimal:
+//   | WORDS          what the next lines show, printed as they are
+//   t TEXT           a text's listing, on fresh lists of 512 nodes, 1,024 slots and 128 names
+//   s BYTES          a sheet's records in order, then `.` at the end, `?` at a malformed record, or `refused` where it is no sheet; behind
+//                    `N:` stands the byte of the place N, after bytes that are 0
+//   l LISTING        a listing read back, `/` for a line feed: the first line's outcome and the count of nodes, then the words of each node,
+//                    or the number of the line that is wrong, or `full`
+//   f FORM N M       a first line: 0 `ok`, 1 `ok -`, 2 `spent`, 3 `refused` with the numbers
+//   n ID COUNT       a node's line, in a store of four nodes that is taken for one of COUNT; or a refusal
+// The file `stdout` has what 01 and 02 ask for.
+mod bodies;
+mod lines;
+mod listings;
+mod nodes;
+mod printing;
+mod sheets;
+mod texts;
 
-// A store of 8 nodes and 64 slots.
-// Words for eight nodes.
-const WORDS: usize = 8 * NODE_WORDS;
+use libc::STDIN_FILENO;
+use lines::line_end;
+use printing::text;
 
-const SLOTS: usize = 64;
+const INPUT_BYTES: usize = 65_536;
 
-fn print_line(line: Line) {
-    let bytes = line.bytes;
-    let length = line.length;
-    if LINE_BYTES < length {
+// A line.
+fn run_line(line: &[u8]) {
+    if line.len() < 2 {
         return;
     }
-    io::write_all(STDOUT_FILENO, &bytes[..length]);
-}
-
-fn print_first(outcome: SheetOutcome) {
-    print_line(first_line(outcome));
-}
-
-fn first_lines() {
-    print_first(SheetOutcome::Ok(0));
-    print_first(SheetOutcome::Ok(65_535));
-    print_first(SheetOutcome::Ok(1_000_000));
-    print_first(SheetOutcome::Ok(u64::MAX));
-    print_first(SheetOutcome::Empty);
-    print_first(SheetOutcome::Spent(9));
-    print_first(SheetOutcome::Spent(10));
-    print_first(SheetOutcome::Refused {
-        number: 3,
-        at: 1_024,
-    });
-    print_first(SheetOutcome::Refused {
-        number: u64::MAX,
-        at: 99,
-    });
-}
-
-fn print_node(nodes: &[u64], slots: &[u32], arena: DagArena, id: u32) {
-    let asked = listing_lines::node_line(nodes, slots, arena, id);
-    let answer = asked.answer;
-    match answer {
-        LineFound::Line => {
-            let line = asked.line;
-            print_line(line);
-        }
-        LineFound::Refused(number) => {
-            io::print_decimal(STDOUT_FILENO, number);
-            io::write_all(STDOUT_FILENO, b"\n");
+    let letter = line[0];
+    match letter {
+        b't' => texts::print_listing(&line[2..]),
+        b's' => sheets::show(line),
+        b'l' => listings::show(&line[2..]),
+        b'f' => nodes::print_first(lines::numbers(line)),
+        b'n' => nodes::print_node(lines::numbers(line)),
+        _ => {
+            text(line);
+            text(b"\n");
         }
     }
 }
 
-fn build_leaves(nodes: &mut [u64], slots: &mut [u32], arena: DagArena) -> DagArena {
-    let one = builder::variable(nodes, slots, arena, u32::MAX).arena;
-    builder::constant(nodes, slots, one, 0xfedc_ba98_7654_3210).arena
-}
-
-fn build_over(nodes: &mut [u64], slots: &mut [u32], arena: DagArena) -> DagArena {
-    let three = builder::add(nodes, slots, arena, 0, 1).arena;
-    builder::for_loop(nodes, slots, three, 2, 1, 0, 2).arena
-}
-
-fn print_nodes(nodes: &[u64], slots: &[u32], arena: DagArena) {
-    print_node(nodes, slots, arena, 0);
-    print_node(nodes, slots, arena, 1);
-    print_node(nodes, slots, arena, 2);
-    print_node(nodes, slots, arena, 3);
-    print_node(nodes, slots, arena, 4);
-    let fewer = DagArena {
-        count: 1,
-        size: SLOTS,
-    };
-    print_node(nodes, slots, fewer, 0);
-}
-
-fn node_lines() {
-    let mut nodes = [0; WORDS];
-    let mut slots = [0; SLOTS];
-    let fresh = builder::fresh(&nodes, &mut slots);
-    match fresh {
-        FreshStore::Store(arena) => {
-            let two = build_leaves(&mut nodes, &mut slots, arena);
-            let four = build_over(&mut nodes, &mut slots, two);
-            print_nodes(&nodes, &slots, four);
-        }
-        FreshStore::Refused(number) => {
-            io::print_decimal(STDOUT_FILENO, number);
-        }
+// All lines.
+fn run(input: &[u8]) {
+    let mut at: usize = 0;
+    while at < input.len() {
+        let end = line_end(input, at);
+        run_line(&input[at..end]);
+        at = end + 1;
     }
 }
 
 fn main() {
-    first_lines();
-    node_lines();
+    let mut input = [0u8; INPUT_BYTES];
+    let length = io::read_full(STDIN_FILENO, &mut input);
+    run(&input[..length]);
 }

@@ -34,8 +34,10 @@ pub const REFILL: u32 = 35;
 
 pub const WORD: u32 = 36;
 
+pub const WRITE: u32 = 38;
+
 // What is no command.
-pub const UNKNOWN: u32 = 38;
+pub const UNKNOWN: u32 = 39;
 
 // The numbers of a line at most, or the bytes of a text: one more than a text may have, and what stands before it.
 pub const MOST_VALUES: usize = 8_194;
@@ -105,7 +107,7 @@ fn word_number(text: &[u8], line: &[u8]) -> u32 {
 // The command of a line.
 pub fn command(line: &[u8]) -> u32 {
     word_number(
-        b" variable constant add sub mul div pow modulo neg operator function select if_else for_loop control simplify prune prune_by_setting simplify_strictly intern lookup name_of read repeat fresh apply replay lend counts list set_word set_slot set_byte fill rehash refill word slot ",
+        b" variable constant add sub mul div pow modulo neg operator function select if_else for_loop control simplify prune prune_by_setting simplify_strictly intern lookup name_of read repeat fresh apply replay lend counts list set_word set_slot set_byte fill rehash refill word slot write ",
         line,
     )
 }

@@ -13,7 +13,7 @@ use libc::STDOUT_FILENO;
 const PAYLOAD_DIGITS: usize = 16;
 
 // More ids than a script's store has.
-const MOST_LISTED: u64 = 2_000;
+const MOST_LISTED: u64 = 10_000;
 
 // The children of a node.
 fn children(places: [u64; MOST_CHILDREN], arity: u64) {

@@ -1,10 +1,10 @@
 // The memory of a script.
 ghost use Prim.Native.Nat.{_≤_};
 
-// All that can be lent: 1,675 nodes, 4,096 slots and 124 names.
-pub const WORDS: usize = 36_864;
+// All that can be lent: 8,936 nodes, 16,384 slots and 124 names.
+pub const WORDS: usize = 196_608;
 
-pub const SLOTS: usize = 4_096;
+pub const SLOTS: usize = 16_384;
 
 pub const BYTES: usize = 4_096;
 

@@ -1,5 +1,5 @@
 //! The scripts of crates/call_tests, run on the checker: it must write what the port writes. What the checker has no part for
-//! (`apply`, `replay` and `read`) is passed over, with what follows up to the next `fresh`.
+//! (`apply`, `replay`, `read` and `write`) is passed over, with what follows up to the next `fresh`.
 
 use std::fmt::Write;
 use std::fs::read_to_string;
@@ -7,8 +7,8 @@ use std::fs::read_to_string;
 use checker::{Call, CallAnswer, LentNames, LentStore, Mode, NAME_BYTES, Refusal, WORDS_PER_NODE, call, fnv_1a, sound};
 
 const FOLDER: &str = concat!(env!("CARGO_MANIFEST_DIR"), "/../../crates/call_tests");
-const WORDS: usize = 36_864;
-const SLOTS: usize = 4_096;
+const WORDS: usize = 196_608;
+const SLOTS: usize = 16_384;
 const BYTES: usize = 4_096;
 const ENTRY_BYTES: usize = NAME_BYTES + 1;
 
@@ -254,7 +254,7 @@ impl Memory {
             "set_byte" => self.bytes[places()[0]] = numbers()[1] as u8,
             "rehash" => self.rehash(places()[0]),
             "refill" => self.refill(places()[0], places()[1]),
-            "apply" | "replay" | "read" => self.is_known = false,
+            "apply" | "replay" | "read" | "write" => self.is_known = false,
             _ => return self.call(command, rest),
         }
         String::new()

@@ -1,15 +1,20 @@
-//! vectors FILE [DRIVER]: writes the fixed sample with expected listings.
+//! vectors FOLDER [DRIVER]: writes the fixed sample of sheets to FOLDER/stdin
+//! and their listings to FOLDER/stdout, each in a frame.
 //!
 //! The checker gives the listings; the driver, if there is one, must give the
 //! same for every sheet that is inside the domain.
 
-use std::fs;
+use std::fs::File;
+use std::io::{self, BufWriter, Write};
+use std::path::Path;
 use std::process::ExitCode;
 
 use checker::{answer, outside, run};
 use generator::{Mode, examples, sheet};
 
 const SEED: u64 = 20_261;
+/// Sheets behind the first example: no byte, and no record.
+const SHORTEST: [&[u8]; 2] = [b"", b"\x01"];
 /// Groups after the examples: mode, sheets, and the most bytes of a sheet
 /// with its listing.
 const GROUPS: [(Mode, usize, usize); 5] = [
@@ -22,11 +27,11 @@ const GROUPS: [(Mode, usize, usize); 5] = [
 
 fn main() -> ExitCode {
     let arguments: Vec<String> = std::env::args().skip(1).collect();
-    let (file, driver) = match &arguments[..] {
-        [file] => (file, None),
-        [file, driver] => (file, Some(driver)),
+    let (folder, driver) = match &arguments[..] {
+        [folder] => (folder, None),
+        [folder, driver] => (folder, Some(driver)),
         _ => {
-            eprintln!("usage: vectors FILE [DRIVER]");
+            eprintln!("usage: vectors FOLDER [DRIVER]");
             return ExitCode::FAILURE;
         }
     };
@@ -36,17 +41,20 @@ fn main() -> ExitCode {
     {
         return ExitCode::FAILURE;
     }
-    if let Err(error) = fs::write(file, file_bytes(&sheets)) {
-        eprintln!("{file}: {error}");
+    if let Err(error) = write_files(Path::new(folder), &sheets) {
+        eprintln!("{folder}: {error}");
         return ExitCode::FAILURE;
     }
     println!("sheets: {}", sheets.len());
     ExitCode::SUCCESS
 }
 
-/// The examples, then the groups.
+/// The first example and the shortest sheets, all examples, then the groups.
 fn sample() -> Vec<Vec<u8>> {
-    let mut sheets = examples();
+    let examples = examples();
+    let mut sheets = vec![examples[0].clone()];
+    sheets.extend(SHORTEST.map(<[u8]>::to_vec));
+    sheets.extend(examples);
     for (mode, count, bytes_maximum) in GROUPS {
         let fits = |sheet: &Vec<u8>| sheet.len() + answer(sheet, false).len() <= bytes_maximum;
         sheets.extend((0..).map(|number| sheet(mode, SEED, number)).filter(fits).take(count));
@@ -54,18 +62,20 @@ fn sample() -> Vec<Vec<u8>> {
     sheets
 }
 
-/// Length (2 bytes) and bytes of a sheet, length (4 bytes) and bytes of its
-/// listing, big-endian, one after the other.
-fn file_bytes(sheets: &[Vec<u8>]) -> Vec<u8> {
-    let mut bytes = Vec::new();
-    for sheet in sheets {
-        let listing = answer(sheet, false);
-        bytes.extend((sheet.len() as u16).to_be_bytes());
-        bytes.extend(sheet);
-        bytes.extend((listing.len() as u32).to_be_bytes());
-        bytes.extend(listing);
+/// The sheets and their listings.
+fn write_files(folder: &Path, sheets: &[Vec<u8>]) -> io::Result<()> {
+    let listings: Vec<Vec<u8>> = sheets.iter().map(|sheet| answer(sheet, false)).collect();
+    write_frames(&folder.join("stdin"), sheets)?;
+    write_frames(&folder.join("stdout"), &listings)
+}
+
+/// A frame for each, one after the other.
+fn write_frames(file: &Path, parts: &[Vec<u8>]) -> io::Result<()> {
+    let mut output = BufWriter::new(File::create(file)?);
+    for part in parts {
+        batch::write_frame(&mut output, part)?;
     }
-    bytes
+    output.flush()
 }
 
 /// Whether the driver gives the checker's listing for every sheet inside the

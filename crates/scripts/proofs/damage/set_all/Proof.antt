@@ -9,7 +9,7 @@ abbrev Inv-loop : tie.InvT-loop
 Inv-loop nodes₀ slots₀ entries₀ value i₀ nodes slots entries i = (length nodes ≡ length nodes₀) × (length slots ≡ length slots₀) × (length entries ≡ length entries₀)
 
 abbrev μ-loop : tie.MeasureT-loop
-μ-loop nodes₀ slots₀ entries₀ value i₀ nodes slots entries i = 36864 - i
+μ-loop nodes₀ slots₀ entries₀ value i₀ nodes slots entries i = 196608 - i
 
 loop-holds : tie.Need-loop-holds Inv-loop μ-loop
 loop-holds c = search needs

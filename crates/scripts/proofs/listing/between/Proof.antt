@@ -7,7 +7,7 @@ abbrev Inv-loop : tie.InvT-loop
 Inv-loop nodes slots arena from end id₀ id = Unit {0}
 
 abbrev μ-loop : tie.MeasureT-loop
-μ-loop nodes slots arena from end id₀ id = 2000 - id
+μ-loop nodes slots arena from end id₀ id = 10000 - id
 
 loop-holds : tie.Need-loop-holds Inv-loop μ-loop
 loop-holds c = tt

@@ -7,7 +7,7 @@ abbrev Inv-loop : tie.InvT-loop
 Inv-loop nodes nodes-before slots slots-before entries entries-before i₀ i = Unit {0}
 
 abbrev μ-loop : tie.MeasureT-loop
-μ-loop nodes nodes-before slots slots-before entries entries-before i₀ i = 36864 - i
+μ-loop nodes nodes-before slots slots-before entries entries-before i₀ i = 196608 - i
 
 loop-holds : tie.Need-loop-holds Inv-loop μ-loop
 loop-holds c = tt

@@ -1,0 +1,21 @@
+use mathlib.Core.Path.{sym}
+use lib.Seq.{length-take-le}
+use native.Mathlib.Omega.{arith}
+use borrow.Author.Needs.{needs}
+use Rattle.script_calls.proofs.writing.show_first.Statement.{statement}
+use Rattle.script_calls.proofs.writing.show_first.Tie as tie
+
+slice-aggregate-text : tie.Need-slice-aggregate-text
+slice-aggregate-text c = sym (length-take-le _ _ (omega arith))
+
+text-requires : tie.Need-text-requires
+text-requires c κs = search needs
+
+returns : tie.Need-returns
+returns c = search needs
+
+returns-2 : tie.Need-returns-2
+returns-2 c = search needs
+
+pub show-first-spec : {M : Type 1} → statement M
+show-first-spec = tie.close (tie.spec slice-aggregate-text text-requires returns returns-2)
