@@ -4,8 +4,8 @@ use mathlib.Core.Path.{_≡_, _∙_}
 use lib.ListN.{length, length-set}
 use native.Mathlib.Omega.{arith}
 use borrow.Author.Needs.{needs}
-use Rattle.scripts.proofs.filling.clear.Statement.{statement}
-use Rattle.scripts.proofs.filling.clear.Tie as tie
+use Rattle.script_store.proofs.filling.clear.Statement.{statement}
+use Rattle.script_store.proofs.filling.clear.Tie as tie
 
 abbrev Inv-loop : tie.InvT-loop
 Inv-loop slots₀ i₀ slots i = (i ≤ length slots₀) × (length slots ≡ length slots₀)

@@ -2,8 +2,8 @@
 use Prim.Native.Nat.{_-_, _≤_}
 use borrow.Author.Needs.{needs}
 use Rattle.arena.specs.Layout.{mostChildren}
-use Rattle.scripts.proofs.listing.children.Statement.{statement}
-use Rattle.scripts.proofs.listing.children.Tie as tie
+use Rattle.script_store.proofs.listing.children.Statement.{statement}
+use Rattle.script_store.proofs.listing.children.Tie as tie
 
 abbrev Inv-loop : tie.InvT-loop
 Inv-loop arity places j₀ j = j ≤ mostChildren

@@ -1,11 +1,11 @@
 // Words, slots and bytes, shown and set.
 use crate::filling::fill;
 use crate::filling::rehash;
-use crate::lines;
-use crate::lines::MOST_VALUES;
-use crate::memory::WORDS;
-use crate::printing::number;
-use crate::tokens::narrow;
+use scripts::lines;
+use scripts::lines::MOST_VALUES;
+use scripts::memory::WORDS;
+use scripts::printing::number;
+use scripts::tokens::narrow;
 
 // How many values a byte has.
 const BYTE_VALUES: u64 = 256;

@@ -1,7 +1,7 @@
 use Prim.Native.Nat.{_-_}
 use borrow.Author.Needs.{needs}
-use Rattle.scripts.proofs.listing.between.Statement.{statement}
-use Rattle.scripts.proofs.listing.between.Tie as tie
+use Rattle.script_store.proofs.listing.between.Statement.{statement}
+use Rattle.script_store.proofs.listing.between.Tie as tie
 
 abbrev Inv-loop : tie.InvT-loop
 Inv-loop nodes slots arena from end id₀ id = Unit {0}

@@ -3,10 +3,10 @@ use mathlib.Core.Path.{sym}
 use lib.Seq.{length-take-le}
 use native.Mathlib.Omega.{arith}
 use borrow.Author.Tests.{not-false}
-use Rattle.scripts.proofs.Operands.{operands}
+use Rattle.script_store.proofs.Operands.{operands}
 use borrow.Author.Needs.{needs}
-use Rattle.scripts.proofs.applying.apply.Statement.{statement}
-use Rattle.scripts.proofs.applying.apply.Tie as tie
+use Rattle.script_store.proofs.applying.apply.Statement.{statement}
+use Rattle.script_store.proofs.applying.apply.Tie as tie
 
 array-read-kind : tie.Need-array-read-kind
 array-read-kind c = search needs

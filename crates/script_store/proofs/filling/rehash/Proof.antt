@@ -5,8 +5,8 @@ use lib.ListN.{length}
 use native.Mathlib.Omega.{arith}
 use borrow.Author.Needs.{needs}
 use Rattle.arena.specs.Layout.{nodeWords}
-use Rattle.scripts.proofs.filling.rehash.Statement.{statement}
-use Rattle.scripts.proofs.filling.rehash.Tie as tie
+use Rattle.script_store.proofs.filling.rehash.Statement.{statement}
+use Rattle.script_store.proofs.filling.rehash.Tie as tie
 
 abbrev Inv-loop : tie.InvT-loop
 Inv-loop nodes₀ count id₀ nodes id = (id ≤ count) × (count ≤ length nodes / nodeWords) × (length nodes ≡ length nodes₀)

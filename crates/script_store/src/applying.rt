@@ -1,16 +1,16 @@
 // The patterns, by themselves.
 ghost use mathlib.Core.Path.{_≡_};
 ghost use mathlib.Core.Bool.{true};
-ghost use Rattle.scripts.specs.Ready.{Ready};
-use crate::lines::MOST_VALUES;
+ghost use Rattle.script_store.specs.Ready.{Ready};
 use crate::listing::between;
-use crate::printing::number;
-use crate::printing::refused;
-use crate::printing::text;
 use arena::DagArena;
 use definitions::MOST_CHILDREN;
 use definitions::mode::Mode;
 use patterns::Matched;
+use scripts::lines::MOST_VALUES;
+use scripts::printing::number;
+use scripts::printing::refused;
+use scripts::printing::text;
 
 // Whether the store is sound and two ids are below its count.
 fn ready(nodes: &[u64], slots: &[u32], arena: DagArena, lhs: u64, rhs: u64) -> bool

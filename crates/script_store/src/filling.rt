@@ -35,7 +35,7 @@ fn place(slots: &mut [u32], size: usize, hash: u64, value: u32) {
 }
 
 // A table of a size with the slots of the first nodes, by the hashes in their words.
-pub fn fill(nodes: &[u64], slots: &mut [u32], size: usize, count: u32) {
+pub(crate) fn fill(nodes: &[u64], slots: &mut [u32], size: usize, count: u32) {
     if nodes.len() / NODE_WORDS < count as usize {
         return;
     }
@@ -61,7 +61,7 @@ fn hash_at(nodes: &[u64], id: u32) -> u64 {
 }
 
 // The hash words of the first nodes, by their other words.
-pub fn rehash(nodes: &mut [u64], count: u32) {
+pub(crate) fn rehash(nodes: &mut [u64], count: u32) {
     if nodes.len() / NODE_WORDS < count as usize {
         return;
     }

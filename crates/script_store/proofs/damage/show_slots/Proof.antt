@@ -1,7 +1,7 @@
 use Prim.Native.Nat.{_-_}
 use borrow.Author.Needs.{needs}
-use Rattle.scripts.proofs.damage.show_slots.Statement.{statement}
-use Rattle.scripts.proofs.damage.show_slots.Tie as tie
+use Rattle.script_store.proofs.damage.show_slots.Statement.{statement}
+use Rattle.script_store.proofs.damage.show_slots.Tie as tie
 
 abbrev Inv-loop : tie.InvT-loop
 Inv-loop slots from end at₀ at = Unit {0}

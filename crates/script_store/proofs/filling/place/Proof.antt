@@ -5,8 +5,8 @@ use lib.ListN.{length}
 use native.Mathlib.Omega.{arith}
 use native.Mathlib.Nat.{mod-lt}
 use borrow.Author.Needs.{needs}
-use Rattle.scripts.proofs.filling.place.Statement.{statement}
-use Rattle.scripts.proofs.filling.place.Tie as tie
+use Rattle.script_store.proofs.filling.place.Statement.{statement}
+use Rattle.script_store.proofs.filling.place.Tie as tie
 
 abbrev Inv-loop : tie.InvT-loop
 Inv-loop slots₀ size hash value at₀ passed₀ slots at passed = (passed ≤ size) × (at < size) × (size ≤ length slots) × (length slots ≡ length slots₀)

@@ -2,8 +2,8 @@ use Prim.Native.Nat.{_-_}
 use mathlib.Core.Path.{_≡_}
 use lib.ListN.{length}
 use borrow.Author.Needs.{needs}
-use Rattle.scripts.proofs.damage.set_all.Statement.{statement}
-use Rattle.scripts.proofs.damage.set_all.Tie as tie
+use Rattle.script_store.proofs.damage.set_all.Statement.{statement}
+use Rattle.script_store.proofs.damage.set_all.Tie as tie
 
 abbrev Inv-loop : tie.InvT-loop
 Inv-loop nodes₀ slots₀ entries₀ value i₀ nodes slots entries i = (length nodes ≡ length nodes₀) × (length slots ≡ length slots₀) × (length entries ≡ length entries₀)

@@ -5,8 +5,8 @@ use lib.ListN.{length}
 use native.Mathlib.Omega.{arith}
 use borrow.Author.Needs.{needs}
 use Rattle.arena.specs.Layout.{nodeWords}
-use Rattle.scripts.proofs.filling.fill.Statement.{statement}
-use Rattle.scripts.proofs.filling.fill.Tie as tie
+use Rattle.script_store.proofs.filling.fill.Statement.{statement}
+use Rattle.script_store.proofs.filling.fill.Tie as tie
 
 abbrev Inv-loop : tie.InvT-loop
 Inv-loop nodes slots₀ size count id₀ slots id = (id ≤ count) × (count ≤ length nodes / nodeWords) × (length slots ≡ length slots₀)

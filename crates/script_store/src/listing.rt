@@ -1,13 +1,13 @@
 // Nodes as they are read back.
 ghost use Prim.Native.Nat.{_≤_, _<_};
-use crate::lines::MOST_VALUES;
-use crate::printing::number;
-use crate::printing::refused;
-use crate::printing::text;
 use arena::DagArena;
 use builder::NodeFound;
 use definitions::MOST_CHILDREN;
 use libc::STDOUT_FILENO;
+use scripts::lines::MOST_VALUES;
+use scripts::printing::number;
+use scripts::printing::refused;
+use scripts::printing::text;
 
 // The hexadecimal digits of a payload.
 const PAYLOAD_DIGITS: usize = 16;

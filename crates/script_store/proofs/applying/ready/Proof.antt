@@ -1,8 +1,8 @@
 use mathlib.Core.Bool.{false≢true}
 use borrow.Author.Needs.{needs}
 use borrow.Author.Tests.{not-false, ltb-true}
-use Rattle.scripts.proofs.applying.ready.Statement.{statement}
-use Rattle.scripts.proofs.applying.ready.Tie as tie
+use Rattle.script_store.proofs.applying.ready.Statement.{statement}
+use Rattle.script_store.proofs.applying.ready.Tie as tie
 
 audit-requires : tie.Need-audit-requires
 audit-requires c κs = search needs

@@ -8,7 +8,7 @@ use native.Mathlib.Omega.{arith}
 use Rattle.definitions.specs.Limits.{mostChildren}
 use Rattle.arena.specs.declared.DagArena.{DagArena}
 use Rattle.patterns.specs.Applied.{Operands}
-use Rattle.scripts.specs.Ready.{Ready}
+use Rattle.script_store.specs.Ready.{Ready}
 
 module _ {w slots : List ℕ} {s : DagArena} {lhs rhs : ℕ} (r : Ready w slots s lhs rhs) where
   -- one id, and another in all places after it
