@@ -15,9 +15,9 @@ use definitions::refusals::NO_NODE_PLACE;
 use definitions::refusals::NO_SLOT_PLACE;
 use probing::Place;
 use probing::search;
-use probing::slot_id;
 use slots::load_limit;
 use slots::rehash;
+use slots::slot_id;
 
 // The id of an old node or of a new one, or the number of a refusal.
 pub enum Insertion {

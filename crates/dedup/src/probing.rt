@@ -1,6 +1,6 @@
 // The search for a key: where its node is, or where a new one goes.
 ghost use mathlib.Core.Path.{_≡_};
-ghost use Prim.Native.Nat.{_-_, _^_, _<_};
+ghost use Prim.Native.Nat.{_^_, _<_};
 ghost use Rattle.definitions.specs.Says.{Says};
 ghost use Rattle.arena.specs.Node.{nodeOf, Key};
 ghost use Rattle.arena.specs.Nodes.{AllWellFormed};
@@ -12,20 +12,13 @@ use arena::NODE_WORDS;
 use arena::has_parts;
 use slots::free_place;
 use slots::modulo_size;
+use slots::slot_id;
 
 // Where a search ends: at a slot that holds the key's node, at an empty one, or at none.
 pub enum Place {
     Here(usize),
     Free(usize),
     Nowhere,
-}
-
-// The id that a slot in use holds.
-pub(crate) fn slot_id(slot: u32) -> u64
-    requires { ⌜ 0 < slot ⌝ }
-    ensures { λ r. ⌜ r ≡ slot - 1 ⌝ }
-{
-    (slot - 1) as u64
 }
 
 // The greatest of a key's children, 0 if it has none.
