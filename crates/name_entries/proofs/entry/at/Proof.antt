@@ -1,4 +1,4 @@
--- `names::entry::at` meets its contract: the part of the lent bytes is the entry of the number.
+-- `name_entries::entry::at` meets its contract: the part of the lent bytes is the entry of the number.
 use borrow.Author.Needs.{needs}
 use Rattle.name_entries.proofs.Entries.{entry-part}
 use Rattle.name_entries.proofs.entry.at.Statement.{statement}

@@ -1,4 +1,4 @@
--- `names::entry::bucket` meets its contract: the words read are those that the definition sums.
+-- `name_entries::entry::bucket` meets its contract: the words read are those that the definition sums.
 use mathlib.Core.Path.{refl}
 use borrow.Author.Needs.{needs}
 use Rattle.name_entries.proofs.Bucketing.{words-bucket}

@@ -1,4 +1,4 @@
--- `names::entry::name_bytes` meets its contract. The loop's invariant: the first i bytes are those after the length byte.
+-- `name_entries::entry::name_bytes` meets its contract. The loop's invariant: the first i bytes are those after the length byte.
 use Prim.Native.Nat.{_-_, _≤_}
 use mathlib.Core.Path.{_≡_, refl}
 use native.Mathlib.Omega.{arith}

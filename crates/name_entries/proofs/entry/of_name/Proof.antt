@@ -1,4 +1,4 @@
--- `names::entry::of_name` meets its contract. The loop's invariant: the first i bytes of the name stand after the length byte.
+-- `name_entries::entry::of_name` meets its contract. The loop's invariant: the first i bytes of the name stand after the length byte.
 use Prim.Native.Nat.{_-_, _≤_}
 use mathlib.Core.Path.{_≡_, refl}
 use native.Mathlib.Omega.{arith}

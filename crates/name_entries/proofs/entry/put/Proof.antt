@@ -1,4 +1,4 @@
--- `names::entry::put` meets its contract. The loop's invariant: the first i bytes of the entry stand at its place.
+-- `name_entries::entry::put` meets its contract. The loop's invariant: the first i bytes of the entry stand at its place.
 use Prim.Native.Nat.{_-_, _*_, _≤_}
 use mathlib.Core.Path.{_≡_, refl}
 use native.Mathlib.Omega.{arith}

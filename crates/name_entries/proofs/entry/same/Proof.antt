@@ -1,4 +1,4 @@
--- `names::entry::same` meets its contract. The loop's invariant: the bytes of the words passed agree.
+-- `name_entries::entry::same` meets its contract. The loop's invariant: the bytes of the words passed agree.
 use Prim.Native.Nat.{_+_, _-_, _*_, _≤_}
 use native.Mathlib.Omega.{arith}
 use borrow.Author.Needs.{needs}

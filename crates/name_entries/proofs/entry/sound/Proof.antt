@@ -1,4 +1,4 @@
--- `names::entry::sound` meets its contract. The loop's invariant: the unused bytes passed are 0.
+-- `name_entries::entry::sound` meets its contract. The loop's invariant: the unused bytes passed are 0.
 use Prim.Native.Nat.{ℕ, _-_, _≤_, _<_}
 use mathlib.Core.Path.{_≡_}
 use native.Mathlib.Omega.{arith}
