@@ -1,8 +1,8 @@
 // What a record's body is printed as.
-use crate::printing::number;
-use crate::printing::text;
 use definitions::mode::Mode;
 use records::Body;
+use scripts::printing::number;
+use scripts::printing::text;
 
 // Operands are printed up to this many; of more, the last.
 const FEW: usize = 4;

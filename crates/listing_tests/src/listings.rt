@@ -3,29 +3,35 @@ ghost use Prim.Native.Nat.{_≤_};
 ghost use lib.ListN.{length};
 use crate::lines::LINE_FEED;
 use crate::nodes::print_outcome;
-use crate::printing::number;
-use crate::printing::text;
+use arena::CHILDREN;
 use arena::COEFFICIENT;
 use arena::HASH;
 use arena::NODE_WORDS;
 use listing_reader::ListingAnswer;
+use scripts::printing::number;
+use scripts::printing::text;
 
-// More bytes than the longest listing of a line has.
+// Of a listing that a line spells so many bytes are read; what is longer is cut.
 const MOST_BYTES: usize = 512;
 
 // What stands in a line for a line feed.
-const FEED: u8 = b'/';
+const LINE_FEED_SIGN: u8 = b'/';
 
 const MOST_NODES: usize = 4;
 
 const MOST_WORDS: usize = MOST_NODES * NODE_WORDS;
 
+// The place after the first four children, and that of the last.
+const AFTER_FIRST_CHILDREN: usize = CHILDREN + 4;
+
+const LAST_CHILD: usize = NODE_WORDS - 1;
+
 // Whether a word of a node is printed: its kind, payload and flags, the number of children, the first four and the last.
 fn is_shown(place: usize) -> bool {
     match place {
         HASH | COEFFICIENT => false,
-        10..=20 => false,
-        _ => true,
+        LAST_CHILD => true,
+        _ => place < AFTER_FIRST_CHILDREN,
     }
 }
 
@@ -46,7 +52,7 @@ fn print_node(nodes: &[u64], id: usize) {
 }
 
 fn byte_of(sign: u8) -> u8 {
-    if sign == FEED {
+    if sign == LINE_FEED_SIGN {
         return LINE_FEED;
     }
     sign

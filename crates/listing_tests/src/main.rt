@@ -3,8 +3,8 @@
 //   t TEXT           a text's listing, on fresh lists of 512 nodes, 1,024 slots and 128 names
 //   s BYTES          a sheet's records in order, then `.` at the end, `?` at a malformed record, or `refused` where it is no sheet; behind
 //                    `N:` stands the byte of the place N, after bytes that are 0
-//   l LISTING        a listing read back, `/` for a line feed: the first line's outcome and the count of nodes, then the words of each node,
-//                    or the number of the line that is wrong, or `full`
+//   l LISTING        a listing read back, `/` for a line feed: the first line's outcome and the count of nodes, then the words of each
+//                    node, or the number of the line that is wrong, or `full`
 //   f FORM N M       a first line: 0 `ok`, 1 `ok -`, 2 `spent`, 3 `refused` with the numbers
 //   n ID COUNT       a node's line, in a store of four nodes that is taken for one of COUNT; or a refusal
 // The file `stdout` has what 01 and 02 ask for.
@@ -12,13 +12,12 @@ mod bodies;
 mod lines;
 mod listings;
 mod nodes;
-mod printing;
 mod sheets;
 mod texts;
 
 use libc::STDIN_FILENO;
 use lines::line_end;
-use printing::text;
+use scripts::printing::text;
 
 const INPUT_BYTES: usize = 65_536;
 

@@ -1,6 +1,5 @@
 // Lines that no run of the listing program shows.
 use crate::lines::MOST_NUMBERS;
-use crate::printing::text;
 use arena::DagArena;
 use arena::NODE_WORDS;
 use builder::FreshStore;
@@ -10,6 +9,7 @@ use listing_lines::Line;
 use listing_lines::LineFound;
 use listing_lines::SheetOutcome;
 use listing_lines::first_line;
+use scripts::printing::text;
 
 // A store of 8 nodes and 64 slots.
 const WORDS: usize = 8 * NODE_WORDS;

@@ -3,11 +3,11 @@ ghost use Prim.Native.Nat.{_≤_};
 ghost use lib.ListN.{length};
 use crate::bodies::print_body;
 use crate::lines::longer;
-use crate::printing::text;
 use records::Body;
 use records::Cursor;
 use records::MOST_SHEET_BYTES;
 use records::Opened;
+use scripts::printing::text;
 
 const MOST_RECORDS: u64 = 1_024;
 

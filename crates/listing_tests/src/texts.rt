@@ -1,5 +1,5 @@
 // The listing of a text.
-use crate::printing::text;
+use scripts::printing::text;
 
 pub(crate) fn print_listing(line: &[u8]) {
     let listing = text_listing_bytes::list(line);

@@ -4,7 +4,8 @@ ghost use Prim.Native.Nat.{_+_, _*_, _≤_, _<_};
 ghost use lib.ListN.{length, getD, drop};
 ghost use Rattle.definitions.specs.Names.{longestName, entryBytes};
 ghost use Rattle.definitions.specs.Says.{Says};
-ghost use Rattle.name_entries.specs.Entry.{putEntry, SoundEntry, IsEntry, IsEntryOf, IsByte, halfWordBytes, IsHalfWord, wordBytes, IsWord};
+ghost use Rattle.name_entries.specs.Entry.{putEntry, SoundEntry, IsEntry, IsEntryOf};
+ghost use Rattle.name_entries.specs.Entry.{IsByte, halfWordBytes, IsHalfWord, wordBytes, IsWord};
 ghost use Rattle.name_entries.specs.Buckets.{IsBucket};
 
 pub const ENTRY_BYTES: usize = 33;

@@ -1,7 +1,8 @@
 // Carrying out a replacement through the store, which alone makes nodes.
 ghost use mathlib.Core.List.{[], _∷_};
 ghost use Rattle.store.specs.View.{Sound};
-ghost use Rattle.decisions.specs.Carrying.{BuildsBy, constantOf, operatorOf, besideConstant, carried, NumberBits, ReplacementLow, Operand, TwoOperands};
+ghost use Rattle.decisions.specs.Carrying.{BuildsBy, constantOf, operatorOf, besideConstant, carried};
+ghost use Rattle.decisions.specs.Carrying.{NumberBits, ReplacementLow, Operand, TwoOperands};
 use arena::DagArena;
 use arena::REORDERABLE;
 use decisions::Replacement;

@@ -22,7 +22,7 @@ use arena::has_parts;
 use dedup::get_or_insert;
 
 // An answer as one number, which is handed on in a register: an id is below this, and a refusal's number is added to it. An enum is
-// handed on in memory, where a store that is not whole yet stops the load behind it.
+// handed on in memory, and reading it waits until its parts are written.
 pub const REFUSALS: u64 = MOST_NODES;
 
 // The answer that a number stands for.

@@ -1,7 +1,6 @@
 // The calls of the C interface without the audit, and audit and hash alone, for the benchmark. A call's `requires` is that the store is
-// sound, as every call leaves it. A call is that of its layer and not `perform_sound`, so that what makes a node has one caller here and is
-// compiled into it.
-// Nothing asks that of a caller in another language, so these functions stand in a library of their own and in no header.
+// sound, as every call leaves it. Nothing asks that of a caller in another language, so these functions stand in a library of their own and
+// in no header. The calls are those of the layers and not `perform_sound`, so that `build_sound` has one caller here and is compiled into it.
 ghost use mathlib.Core.Path.{_≡_};
 ghost use mathlib.Core.Bool.{true};
 ghost use mathlib.Core.List.{[], _∷_};

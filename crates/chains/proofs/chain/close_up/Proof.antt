@@ -1,4 +1,4 @@
--- `pruner::chain::close_up` meets its contract. Assumes nothing.
+-- `chains::chain::close_up` meets its contract. Assumes nothing.
 use Prim.Native.Nat.{_-_}
 use native.Mathlib.Omega.{arith}
 use borrow.Author.Needs.{needs}

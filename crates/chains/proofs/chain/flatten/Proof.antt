@@ -1,4 +1,4 @@
--- `pruner::chain::flatten` meets its contract. The measure is the weight of the ids that wait and of the id at hand,
+-- `chains::chain::flatten` meets its contract. The measure is the weight of the ids that wait and of the id at hand,
 -- and whether a distance is still to be noted. Assumes nothing.
 use Prim.Native.Nat.{_+_, _*_}
 use mathlib.Core.Path.{sym, _∙_}

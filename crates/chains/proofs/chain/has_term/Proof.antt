@@ -1,4 +1,4 @@
--- `pruner::chain::has_term` meets its contract. Assumes nothing.
+-- `chains::chain::has_term` meets its contract. Assumes nothing.
 use mathlib.Core.Path.{sym, _∙_}
 use mathlib.Core.Bool.{false≢true}
 use native.Mathlib.Omega.{arith}

@@ -1,4 +1,4 @@
--- `pruner::chain::push_first` meets its contract. Assumes nothing.
+-- `chains::chain::push_first` meets its contract. Assumes nothing.
 use native.Mathlib.Omega.{arith}
 use borrow.Author.Needs.{needs}
 use Rattle.chains.proofs.Reading.{child-limited}

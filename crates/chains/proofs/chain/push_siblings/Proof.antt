@@ -1,4 +1,4 @@
--- `pruner::chain::push_siblings` meets its contract. Assumes nothing.
+-- `chains::chain::push_siblings` meets its contract. Assumes nothing.
 use Prim.Native.Nat.{_-_}
 use native.Mathlib.Omega.{arith}
 use borrow.Author.Needs.{needs}

@@ -1,4 +1,4 @@
--- `scripts::applying::apply` meets its contract.
+-- `script_store::applying::apply` meets its contract.
 use mathlib.Core.Path.{sym}
 use lib.Seq.{length-take-le}
 use native.Mathlib.Omega.{arith}

@@ -1,4 +1,4 @@
--- `scripts::filling::clear` is safe and ends.
+-- `script_store::filling::clear` is safe and ends.
 use Prim.Native.Nat.{_-_, _≤_}
 use mathlib.Core.Path.{_≡_, _∙_}
 use lib.ListN.{length, length-set}

@@ -1,4 +1,4 @@
--- `scripts::filling::place` is safe and ends.
+-- `script_store::filling::place` is safe and ends.
 use Prim.Native.Nat.{_-_, _≤_, _<_}
 use mathlib.Core.Path.{_≡_, refl}
 use lib.ListN.{length}

@@ -1,4 +1,4 @@
--- `scripts::listing::children` is safe and ends.
+-- `script_store::listing::children` is safe and ends.
 use Prim.Native.Nat.{_-_, _≤_}
 use borrow.Author.Needs.{needs}
 use Rattle.arena.specs.Layout.{mostChildren}

@@ -1,4 +1,4 @@
--- `pruner::sum::balanced_add` meets its contract: by the number of terms.
+-- `sums::sum::balanced_add` meets its contract: by the number of terms.
 use native.Mathlib.Omega.{arith}
 use borrow.Author.Needs.{needs}
 use Rattle.sums.proofs.Decoding.{builds-in}

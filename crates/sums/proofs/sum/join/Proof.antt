@@ -1,4 +1,4 @@
--- `pruner::sum::join` meets its contract. The measure is the depth.
+-- `sums::sum::join` meets its contract. The measure is the depth.
 use native.Mathlib.Omega.{arith}
 use borrow.Author.Needs.{needs}
 use Rattle.arena.specs.Layout.{arenaOf}

@@ -1,4 +1,4 @@
--- `pruner::sum::split` meets its contract. The measure is the number of terms that are not split. Assumes nothing.
+-- `sums::sum::split` meets its contract. The measure is the number of terms that are not split. Assumes nothing.
 use native.Mathlib.Omega.{arith}
 use Rattle.sums.specs.Sums.{whole}
 use Rattle.sums.proofs.Splitting as Q

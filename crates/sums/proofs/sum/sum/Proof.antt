@@ -1,4 +1,4 @@
--- `pruner::sum::sum` meets its contract. The measure is the number of terms that are not summed.
+-- `sums::sum::sum` meets its contract. The measure is the number of terms that are not summed.
 use Prim.Native.Nat.{ℕ, _+_, _-_}
 use mathlib.Core.Path.{_∙_}
 use lib.ListN.{length-replicate}

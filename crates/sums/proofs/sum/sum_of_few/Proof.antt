@@ -1,4 +1,4 @@
--- `pruner::sum::sum_of_few` meets its contract: by the number of terms.
+-- `sums::sum::sum_of_few` meets its contract: by the number of terms.
 use native.Mathlib.Omega.{arith}
 use borrow.Author.Needs.{needs}
 use Rattle.sums.proofs.Summing as Q

@@ -1,4 +1,4 @@
--- `pruner::sum::zero` meets its contract. Assumes nothing.
+-- `sums::sum::zero` meets its contract. Assumes nothing.
 use borrow.Author.Needs.{needs}
 use mathlib.Core.Path.{_≡_, refl}
 use mathlib.Core.Bool.{false}
