@@ -2,8 +2,10 @@
 // title or says what the next commands show. Each line is written as it stands, and behind a command what it answers and leaves. What is
 // written is held to the file `stdout`; docs/ARCHITECTURE.md has the commands.
 ghost use Prim.Native.Nat.{_≤_};
+
+mod lists;
+
 use script_calls::calling;
-use script_calls::lists;
 use script_calls::state;
 use script_calls::state::Now;
 use script_calls::state::at_first;

@@ -50,7 +50,7 @@ fn name_reply(answer: names::NameReply, name: [u8; 32]) {
 }
 
 // An answer, and the numbers of nodes, slots and names after it.
-pub(crate) fn handed(last: CallResult) {
+pub fn handed(last: CallResult) {
     let reply = last.reply;
     let arena = last.arena;
     let name = last.name;

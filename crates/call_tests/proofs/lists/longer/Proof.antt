@@ -2,8 +2,8 @@ use Prim.Native.Nat.{_-_, _≤_}
 use mathlib.Core.Path.{_≡_}
 use lib.ListN.{length}
 use borrow.Author.Needs.{needs}
-use Rattle.script_calls.proofs.lists.longer.Statement.{statement}
-use Rattle.script_calls.proofs.lists.longer.Tie as tie
+use Rattle.call_tests.proofs.lists.longer.Statement.{statement}
+use Rattle.call_tests.proofs.lists.longer.Tie as tie
 
 abbrev Inv-loop : tie.InvT-loop
 Inv-loop now list₀ given at₀ end i₀ list at i = (length list ≡ 600) × (end ≤ 8194)

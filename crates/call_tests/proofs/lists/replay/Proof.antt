@@ -3,8 +3,8 @@ use lib.ListN.{length}
 use lib.Seq.{length-take-le}
 use native.Mathlib.Omega.{arith}
 use borrow.Author.Needs.{needs}
-use Rattle.script_calls.proofs.lists.replay.Statement.{statement}
-use Rattle.script_calls.proofs.lists.replay.Tie as tie
+use Rattle.call_tests.proofs.lists.replay.Statement.{statement}
+use Rattle.call_tests.proofs.lists.replay.Tie as tie
 
 longer-requires : tie.Need-longer-requires
 longer-requires c κs = search needs

@@ -1,9 +1,9 @@
 // Lists of calls as words, run by `history::replay`.
-use crate::showing::handed;
-use crate::state::LIST_WORDS;
-use crate::state::Now;
 use history::Opening;
 use history::Replayed;
+use script_calls::showing::handed;
+use script_calls::state::LIST_WORDS;
+use script_calls::state::Now;
 use scripts::lines::MOST_VALUES;
 use scripts::lines::Values;
 use scripts::memory::least;
@@ -49,7 +49,7 @@ fn show(replayed: Replayed) {
 }
 
 // Words put behind the list, which is then run whole on a fresh store.
-pub fn replay(
+pub(crate) fn replay(
     nodes: &mut [u64],
     slots: &mut [u32],
     entries: &mut [u8],
