@@ -1,4 +1,6 @@
 // The nodes of a store (arena.rs, node.rs): words of 64 bits in a lent list. 01: "Ids count from 0."
+#![tactic(auto)]
+
 pub mod audit;
 pub mod node;
 
@@ -40,7 +42,7 @@ pub const CANONICAL: u64 = 4;
 pub const FLAGS_END: u64 = 8;
 
 // How many nodes a store has, and how many slots its table has.
-#[derive(Drop)]
+#[derive(Clone, Copy)]
 pub struct DagArena {
     pub count: u64,
     pub size: usize,

@@ -14,7 +14,7 @@ use kinds::CONSTANT;
 pub const BITS_OF_ONE: u64 = 0x3ff0_0000_0000_0000;
 
 // A node by value carries its child places; unused ones are 0.
-#[derive(Drop)]
+#[derive(Clone, Copy)]
 pub struct DagNode {
     pub kind: u64,
     pub payload: u64,

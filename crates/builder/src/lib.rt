@@ -1,4 +1,6 @@
 // The builder's calls (builder.rs): each audits the store once, refuses or answers an id, and leaves a sound store.
+#![tactic(auto)]
+
 pub mod controls;
 pub mod functions;
 pub mod leaves;

@@ -6,7 +6,7 @@ use definitions::refusals::NO_SLOT_PLACE;
 use slots::{FIRST_SIZE, rehash};
 
 // The counts of a fresh store, or the number of a refusal.
-#[derive(Drop)]
+#[derive(Clone, Copy)]
 pub enum FreshStore {
     Store(DagArena),
     Refused(u64),

@@ -8,14 +8,14 @@ use definitions::refusals::{BAD_OPERAND, NOT_SOUND};
 use store::audit;
 
 // The node of an id, or the number of a refusal.
-#[derive(Drop)]
+#[derive(Clone, Copy)]
 pub enum NodeFound {
     Node,
     Refused(u64),
 }
 
 // The answer, with the node beside it: an enum holds no arrays. Beside a refusal all its words are 0.
-#[derive(Drop)]
+#[derive(Clone, Copy)]
 pub struct NodeRead {
     pub answer: NodeFound,
     pub node: DagNode,

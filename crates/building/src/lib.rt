@@ -1,4 +1,6 @@
 // What all constructors share: a node over its operands, or the refusal of a request; and the codes of operators.
+#![tactic(auto)]
+
 ghost use Rattle.std.specs.Prelude.{◌≡◌, ◌&&◌, leb};
 ghost use Rattle.definitions.specs.Node as N;
 ghost use Rattle.definitions.specs.Node.{last_operator, both_flags};

@@ -28,23 +28,24 @@ fn longer(now: Now, values: Values) -> Now {
     after
 }
 
-fn show(replayed: Replayed) {
+fn show(out: &impl Print, replayed: Replayed) {
     let opening = replayed.opening;
     let run = replayed.run;
     match opening {
         Opening::Opened => {
-            handed(run.last);
-            text(b" calls");
-            number(run.calls as u64);
-            text(b" words");
-            number(run.words as u64);
+            handed(out, run.last);
+            text(out, b" calls");
+            number(out, run.calls as u64);
+            text(out, b" words");
+            number(out, run.words as u64);
         }
-        Opening::Refused(refusal) => refused(refusal),
+        Opening::Refused(refusal) => refused(out, refusal),
     }
 }
 
 // Words put behind the list, which is then run whole on a fresh store.
 pub(crate) fn replay(
+    out: &impl Print,
     nodes: &mut [u64],
     slots: &mut [u32],
     entries: &mut [u8],
@@ -54,6 +55,6 @@ pub(crate) fn replay(
     let after = longer(now, values);
     let list = after.list;
     let end = least(after.written, LIST_WORDS);
-    show(history::replay(nodes, slots, entries, &list[..end]));
+    show(out, history::replay(nodes, slots, entries, &list[..end]));
     after
 }

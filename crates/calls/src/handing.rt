@@ -14,7 +14,7 @@ use store_calls::{Answer, Performed, of_built};
 use text::ReadOutcome;
 
 // The last call's reply.
-#[derive(Drop)]
+#[derive(Clone, Copy)]
 pub enum LastReply {
     // No call was run.
     Nothing,
@@ -23,7 +23,7 @@ pub enum LastReply {
 }
 
 // A reply, the bytes of a name that it gives the length of, the store's count and size, and how many names there are.
-#[derive(Drop)]
+#[derive(Clone, Copy)]
 pub struct CallResult {
     pub reply: LastReply,
     pub name: [u8; LONGEST_NAME],

@@ -1,5 +1,7 @@
 // One encoded call of a controller, on a store and a name list: the codes are those of specs/Encoding.antt of encoding, and what a call
 // leaves is what the public call that it stands for does.
+#![tactic(auto)]
+
 pub mod calling;
 pub mod handing;
 pub mod naming;

@@ -9,7 +9,7 @@ use encoding::headers::Header;
 use encoding::spelling::{LONGEST_NAME, spell_name};
 
 // An answer, the bytes of a name that it gives the length of, and how many names there are then.
-#[derive(Drop)]
+#[derive(Clone, Copy)]
 pub(crate) struct NameCallResult {
     pub answer: names::NameReply,
     pub bytes: [u8; LONGEST_NAME],

@@ -15,7 +15,7 @@ use kinds::ADD;
 pub const MOST_TERMS: usize = 4096;
 
 // Where the ids that wait to be flattened stand: in the first places of the array, in order.
-#[derive(Drop)]
+#[derive(Clone, Copy)]
 pub enum Waiting {
     // Before this place.
     Before(usize),
@@ -23,7 +23,7 @@ pub enum Waiting {
     Nowhere,
 }
 
-#[derive(Drop)]
+#[derive(Clone, Copy)]
 pub enum Flattened {
     // So many terms were found, of which so many are kept: these stand from a place on.
     Terms {

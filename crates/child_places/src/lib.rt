@@ -1,4 +1,6 @@
 // The child places of a node: those in use hold lower ids than the node's, and the others 0.
+#![tactic(auto)]
+
 ghost use Rattle.std.specs.Prelude.{◌≡◌, ◌≤◌, length, drop};
 ghost use Rattle.definitions.specs.Limits.{most_children};
 ghost use Rattle.definitions.specs.Says.{Says};

@@ -1,4 +1,6 @@
 // The threshold of each setting that prunes, 20 to 200, computed from whole numbers alone.
+#![tactic(auto)]
+
 mod limbs;
 
 ghost use Rattle.std.specs.Prelude.{◌≡◌, ◌+◌, ◌≤◌, ◌<◌};

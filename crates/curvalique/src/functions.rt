@@ -8,8 +8,7 @@ use crate::performing::make;
 use store_calls::{Call, codes};
 
 // A function, by its number, over its operands.
-#[unsafe(no_mangle)]
-pub extern "C" fn curvalique_function(
+pub fn curvalique_function(
     nodes: &mut [u64],
     slots: &mut [u32],
     count: &mut u64,
@@ -29,8 +28,7 @@ pub extern "C" fn curvalique_function(
 }
 
 // Select, over three operands.
-#[unsafe(no_mangle)]
-pub extern "C" fn curvalique_select(
+pub fn curvalique_select(
     nodes: &mut [u64],
     slots: &mut [u32],
     count: &mut u64,
@@ -50,8 +48,7 @@ pub extern "C" fn curvalique_select(
 }
 
 // IfElse, over three operands.
-#[unsafe(no_mangle)]
-pub extern "C" fn curvalique_if_else(
+pub fn curvalique_if_else(
     nodes: &mut [u64],
     slots: &mut [u32],
     count: &mut u64,
@@ -71,8 +68,7 @@ pub extern "C" fn curvalique_if_else(
 }
 
 // ForLoop, over four operands.
-#[unsafe(no_mangle)]
-pub extern "C" fn curvalique_for_loop(
+pub fn curvalique_for_loop(
     nodes: &mut [u64],
     slots: &mut [u32],
     count: &mut u64,
@@ -93,8 +89,7 @@ pub extern "C" fn curvalique_for_loop(
 }
 
 // Any control, by its code, over any operands.
-#[unsafe(no_mangle)]
-pub extern "C" fn curvalique_control(
+pub fn curvalique_control(
     nodes: &mut [u64],
     slots: &mut [u32],
     count: &mut u64,

@@ -8,8 +8,7 @@ use crate::performing::make;
 use store_calls::Call;
 
 // A variable, by its symbol.
-#[unsafe(no_mangle)]
-pub extern "C" fn curvalique_variable(
+pub fn curvalique_variable(
     nodes: &mut [u64],
     slots: &mut [u32],
     count: &mut u64,
@@ -26,8 +25,7 @@ pub extern "C" fn curvalique_variable(
 }
 
 // A constant, by its binary64 bits.
-#[unsafe(no_mangle)]
-pub extern "C" fn curvalique_constant(
+pub fn curvalique_constant(
     nodes: &mut [u64],
     slots: &mut [u32],
     count: &mut u64,

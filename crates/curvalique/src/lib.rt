@@ -1,5 +1,7 @@
-// The C interface: the public calls over numbers and lent slices, for include/curvalique.h. A call returns 0 and leaves its answer
-// behind pointers, or returns the number of a refusal. A slice is a pointer and a length.
+// The public calls over numbers and lent slices, as C has them: crate curvalique_c exports them for include/curvalique.h. A call returns
+// 0 and leaves its answer behind references, or returns the number of a refusal.
+#![tactic(auto)]
+
 pub mod functions;
 pub mod leaves;
 pub mod listings;

@@ -8,20 +8,14 @@ use listing_bytes::LISTING_BYTES;
 use outputs::listings::leave_read;
 
 // The listing program's listing of a sheet; the other bytes of the array stay.
-#[unsafe(no_mangle)]
-pub extern "C" fn curvalique_list_sheet(
-    sheet: &[u8],
-    listing: &mut [u8; LISTING_BYTES],
-    length: &mut usize,
-)
+pub fn curvalique_list_sheet(sheet: &[u8], listing: &mut [u8; LISTING_BYTES], length: &mut usize)
     ensures { Listed sheet.now listing.old length.new listing.new }
 {
     *length = listing_bytes::list(sheet, listing);
 }
 
 // A listing, read into the lent words.
-#[unsafe(no_mangle)]
-pub extern "C" fn curvalique_read_listing(
+pub fn curvalique_read_listing(
     bytes: &[u8],
     nodes: &mut [u64],
     count: &mut u64,

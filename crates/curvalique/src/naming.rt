@@ -10,8 +10,7 @@ use outputs::leaving::ANSWERED;
 use outputs::naming::{LONGEST_NAME, leave_name};
 
 // The number of a name, which becomes known if it is not.
-#[unsafe(no_mangle)]
-pub extern "C" fn curvalique_intern_name(
+pub fn curvalique_intern_name(
     entries: &mut [u8],
     count: &mut usize,
     name: &[u8],
@@ -36,8 +35,7 @@ pub extern "C" fn curvalique_intern_name(
 }
 
 // The number of a name, if it is known.
-#[unsafe(no_mangle)]
-pub extern "C" fn curvalique_lookup_name(
+pub fn curvalique_lookup_name(
     entries: &[u8],
     count: usize,
     name: &[u8],
@@ -66,8 +64,7 @@ pub extern "C" fn curvalique_lookup_name(
 }
 
 // The name of a number, if there is one.
-#[unsafe(no_mangle)]
-pub extern "C" fn curvalique_name(
+pub fn curvalique_name(
     entries: &[u8],
     count: usize,
     number: u32,

@@ -8,13 +8,7 @@ use builder::FreshStore;
 use outputs::leaving::{ANSWERED, leave_arena};
 
 // A store without nodes, with the first slots empty.
-#[unsafe(no_mangle)]
-pub extern "C" fn curvalique_fresh(
-    nodes: &[u64],
-    slots: &mut [u32],
-    count: &mut u64,
-    size: &mut usize,
-) -> u64
+pub fn curvalique_fresh(nodes: &[u64], slots: &mut [u32], count: &mut u64, size: &mut usize) -> u64
     ensures opens { Opens nodes.now slots.old (fresh_unless_refused result count.new size.new)
         slots.new }
     ensures outputs_stay { OutputsStay result (count.old ∷ size.old ∷ []) (count.new ∷ size.new ∷ []) }

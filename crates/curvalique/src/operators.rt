@@ -8,8 +8,7 @@ use crate::performing::make;
 use store_calls::{Call, codes};
 
 // The sum of two.
-#[unsafe(no_mangle)]
-pub extern "C" fn curvalique_add(
+pub fn curvalique_add(
     nodes: &mut [u64],
     slots: &mut [u32],
     count: &mut u64,
@@ -31,8 +30,7 @@ pub extern "C" fn curvalique_add(
 }
 
 // The first minus the second.
-#[unsafe(no_mangle)]
-pub extern "C" fn curvalique_sub(
+pub fn curvalique_sub(
     nodes: &mut [u64],
     slots: &mut [u32],
     count: &mut u64,
@@ -54,8 +52,7 @@ pub extern "C" fn curvalique_sub(
 }
 
 // The product of two.
-#[unsafe(no_mangle)]
-pub extern "C" fn curvalique_mul(
+pub fn curvalique_mul(
     nodes: &mut [u64],
     slots: &mut [u32],
     count: &mut u64,
@@ -77,8 +74,7 @@ pub extern "C" fn curvalique_mul(
 }
 
 // The first over the second.
-#[unsafe(no_mangle)]
-pub extern "C" fn curvalique_div(
+pub fn curvalique_div(
     nodes: &mut [u64],
     slots: &mut [u32],
     count: &mut u64,
@@ -100,8 +96,7 @@ pub extern "C" fn curvalique_div(
 }
 
 // The first to the power of the second.
-#[unsafe(no_mangle)]
-pub extern "C" fn curvalique_pow(
+pub fn curvalique_pow(
     nodes: &mut [u64],
     slots: &mut [u32],
     count: &mut u64,
@@ -123,8 +118,7 @@ pub extern "C" fn curvalique_pow(
 }
 
 // The first modulo the second.
-#[unsafe(no_mangle)]
-pub extern "C" fn curvalique_modulo(
+pub fn curvalique_modulo(
     nodes: &mut [u64],
     slots: &mut [u32],
     count: &mut u64,
@@ -146,8 +140,7 @@ pub extern "C" fn curvalique_modulo(
 }
 
 // The opposite.
-#[unsafe(no_mangle)]
-pub extern "C" fn curvalique_neg(
+pub fn curvalique_neg(
     nodes: &mut [u64],
     slots: &mut [u32],
     count: &mut u64,
@@ -168,8 +161,7 @@ pub extern "C" fn curvalique_neg(
 }
 
 // Any operator, by its code, with any flags and operands.
-#[unsafe(no_mangle)]
-pub extern "C" fn curvalique_operator(
+pub fn curvalique_operator(
     nodes: &mut [u64],
     slots: &mut [u32],
     count: &mut u64,

@@ -18,8 +18,7 @@ fn words_of(node: DagNode) -> [u64; NODE_WORDS]
 }
 
 // The node of an id, as its words.
-#[unsafe(no_mangle)]
-pub extern "C" fn curvalique_node(
+pub fn curvalique_node(
     nodes: &[u64],
     slots: &[u32],
     count: u64,

@@ -10,8 +10,7 @@ use definitions::mode::Mode;
 use store_calls::Call;
 
 // A walk of a root, with a depth limit and a budget of steps.
-#[unsafe(no_mangle)]
-pub extern "C" fn curvalique_simplify(
+pub fn curvalique_simplify(
     nodes: &mut [u64],
     slots: &mut [u32],
     count: &mut u64,
@@ -41,8 +40,7 @@ pub extern "C" fn curvalique_simplify(
 }
 
 // A strict walk of a root (02 i), with a depth limit and a budget of steps.
-#[unsafe(no_mangle)]
-pub extern "C" fn curvalique_simplify_strictly(
+pub fn curvalique_simplify_strictly(
     nodes: &mut [u64],
     slots: &mut [u32],
     count: &mut u64,
@@ -72,8 +70,7 @@ pub extern "C" fn curvalique_simplify_strictly(
 }
 
 // A prune of a root at a threshold, by its binary64 bits.
-#[unsafe(no_mangle)]
-pub extern "C" fn curvalique_prune(
+pub fn curvalique_prune(
     nodes: &mut [u64],
     slots: &mut [u32],
     count: &mut u64,
@@ -95,8 +92,7 @@ pub extern "C" fn curvalique_prune(
 }
 
 // A prune of a root by a setting.
-#[unsafe(no_mangle)]
-pub extern "C" fn curvalique_prune_by_setting(
+pub fn curvalique_prune_by_setting(
     nodes: &mut [u64],
     slots: &mut [u32],
     count: &mut u64,

@@ -10,8 +10,7 @@ use outputs::leaving::leave_arena;
 use outputs::sheets::leave_outcome;
 
 // A sheet on any store.
-#[unsafe(no_mangle)]
-pub extern "C" fn curvalique_run_sheet(
+pub fn curvalique_run_sheet(
     sheet: &[u8],
     nodes: &mut [u64],
     slots: &mut [u32],
@@ -40,8 +39,7 @@ pub extern "C" fn curvalique_run_sheet(
 }
 
 // A sheet on a fresh store in the lent words and slots. The counts stay where none is opened.
-#[unsafe(no_mangle)]
-pub extern "C" fn curvalique_run_sheet_fresh(
+pub fn curvalique_run_sheet_fresh(
     sheet: &[u8],
     nodes: &mut [u64],
     slots: &mut [u32],

@@ -10,8 +10,7 @@ use outputs::leaving::leave_built;
 use store::Built;
 
 // The node of a text, with the names and nodes that it needs.
-#[unsafe(no_mangle)]
-pub extern "C" fn curvalique_read_text(
+pub fn curvalique_read_text(
     text: &[u8],
     nodes: &mut [u64],
     slots: &mut [u32],

@@ -10,8 +10,7 @@ use outputs::leaving::ANSWERED;
 use writer::WriteAnswer;
 
 // The text of a node, and its length.
-#[unsafe(no_mangle)]
-pub extern "C" fn curvalique_write_text(
+pub fn curvalique_write_text(
     nodes: &[u64],
     slots: &[u32],
     count: u64,

@@ -1,4 +1,6 @@
 // The thresholds of settings as decimals: in whole billionths, rounded up, so that what is below a threshold is below its decimal.
+#![tactic(auto)]
+
 ghost use Rattle.std.specs.Prelude.{◌≡◌, ◌*◌, ◌≤◌};
 ghost use Rattle.thresholds.specs.Thresholds.{first_pruning_setting, last_setting, threshold};
 ghost use Rattle.decimal_thresholds.specs.Billionths.{Between, billionths, most_terms};

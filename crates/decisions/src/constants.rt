@@ -9,7 +9,7 @@ ghost use Rattle.decisions.specs.Reading.{value_of};
 use kinds::CONSTANT;
 
 // The bits of a node that is a constant.
-#[derive(Drop)]
+#[derive(Clone, Copy)]
 pub enum Constant {
     Bits(u64),
     Missing,

@@ -7,7 +7,7 @@ ghost use Rattle.decisions.specs.Fired.{pattern_of, nothing_fits, decision_by};
 use crate::PatternResult;
 use kinds::{ADD, DIV, MUL, POW, SUB};
 
-#[derive(Drop)]
+#[derive(Clone, Copy)]
 pub enum Pattern {
     AddZero,
     SubIdentity,
@@ -20,14 +20,14 @@ pub enum Pattern {
     AddCoefMerge,
 }
 
-#[derive(Drop)]
+#[derive(Clone, Copy)]
 pub enum Fired {
     Nothing,
     BuiltIn(Pattern),
 }
 
 // What is to stand in an operator's place, and the pattern that says so.
-#[derive(Drop)]
+#[derive(Clone, Copy)]
 pub struct Decision {
     pub result: PatternResult,
     pub fired: Fired,

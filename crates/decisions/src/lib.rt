@@ -1,5 +1,7 @@
 // What a pattern decides over the nodes as they are: what is to stand in an operator's place, and which pattern says so. The constants that
 // patterns read, and folding, which the standard patterns and the strict ones share.
+#![tactic(auto)]
+
 ghost use Rattle.std.specs.Prelude.{◌≡◌};
 ghost use Rattle.decisions.specs.Deciding.{declines};
 
@@ -9,7 +11,7 @@ pub mod folding;
 
 // What stands in the operator's place: an id; a constant; or a constant and then an operator over it and another operand, the
 // constant on the left or on the right.
-#[derive(Drop)]
+#[derive(Clone, Copy)]
 pub enum Replacement {
     Id(u64),
     Constant(u64),
@@ -17,7 +19,7 @@ pub enum Replacement {
     ConstantRight { kind: u64, bits: u64, other: u64 },
 }
 
-#[derive(Drop)]
+#[derive(Clone, Copy)]
 pub enum PatternResult {
     Fits(Replacement),
     Declined,

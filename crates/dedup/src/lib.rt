@@ -1,4 +1,6 @@
 // The duplicate table of a store (dedup.rs): one node, one id. 01: "A slot is a 32-bit id + 1, or 0."
+#![tactic(auto)]
+
 ghost use Rattle.arena.specs.Layout.{arena_of};
 ghost use Rattle.arena.specs.Node.{node_of, Key};
 ghost use Rattle.arena.specs.Nodes.{WellFormed, Nodes};
@@ -14,7 +16,7 @@ use probing::{Place, search};
 use slots::{load_limit, rehash, slot_id};
 
 // The id of an old node or of a new one, or the number of a refusal.
-#[derive(Drop)]
+#[derive(Clone, Copy)]
 pub enum Insertion {
     Old(u64),
     New(u64),

@@ -11,7 +11,7 @@ use arena::{HASH, NODE_WORDS, has_parts};
 use slots::{free_place, modulo_size, slot_id};
 
 // Where a search ends: at a slot that holds the key's node, at an empty one, or at none.
-#[derive(Drop)]
+#[derive(Clone, Copy)]
 pub enum Place {
     Here(usize),
     Free(usize),

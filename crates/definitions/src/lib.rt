@@ -1,5 +1,7 @@
 // The crate holds definitions (specs/), the proof of the promise over them (proofs/), the numbers of the refusals and the modes of a walk.
 // A crate has at least one function: this one says how many children a node has at most.
+#![tactic(auto)]
+
 pub mod mode;
 pub mod refusals;
 

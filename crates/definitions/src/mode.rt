@@ -1,5 +1,5 @@
 // How a walk goes: as the Rust's, or strictly (02 i).
-#[derive(Drop)]
+#[derive(Clone, Copy)]
 pub enum Mode {
     Standard,
     Strict,

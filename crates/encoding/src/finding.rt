@@ -10,7 +10,7 @@ pub const HEADER_WORDS: usize = 6;
 
 const LAST_CODE: u32 = READ;
 
-#[derive(Drop)]
+#[derive(Clone, Copy)]
 pub enum Next {
     // The place after the call.
     Call { end: usize },

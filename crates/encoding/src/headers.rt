@@ -18,7 +18,7 @@ const FIRST_REWRITING: u32 = codes::SIMPLIFY;
 const WORD_VALUES: u64 = 4_294_967_296;
 
 // The words before a call's operands, but for the number of these.
-#[derive(Drop)]
+#[derive(Clone, Copy)]
 pub struct Header {
     pub code: u32,
     pub a: u32,
@@ -28,7 +28,7 @@ pub struct Header {
 }
 
 // Where the operands of a call stand.
-#[derive(Drop)]
+#[derive(Clone, Copy)]
 pub enum HeaderOperands {
     // Behind the header.
     Listed,
@@ -36,7 +36,7 @@ pub enum HeaderOperands {
     InHeader(usize),
 }
 
-#[derive(Drop)]
+#[derive(Clone, Copy)]
 pub struct StoreCall {
     pub call: Call,
     pub operands: HeaderOperands,

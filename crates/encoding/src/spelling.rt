@@ -16,7 +16,7 @@ const MOST_TEXT_BYTES: usize = MOST_BYTES + 1;
 const BYTE_VALUES: u32 = 256;
 
 // The first bytes of a name.
-#[derive(Drop)]
+#[derive(Clone, Copy)]
 pub struct NameArgument {
     pub bytes: [u8; MOST_NAME_BYTES],
     pub length: usize,

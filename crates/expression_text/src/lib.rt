@@ -1,4 +1,5 @@
 // The text of an expression: definitions and proofs alone, and the numbers that the writer shares with them.
+#![tactic(auto)]
 
 // "Whole constants 0 to 999,999,999": the greatest that is printed in digits.
 pub const MOST_WHOLE: u64 = 999_999_999;

@@ -1,5 +1,7 @@
 // Constants are held as binary64 bit patterns. A pattern is made a value, values are tested and folded, and a result is made a pattern
 // again.
+#![tactic(auto)]
+
 ghost use Rattle.std.specs.Prelude.{◌≡◌};
 ghost use Rattle.std.specs.Float.Ieee as Ieee;
 ghost use Rattle.std.specs.Float.{binary64};
@@ -16,7 +18,7 @@ pub const BITS_OF_ZERO: u64 = 0;
 
 // What folding answers: the bits of the result, which are a number's, or that it is declined: the kind does not fold, the
 // divisor is zero, or the result is a NaN.
-#[derive(Drop)]
+#[derive(Clone, Copy)]
 pub enum Folded {
     Bits(u64),
     Declined,

@@ -2,6 +2,8 @@
 // prints it as text, with the walk's steps, the terms kept and dropped, the threshold, a bound on the dropped ones and how far the value
 // may have moved; or the refusal in words. A text that could not be read to its end is not taken, since the part that was read could be a
 // formula too.
+#![tactic(auto)]
+
 mod threshold;
 
 ghost use Rattle.std.specs.Prelude.{◌≡◌, ◌≤◌, length};
@@ -9,7 +11,7 @@ ghost use Rattle.std.specs.Prelude.{◌≡◌, ◌≤◌, length};
 use arena::NODE_WORDS;
 use builder::FreshStore;
 use definitions::refusals::{BAD_SETTING, NO_NAME_PLACE, NO_TEXT, TEXT_TOO_LONG, TOO_MANY_TERMS};
-use libc::{STDERR_FILENO, STDIN_FILENO, STDOUT_FILENO};
+use std::env::{Env, FillError};
 use text_language::{BAD_TEXT, MOST_BYTES, NESTED_TOO_DEEP, NOT_A_NUMBER, OUTSIDE_LANGUAGE};
 use threshold::say_dropped;
 use write_back::{DEPTH, FormulaOutcome, Pruning};
@@ -31,91 +33,99 @@ const MOST_BEFORE_DIGIT: u32 = 400_000_000;
 
 const NEWLINE: u8 = 10;
 
-fn say(text: &[u8]) {
-    io::write_all(STDOUT_FILENO, text);
+fn say(out: &impl Print, text: &[u8]) {
+    let _ = out.write_all(text);
 }
 
-fn say_number(n: u64) {
-    io::print_decimal(STDOUT_FILENO, n);
+fn say_number(out: &impl Print, n: u64) {
+    let _ = out.print(n);
 }
 
 // What a refusal's number says.
-fn words_of(number: u64) {
+fn words_of(out: &impl Print, number: u64) {
     match number {
-        BAD_TEXT => say(b"there is no text, or it has over 8,192 bytes"),
-        BAD_SETTING => say(b"there is no such setting"),
-        NOT_A_NUMBER => say(b"a constant is not a number"),
+        BAD_TEXT => say(out, b"there is no text, or it has over 8,192 bytes"),
+        BAD_SETTING => say(out, b"there is no such setting"),
+        NOT_A_NUMBER => say(out, b"a constant is not a number"),
         OUTSIDE_LANGUAGE => say(
+            out,
             b"this is not a formula: look for a sign, a name or a bracket that is missing or too much",
         ),
-        NESTED_TOO_DEEP => say(b"brackets, minus signs and powers are nested over 64 deep"),
-        NO_TEXT => say(b"the formula that came out has no text"),
-        TEXT_TOO_LONG => say(b"the formula that came out is too long or too deep for a text"),
-        TOO_MANY_TERMS => say(b"the sum has over 4,096 terms"),
-        NO_NAME_PLACE => say(b"there are over 4,096 names"),
-        _ => say(b"the formula is too large for this program"),
+        NESTED_TOO_DEEP => say(
+            out,
+            b"brackets, minus signs and powers are nested over 64 deep",
+        ),
+        NO_TEXT => say(out, b"the formula that came out has no text"),
+        TEXT_TOO_LONG => say(
+            out,
+            b"the formula that came out is too long or too deep for a text",
+        ),
+        TOO_MANY_TERMS => say(out, b"the sum has over 4,096 terms"),
+        NO_NAME_PLACE => say(out, b"there are over 4,096 names"),
+        _ => say(out, b"the formula is too large for this program"),
     }
 }
 
-fn refuse(number: u64) {
-    say(b"refused ");
-    say_number(number);
-    say(b": ");
-    words_of(number);
-    say(b"\n");
+fn refuse(out: &impl Print, number: u64) {
+    say(out, b"refused ");
+    say_number(out, number);
+    say(out, b": ");
+    words_of(out, number);
+    say(out, b"\n");
 }
 
 // The first bytes of a list.
-fn say_first(bytes: &[u8], count: usize) {
+fn say_first(out: &impl Print, bytes: &[u8], count: usize) {
     if count <= bytes.len() {
-        say(&bytes[..count]);
+        say(out, &bytes[..count]);
     }
 }
 
 // The walk's steps, and what may have stayed as it was typed.
-fn say_steps(steps: u64, spent: bool, deep: bool) {
-    say(b"\nsteps ");
-    say_number(steps);
+fn say_steps(out: &impl Print, steps: u64, spent: bool, deep: bool) {
+    say(out, b"\nsteps ");
+    say_number(out, steps);
     if spent {
-        say(b", the budget is used up: not simplified");
+        say(out, b", the budget is used up: not simplified");
     }
     if deep {
-        say(b", ");
-        say_number(DEPTH as u64);
-        say(b" levels deep: parts of it may have stayed as typed");
+        say(out, b", ");
+        say_number(out, DEPTH as u64);
+        say(out, b" levels deep: parts of it may have stayed as typed");
     }
-    say(b"\n");
+    say(out, b"\n");
 }
 
 // The formulas of which it is proved how far their value may have moved; 01 calls them the exact kind.
-fn say_if_exact() {
+fn say_if_exact(out: &impl Print) {
     say(
+        out,
         b"if the text has no / and no ^ and its numbers keep to the limits of the exact kind (docs/REFERENCE.md), its value has ",
     );
 }
 
 // Without a threshold, and where nothing was dropped, the value is what it was.
-fn say_unmoved() {
-    say_if_exact();
-    say(b"not moved\n");
+fn say_unmoved(out: &impl Print) {
+    say_if_exact(out);
+    say(out, b"not moved\n");
 }
 
 // The terms kept and dropped, a bound on what was dropped, and how far the value may have moved.
-fn say_pruned(setting: u32, kept: u64, dropped: u64) {
-    say(b"kept ");
-    say_number(kept);
-    say(b", dropped ");
-    say_number(dropped);
-    say(b"\n");
+fn say_pruned(out: &impl Print, setting: u32, kept: u64, dropped: u64) {
+    say(out, b"kept ");
+    say_number(out, kept);
+    say(out, b", dropped ");
+    say_number(out, dropped);
+    say(out, b"\n");
     if dropped == 0 {
-        say(b"no term was dropped\n");
-        say_unmoved();
+        say(out, b"no term was dropped\n");
+        say_unmoved(out);
         return;
     }
-    say_dropped(setting, dropped);
+    say_dropped(out, setting, dropped);
 }
 
-fn show(outcome: FormulaOutcome, pruning: Pruning, text: &[u8]) {
+fn show(out: &impl Print, outcome: FormulaOutcome, pruning: Pruning, text: &[u8]) {
     match outcome {
         FormulaOutcome::Written {
             length,
@@ -125,22 +135,22 @@ fn show(outcome: FormulaOutcome, pruning: Pruning, text: &[u8]) {
             kept,
             dropped,
         } => {
-            say_first(text, length);
-            say_steps(steps, spent, deep);
+            say_first(out, text, length);
+            say_steps(out, steps, spent, deep);
             match pruning {
                 Pruning::Skipped => {
-                    say(b"not pruned\n");
-                    say_unmoved();
+                    say(out, b"not pruned\n");
+                    say_unmoved(out);
                 }
-                Pruning::BySetting(setting) => say_pruned(setting, kept, dropped),
+                Pruning::BySetting(setting) => say_pruned(out, setting, kept, dropped),
             }
         }
-        FormulaOutcome::Refused(number) => refuse(number),
+        FormulaOutcome::Refused(number) => refuse(out, number),
     }
 }
 
 // A text, on a store and a name list of the program's own.
-fn run(typed: &[u8], pruning: Pruning) {
+fn run(out: &impl Print, typed: &[u8], pruning: Pruning) {
     let mut nodes = [0; WORDS];
     let mut slots = [0; SLOTS];
     let mut entries = [0; ENTRIES];
@@ -159,9 +169,9 @@ fn run(typed: &[u8], pruning: Pruning) {
                 &mut text,
             );
             let outcome = answered.outcome;
-            show(outcome, pruning, &text);
+            show(out, outcome, pruning, &text);
         }
-        FreshStore::Refused(number) => refuse(number),
+        FreshStore::Refused(number) => refuse(out, number),
     }
 }
 
@@ -196,16 +206,27 @@ fn wide(byte: u8) -> u32
 }
 
 // The program's argument; more than one is a setting that there is not.
-fn pruning_of() -> Pruning {
-    if os::arg_count() < 2 {
+fn pruning_of(rt: &impl Env) -> Pruning {
+    let mut word = [0; 64];
+    let first = rt.arg(1, &mut word);
+    if let Err(FillError::NotPresent) = first {
         return Pruning::Skipped;
     }
-    if 2 < os::arg_count() {
+    if has_more(rt) {
         return Pruning::BySetting(NO_SETTING);
     }
-    let mut word = [0; 64];
-    let length = os::arg(1, &mut word);
-    Pruning::BySetting(setting_of(&word[..length]))
+    match first {
+        Ok(length) => Pruning::BySetting(setting_of(&word[..length])),
+        Err(_) => Pruning::BySetting(NO_SETTING),
+    }
+}
+
+// Whether there is a second argument.
+fn has_more(rt: &impl Env) -> bool {
+    match rt.arg(2, &mut [0; 1]) {
+        Err(FillError::NotPresent) => false,
+        _ => true,
+    }
 }
 
 // The length of what was typed, without the newline at its end.
@@ -224,25 +245,13 @@ fn typed_length(input: &[u8], read: usize) -> usize
     read
 }
 
-// Whether so many bytes are the whole input: a read answers 0 at its end alone.
-fn is_whole(length: usize) -> bool {
-    if INPUT_BYTES <= length {
-        return true;
-    }
-    let mut next = [0; 1];
-    libc::read(STDIN_FILENO, &mut next) == 0
-}
-
-fn main() {
+fn main(rt: HostRuntime) {
     let mut input = [0; INPUT_BYTES];
-    let length = io::read_full(STDIN_FILENO, &mut input);
-    if !is_whole(length) {
-        io::write_all(
-            STDERR_FILENO,
-            b"formula: the text could not be read to its end\n",
-        );
+    let read = whole_input::fill(&mut rt.stdin(), &mut input);
+    let Ok(length) = read else {
+        let _ = rt.eprint("formula: the text could not be read to its end\n");
         return;
-    }
+    };
     let size = typed_length(&input, length);
-    run(&input[..size], pruning_of());
+    run(&rt, &input[..size], pruning_of(&rt));
 }

@@ -1,5 +1,7 @@
 // FNV-1a, 64 bits, modulo 2^64 (01: it stands in for the Rust's rapidhash): over the kind byte, the payload
 // (8 bytes) and each child (4 bytes), big-endian.
+#![tactic(auto)]
+
 ghost use Rattle.std.specs.Prelude.{◌≡◌, ◌*◌, ◌%◌, ◌^◌, [], ◌∷◌};
 ghost use Rattle.hash.specs.Fnv.{offset_basis, printed, fnv_from, bytes32, bytes64, children_bytes, node_hash_of};
 

@@ -1,5 +1,7 @@
 // A list of calls, run on one store and one name list: the request's demand 3 as the contract of code. Calls are words, as
 // specs/Encoding.antt of encoding says.
+#![tactic(auto)]
+
 ghost use Rattle.std.specs.Prelude.{◌+◌, ◌≤◌, length, get_or};
 ghost use Rattle.text.specs.Memory.{controller_memory};
 ghost use Rattle.encoding.specs.Encoding.{header_words, last_code};
@@ -11,7 +13,7 @@ use calls::{CallResult, at_first, call};
 use encoding::finding::{HEADER_WORDS, Next, next_call};
 use encoding::headers::Header;
 
-#[derive(Drop)]
+#[derive(Clone, Copy)]
 pub struct Run {
     // The reply of the last call, and the store's count and size and the number of names after it.
     pub last: CallResult,
@@ -22,7 +24,7 @@ pub struct Run {
 }
 
 // Whether a store was opened.
-#[derive(Drop)]
+#[derive(Clone, Copy)]
 pub enum Opening {
     // Every call that was found was run.
     Opened,
@@ -30,7 +32,7 @@ pub enum Opening {
     Refused(u64),
 }
 
-#[derive(Drop)]
+#[derive(Clone, Copy)]
 pub struct Replayed {
     pub opening: Opening,
     pub run: Run,

@@ -1,4 +1,6 @@
 // The identities of patterns.rs, in its order. Each decides over the nodes as they are.
+#![tactic(auto)]
+
 ghost use Rattle.definitions.specs.Patterns as P;
 ghost use Rattle.store.specs.Lookup.{Lookup};
 ghost use Rattle.decisions.specs.Deciding.{Both, Decides};

@@ -1,6 +1,8 @@
 // 01: "Kind, from `kind_disc`: 0 variable (payload its symbol), 1 constant (payload the binary64 bits), 2 to 8
 // operator Add, Sub, Mul, Div, Pow, Mod, Neg (payload 0), 16 function (payload its number), 32 control (payload
 // 0 Select, 1 IfElse, 2 ForLoop)."
+#![tactic(auto)]
+
 ghost use Rattle.std.specs.Prelude.{◌≡◌, ◌≤◌, ◌<◌};
 ghost use Rattle.definitions.specs.Node.{constant_kind, add_kind, neg_kind, nan_constant};
 ghost use Rattle.kinds.specs.Kind.{operator_arity, control_arity, listed};
@@ -62,6 +64,7 @@ fn operator_arity(kind: u64, arity: u64) -> bool
 }
 
 // Whether a control has so many children.
+#[tactic(auto, unfolding(crate::specs::Kind::control_arity))]
 fn control_arity(control: u64, arity: u64) -> bool
     ensures { result ≡ control_arity control arity }
 {

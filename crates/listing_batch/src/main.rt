@@ -1,10 +1,12 @@
 // Lists many sheets in one run, for oracle/compare: each frame of standard input holds a sheet, and a frame with its listing is
 // written to standard output. A frame is a length of 4 bytes, big-endian, then that many bytes. `oracle/vectors` writes the files `stdin`
 // and `stdout`: listings of the independent checker, and inside 01's domain of the Rust original.
+#![tactic(auto)]
+
 ghost use Rattle.std.specs.Prelude.{◌<◌};
 
-use libc::{STDIN_FILENO, STDOUT_FILENO};
 use listing_bytes::LISTING_BYTES;
+use std::io::Read;
 
 const LENGTH_BYTES: usize = 4;
 
@@ -16,7 +18,7 @@ const HALF_BASE: usize = BYTE_BASE * BYTE_BASE;
 const FRAME_BYTES: usize = 65_536;
 
 // The length of a frame, or that none can be read.
-#[derive(Drop)]
+#[derive(Clone, Copy)]
 enum Frame {
     Length(usize),
     End,
@@ -28,9 +30,17 @@ fn wide(byte: u8) -> usize
     byte as usize
 }
 
-fn next_frame() -> Frame {
+// Whether the input filled an array, and did not end before or fail.
+fn is_filled<R: Read>(input: &mut R, array: &mut [u8]) -> bool {
+    match whole_input::fill(input, array) {
+        Ok(length) => length == array.len(),
+        Err(_) => false,
+    }
+}
+
+fn next_frame<R: Read>(input: &mut R) -> Frame {
     let mut head = [0u8; LENGTH_BYTES];
-    if io::read_full(STDIN_FILENO, &mut head) < LENGTH_BYTES {
+    if !is_filled(input, &mut head) {
         return Frame::End;
     }
     let high = wide(head[0]) * BYTE_BASE + wide(head[1]);
@@ -39,7 +49,7 @@ fn next_frame() -> Frame {
 }
 
 // Writes a frame with the listing of a sheet; false where the output took no more.
-fn answer(sheet: &[u8]) -> bool {
+fn answer(out: &impl Print, sheet: &[u8]) -> bool {
     let mut bytes = [0; LISTING_BYTES];
     let length = listing_bytes::list(sheet, &mut bytes);
     let head = [
@@ -48,23 +58,23 @@ fn answer(sheet: &[u8]) -> bool {
         (length / BYTE_BASE % BYTE_BASE) as u8,
         (length % BYTE_BASE) as u8,
     ];
-    if !io::write_all(STDOUT_FILENO, &head) {
+    if out.write_all(&head).is_err() {
         return false;
     }
-    io::write_all(STDOUT_FILENO, &bytes[..length])
+    out.write_all(&bytes[..length]).is_ok()
 }
 
 // Fills an array with a frame's sheet and answers it; false where the input ended before.
-fn answer_sheet(sheet: &mut [u8]) -> bool {
-    if io::read_full(STDIN_FILENO, sheet) < sheet.len() {
+fn answer_sheet<R: Read>(input: &mut R, out: &impl Print, sheet: &mut [u8]) -> bool {
+    if !is_filled(input, sheet) {
         return false;
     }
-    answer(sheet)
+    answer(out, sheet)
 }
 
 // Answers the next frame, and says whether to go on.
-fn turn() -> bool {
-    let frame = next_frame();
+fn turn<R: Read>(input: &mut R, out: &impl Print) -> bool {
+    let frame = next_frame(input);
     match frame {
         Frame::End => false,
         Frame::Length(length) => {
@@ -72,15 +82,16 @@ fn turn() -> bool {
                 return false;
             }
             let mut sheet = [0u8; FRAME_BYTES];
-            answer_sheet(&mut sheet[..length])
+            answer_sheet(input, out, &mut sheet[..length])
         }
     }
 }
 
 // A proved loop ends, and nothing says that the input does: the turns are counted down from a number that no run uses up.
-fn main() {
+fn main(rt: HostRuntime) {
+    let mut input = rt.stdin();
     let mut turns = u64::MAX;
-    while turns > 0 && turn() {
+    while turns > 0 && turn(&mut input, &rt) {
         turns -= 1;
     }
 }

@@ -1,4 +1,6 @@
 // The listing of a sheet on the store that 01's listing program has, as bytes.
+#![tactic(auto)]
+
 ghost use Rattle.listing_bytes.specs.Listed.{Listed};
 
 use arena::{DagArena, NODE_WORDS};

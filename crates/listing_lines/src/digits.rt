@@ -19,7 +19,7 @@ pub const ZERO: u8 = 48;
 pub const BEFORE_LETTERS: u8 = 55;
 
 // Digits at the end of an array, from a place on.
-#[derive(Drop)]
+#[derive(Clone, Copy)]
 struct Digits {
     bytes: [u8; MOST_DIGITS],
     first: usize,

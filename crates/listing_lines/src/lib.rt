@@ -1,4 +1,6 @@
 // The listing of a sheet's result (01, "sheets and the listing"), a line at a time.
+#![tactic(auto)]
+
 mod all;
 mod digits;
 mod line;
@@ -20,7 +22,7 @@ use node::node_line_sound;
 
 // What a sheet's first line says: the last answer's id, no records, the id of a last record that ran out, or a refusal and
 // its record.
-#[derive(Drop)]
+#[derive(Clone, Copy)]
 pub enum SheetOutcome {
     Ok(u64),
     Empty,
@@ -45,14 +47,14 @@ pub fn first_line(outcome: SheetOutcome) -> Line
 }
 
 // The line of an id, or the number of a refusal.
-#[derive(Drop)]
+#[derive(Clone, Copy)]
 pub enum LineFound {
     Line,
     Refused(u64),
 }
 
 // The answer, with the line beside it: an enum holds no arrays. Beside a refusal the line is empty.
-#[derive(Drop)]
+#[derive(Clone, Copy)]
 pub struct NodeLine {
     pub answer: LineFound,
     pub line: Line,

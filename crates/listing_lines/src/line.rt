@@ -6,7 +6,7 @@ ghost use Rattle.listing_lines.specs.Line.{line_bytes, ExtendsLine, EmptyLine};
 // each: 416 bytes.
 pub const LINE_BYTES: usize = 448;
 
-#[derive(Drop)]
+#[derive(Clone, Copy)]
 pub struct Line {
     pub bytes: [u8; LINE_BYTES],
     pub length: usize,

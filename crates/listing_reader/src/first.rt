@@ -9,7 +9,7 @@ use listing_lines::SheetOutcome;
 const EMPTY_BYTES: usize = 5;
 
 // What reading the first line finds: its outcome and the place after it, or nothing.
-#[derive(Drop)]
+#[derive(Clone, Copy)]
 pub(crate) enum First {
     Found { outcome: SheetOutcome, next: usize },
     Nothing,

@@ -1,5 +1,7 @@
 // Reading a listing's bytes back into nodes (01, "sheets and the listing"). Nodes are written as a store keeps
 // them, with their hashes and coefficients.
+#![tactic(auto)]
+
 mod first;
 mod node;
 mod number;
@@ -21,7 +23,7 @@ const FIRST_NODE_LINE: u64 = 2;
 
 // What reading a listing answers: its first line and how many nodes follow it, the number of the first line that is wrong,
 // or that the lent words are too few for the nodes.
-#[derive(Drop)]
+#[derive(Clone, Copy)]
 pub enum ListingAnswer {
     Read { outcome: SheetOutcome, count: u64 },
     Refused(u64),

@@ -10,7 +10,7 @@ use definitions::MOST_CHILDREN;
 use kinds::is_listed;
 
 // What stands before a node's children, and the place after it, or nothing.
-#[derive(Drop)]
+#[derive(Clone, Copy)]
 enum Heading {
     Found {
         id: u64,
@@ -23,7 +23,7 @@ enum Heading {
 }
 
 // Children up to the line's end, if they are there, and the place after it.
-#[derive(Drop)]
+#[derive(Clone, Copy)]
 struct Children {
     pub found: bool,
     pub count: u64,
@@ -32,7 +32,7 @@ struct Children {
 }
 
 // A node as listed, if its line is there, and the place after it.
-#[derive(Drop)]
+#[derive(Clone, Copy)]
 pub(crate) struct ListedNode {
     pub found: bool,
     pub node: DagNode,

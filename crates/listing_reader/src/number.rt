@@ -17,7 +17,7 @@ const LETTER_F: u8 = 70;
 const NO_DIGIT: u64 = 16;
 
 // What reading a number finds: the number and the place after it, or nothing.
-#[derive(Drop)]
+#[derive(Clone, Copy)]
 pub(crate) enum NumberRead {
     Found { value: u64, next: usize },
     Nothing,

@@ -6,46 +6,46 @@ use scripts::printing::{number, text};
 // Operands are printed up to this many; of more, the last.
 const FEW: usize = 4;
 
-fn print_operand(sheet: &[u8], first: usize, k: usize) {
+fn print_operand(out: &impl Print, sheet: &[u8], first: usize, k: usize) {
     if k < sheet.len() {
         if first < sheet.len() - k {
             if k < sheet.len() - k - first {
                 if 1 < sheet.len() - k - first - k {
-                    number(records::operand(sheet, first, k) as u64);
+                    number(out, records::operand(sheet, first, k) as u64);
                 }
             }
         }
     }
 }
 
-fn print_operands(sheet: &[u8], first: usize, count: usize) {
-    number(count as u64);
-    text(b":");
+fn print_operands(out: &impl Print, sheet: &[u8], first: usize, count: usize) {
+    number(out, count as u64);
+    text(out, b":");
     if FEW < count {
-        print_operand(sheet, first, count - 1);
+        print_operand(out, sheet, first, count - 1);
         return;
     }
     for k in 0..count {
-        print_operand(sheet, first, k);
+        print_operand(out, sheet, first, k);
     }
 }
 
-fn print_mode(mode: Mode) {
+fn print_mode(out: &impl Print, mode: Mode) {
     match mode {
-        Mode::Standard => text(b"simplify"),
-        Mode::Strict => text(b"simplify strictly"),
+        Mode::Standard => text(out, b"simplify"),
+        Mode::Strict => text(out, b"simplify strictly"),
     }
 }
 
-pub(crate) fn print_body(sheet: &[u8], body: Body) {
+pub(crate) fn print_body(out: &impl Print, sheet: &[u8], body: Body) {
     match body {
         Body::Variable(symbol) => {
-            text(b"variable");
-            number(symbol as u64);
+            text(out, b"variable");
+            number(out, symbol as u64);
         }
         Body::Constant(bits) => {
-            text(b"constant");
-            number(bits);
+            text(out, b"constant");
+            number(out, bits);
         }
         Body::Operator {
             code,
@@ -53,24 +53,24 @@ pub(crate) fn print_body(sheet: &[u8], body: Body) {
             first,
             count,
         } => {
-            text(b"operator");
-            number(code as u64);
-            number(flags as u64);
-            print_operands(sheet, first, count);
+            text(out, b"operator");
+            number(out, code as u64);
+            number(out, flags as u64);
+            print_operands(out, sheet, first, count);
         }
         Body::Function {
             number: called,
             first,
             count,
         } => {
-            text(b"function");
-            number(called as u64);
-            print_operands(sheet, first, count);
+            text(out, b"function");
+            number(out, called as u64);
+            print_operands(out, sheet, first, count);
         }
         Body::Control { code, first, count } => {
-            text(b"control");
-            number(code as u64);
-            print_operands(sheet, first, count);
+            text(out, b"control");
+            number(out, code as u64);
+            print_operands(out, sheet, first, count);
         }
         Body::Simplify {
             mode,
@@ -78,15 +78,15 @@ pub(crate) fn print_body(sheet: &[u8], body: Body) {
             depth,
             budget,
         } => {
-            print_mode(mode);
-            number(operand as u64);
-            number(depth as u64);
-            number(budget as u64);
+            print_mode(out, mode);
+            number(out, operand as u64);
+            number(out, depth as u64);
+            number(out, budget as u64);
         }
         Body::Prune { operand, threshold } => {
-            text(b"prune");
-            number(operand as u64);
-            number(threshold);
+            text(out, b"prune");
+            number(out, operand as u64);
+            number(out, threshold);
         }
         Body::Malformed => {}
     }

@@ -31,20 +31,20 @@ fn is_shown(place: usize) -> bool {
     }
 }
 
-fn print_word(nodes: &[u64], at: usize) {
+fn print_word(out: &impl Print, nodes: &[u64], at: usize) {
     if at < nodes.len() {
-        number(nodes[at]);
+        number(out, nodes[at]);
     }
 }
 
-fn print_node(nodes: &[u64], id: usize) {
-    text(b" ");
+fn print_node(out: &impl Print, nodes: &[u64], id: usize) {
+    text(out, b" ");
     for place in 0..NODE_WORDS {
         if is_shown(place) {
-            print_word(nodes, id % MOST_NODES * NODE_WORDS + place);
+            print_word(out, nodes, id % MOST_NODES * NODE_WORDS + place);
         }
     }
-    text(b"\n");
+    text(out, b"\n");
 }
 
 fn byte_of(sign: u8) -> u8 {
@@ -70,34 +70,34 @@ fn spelled(line: &[u8], bytes: &mut [u8]) -> usize
 }
 
 // The listing that a line spells, read.
-pub(crate) fn show(line: &[u8]) {
+pub(crate) fn show(out: &impl Print, line: &[u8]) {
     let mut bytes = [0u8; MOST_BYTES];
     let length = spelled(line, &mut bytes);
-    print_read(&bytes[..length]);
+    print_read(out, &bytes[..length]);
 }
 
 // Reads a listing into words that all were 7.
-fn print_read(bytes: &[u8]) {
+fn print_read(out: &impl Print, bytes: &[u8]) {
     let mut nodes = [7u64; MOST_WORDS];
     let answer = listing_reader::read(bytes, &mut nodes);
     match answer {
         ListingAnswer::Read { outcome, count } => {
-            print_outcome(outcome);
-            text(b", nodes");
-            number(count);
-            text(b"\n");
-            print_node(&nodes, 0);
-            print_node(&nodes, 1);
-            print_node(&nodes, 2);
-            print_node(&nodes, 3);
+            print_outcome(out, outcome);
+            text(out, b", nodes");
+            number(out, count);
+            text(out, b"\n");
+            print_node(out, &nodes, 0);
+            print_node(out, &nodes, 1);
+            print_node(out, &nodes, 2);
+            print_node(out, &nodes, 3);
         }
         ListingAnswer::Refused(line) => {
-            text(b"line");
-            number(line);
-            text(b"\n");
+            text(out, b"line");
+            number(out, line);
+            text(out, b"\n");
         }
         ListingAnswer::Full => {
-            text(b"full\n");
+            text(out, b"full\n");
         }
     }
 }

@@ -8,6 +8,8 @@
 //   f FORM N M       a first line: 0 `ok`, 1 `ok -`, 2 `spent`, 3 `refused` with the numbers
 //   n ID COUNT       a node's line, in a store of four nodes that is taken for one of COUNT; or a refusal
 // The file `stdout` has what 01 and 02 ask for.
+#![tactic(auto)]
+
 mod bodies;
 mod lines;
 mod listings;
@@ -15,43 +17,44 @@ mod nodes;
 mod sheets;
 mod texts;
 
-use libc::STDIN_FILENO;
 use lines::line_end;
 use scripts::printing::text;
+use std::io;
 
 const INPUT_BYTES: usize = 65_536;
 
 // A line.
-fn run_line(line: &[u8]) {
+fn run_line(out: &impl Print, line: &[u8]) {
     if line.len() < 2 {
         return;
     }
     let letter = line[0];
     match letter {
-        b't' => texts::print_listing(&line[2..]),
-        b's' => sheets::show(line),
-        b'l' => listings::show(&line[2..]),
-        b'f' => nodes::print_first(lines::numbers(line)),
-        b'n' => nodes::print_node(lines::numbers(line)),
+        b't' => texts::print_listing(out, &line[2..]),
+        b's' => sheets::show(out, line),
+        b'l' => listings::show(out, &line[2..]),
+        b'f' => nodes::print_first(out, lines::numbers(line)),
+        b'n' => nodes::print_node(out, lines::numbers(line)),
         _ => {
-            text(line);
-            text(b"\n");
+            text(out, line);
+            text(out, b"\n");
         }
     }
 }
 
 // All lines.
-fn run(input: &[u8]) {
+fn run(out: &impl Print, input: &[u8]) {
     let mut at: usize = 0;
     while at < input.len() {
         let end = line_end(input, at);
-        run_line(&input[at..end]);
+        run_line(out, &input[at..end]);
         at = end + 1;
     }
 }
 
-fn main() {
+fn main(rt: HostRuntime) -> io::Result<()> {
     let mut input = [0u8; INPUT_BYTES];
-    let length = io::read_full(STDIN_FILENO, &mut input);
-    run(&input[..length]);
+    let length = whole_input::fill(&mut rt.stdin(), &mut input)?;
+    run(&rt, &input[..length]);
+    Ok(())
 }

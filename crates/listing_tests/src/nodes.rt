@@ -2,9 +2,8 @@
 use crate::lines::MOST_NUMBERS;
 use arena::{DagArena, NODE_WORDS};
 use builder::FreshStore;
-use libc::STDOUT_FILENO;
 use listing_lines::{LINE_BYTES, Line, LineFound, SheetOutcome, first_line};
-use scripts::printing::text;
+use scripts::printing::{decimal, text};
 
 // A store of 8 nodes and 64 slots.
 const WORDS: usize = 8 * NODE_WORDS;
@@ -12,52 +11,55 @@ const WORDS: usize = 8 * NODE_WORDS;
 const SLOTS: usize = 64;
 
 // The first bytes of a line.
-fn print_part(line: Line, end: usize) {
+fn print_part(out: &impl Print, line: Line, end: usize) {
     let bytes = line.bytes;
     if LINE_BYTES < end {
         return;
     }
-    text(&bytes[..end]);
+    text(out, &bytes[..end]);
 }
 
-fn print_line(line: Line) {
-    print_part(line, line.length);
+fn print_line(out: &impl Print, line: Line) {
+    print_part(out, line, line.length);
 }
 
 // An outcome as its first line has it, but for the line feed.
-pub(crate) fn print_outcome(outcome: SheetOutcome) {
+pub(crate) fn print_outcome(out: &impl Print, outcome: SheetOutcome) {
     let line = first_line(outcome);
     let length = line.length;
     if 0 < length {
-        print_part(line, length - 1);
+        print_part(out, line, length - 1);
     }
 }
 
 // The first line of a form and two numbers.
-pub(crate) fn print_first(list: [u64; MOST_NUMBERS]) {
+pub(crate) fn print_first(out: &impl Print, list: [u64; MOST_NUMBERS]) {
     let form = list[1];
     match form {
-        0 => print_line(first_line(SheetOutcome::Ok(list[2]))),
-        1 => print_line(first_line(SheetOutcome::Empty)),
-        2 => print_line(first_line(SheetOutcome::Spent(list[2]))),
-        _ => print_line(first_line(SheetOutcome::Refused {
-            number: list[2],
-            at: list[3],
-        })),
+        0 => print_line(out, first_line(SheetOutcome::Ok(list[2]))),
+        1 => print_line(out, first_line(SheetOutcome::Empty)),
+        2 => print_line(out, first_line(SheetOutcome::Spent(list[2]))),
+        _ => print_line(
+            out,
+            first_line(SheetOutcome::Refused {
+                number: list[2],
+                at: list[3],
+            }),
+        ),
     }
 }
 
-fn print_found(nodes: &[u64], slots: &[u32], arena: DagArena, id: u32) {
+fn print_found(out: &impl Print, nodes: &[u64], slots: &[u32], arena: DagArena, id: u32) {
     let asked = listing_lines::node_line(nodes, slots, arena, id);
     let answer = asked.answer;
     match answer {
         LineFound::Line => {
             let line = asked.line;
-            print_line(line);
+            print_line(out, line);
         }
         LineFound::Refused(refusal) => {
-            io::print_decimal(STDOUT_FILENO, refusal);
-            text(b"\n");
+            decimal(out, refusal);
+            text(out, b"\n");
         }
     }
 }
@@ -73,7 +75,7 @@ fn build_over(nodes: &mut [u64], slots: &mut [u32], arena: DagArena) -> DagArena
 }
 
 // The line of a node, in a store that is taken for one of so many nodes.
-pub(crate) fn print_node(list: [u64; MOST_NUMBERS]) {
+pub(crate) fn print_node(out: &impl Print, list: [u64; MOST_NUMBERS]) {
     let mut nodes = [0; WORDS];
     let mut slots = [0; SLOTS];
     let fresh = builder::fresh(&nodes, &mut slots);
@@ -85,10 +87,10 @@ pub(crate) fn print_node(list: [u64; MOST_NUMBERS]) {
                 count: list[2],
                 size: four.size,
             };
-            print_found(&nodes, &slots, taken, (list[1] % 4_294_967_296) as u32);
+            print_found(out, &nodes, &slots, taken, (list[1] % 4_294_967_296) as u32);
         }
         FreshStore::Refused(refusal) => {
-            io::print_decimal(STDOUT_FILENO, refusal);
+            decimal(out, refusal);
         }
     }
 }

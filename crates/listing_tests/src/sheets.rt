@@ -12,36 +12,36 @@ const MOST_RECORDS: u64 = 1_024;
 const ROOM: usize = MOST_SHEET_BYTES + 1;
 
 // Where the next record is, if there may be one.
-#[derive(Drop)]
+#[derive(Clone, Copy)]
 enum NextSheet {
     At(usize),
     Nothing,
 }
 
 // Prints the record at a place, and says where the next one is.
-fn print_record(sheet: &[u8], at: usize) -> NextSheet {
+fn print_record(out: &impl Print, sheet: &[u8], at: usize) -> NextSheet {
     let record = records::read(sheet, Cursor { at });
     let body = record.body;
     let next = record.next;
     if let Body::Malformed = body {
-        text(b"?\n");
+        text(out, b"?\n");
         return NextSheet::Nothing;
     }
-    print_body(sheet, body);
-    text(b"; ");
+    print_body(out, sheet, body);
+    text(out, b"; ");
     NextSheet::At(next.at)
 }
 
-fn print_records(sheet: &[u8], start: usize) {
+fn print_records(out: &impl Print, sheet: &[u8], start: usize) {
     let mut at = start;
     let mut left = MOST_RECORDS;
     while left > 0 {
         left -= 1;
         if sheet.len() <= at {
-            text(b".\n");
+            text(out, b".\n");
             return;
         }
-        let next = print_record(sheet, at);
+        let next = print_record(out, sheet, at);
         let NextSheet::At(place) = next else {
             return;
         };
@@ -81,22 +81,22 @@ fn spelled(line: &[u8], sheet: &mut [u8]) -> usize
     written
 }
 
-fn print_sheet(sheet: &[u8]) {
+fn print_sheet(out: &impl Print, sheet: &[u8]) {
     let opened = records::open(sheet);
     match opened {
         Opened::Records(cursor) => {
             let at = cursor.at;
-            print_records(sheet, at);
+            print_records(out, sheet, at);
         }
         Opened::Refused => {
-            text(b"refused\n");
+            text(out, b"refused\n");
         }
     }
 }
 
 // The bytes that a line spells, and what they are printed as.
-pub(crate) fn show(line: &[u8]) {
+pub(crate) fn show(out: &impl Print, line: &[u8]) {
     let mut sheet = [0u8; ROOM];
     let length = spelled(line, &mut sheet);
-    print_sheet(&sheet[..length]);
+    print_sheet(out, &sheet[..length]);
 }

@@ -1,5 +1,7 @@
 // Whether a threshold keeps a term. 01: "a term is kept if its magnitude is at least the threshold (constant: |v|;
 // other: 1.0)".
+#![tactic(auto)]
+
 ghost use Rattle.std.specs.Prelude.{◌≡◌};
 ghost use Rattle.std.specs.Float.{binary64};
 ghost use Rattle.std.specs.Float.Ieee.{of_bits};

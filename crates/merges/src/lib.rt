@@ -1,4 +1,6 @@
 // Merging: a constant beside a product or sum that has a constant of its own.
+#![tactic(auto)]
+
 ghost use Rattle.std.specs.Prelude.{◌≡◌};
 ghost use Rattle.definitions.specs.Node as N;
 ghost use Rattle.definitions.specs.Patterns as P;
@@ -13,7 +15,7 @@ use fold::Folded;
 use kinds::{ADD, MUL};
 
 // The constant among two children: its bits, and the other child. Where both are constants the left one is taken.
-#[derive(Drop)]
+#[derive(Clone, Copy)]
 enum ConstantChild {
     Left { bits: u64, other: u64 },
     Right { bits: u64, other: u64 },

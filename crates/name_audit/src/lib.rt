@@ -1,4 +1,6 @@
 // The audit of a name list: refusal 20 of 01.
+#![tactic(auto)]
+
 ghost use Rattle.std.specs.Prelude.{◌≡◌, ◌*◌, ◌≤◌, length};
 ghost use Rattle.definitions.specs.Names.{entry_bytes, most_names};
 ghost use Rattle.definitions.specs.Says.{Says};

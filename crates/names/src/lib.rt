@@ -1,4 +1,6 @@
 // The symbol registry: names in a lent list of entries of 33 bytes, numbered in order of first interning.
+#![tactic(auto)]
+
 ghost use Rattle.std.specs.Prelude.{◌≡◌, [], ◌*◌, ◌≤◌, length};
 ghost use Rattle.definitions.specs.Names.{entry_bytes, intern_name, lookup_name};
 ghost use Rattle.definitions.specs.Says.{Says};
@@ -9,7 +11,7 @@ use definitions::refusals::{BAD_NAME_LENGTH, NO_NAME_PLACE, NOT_SOUND};
 use name_entries::entry;
 
 // What a call answers: a name's number, none such, the length of a name that stands beside it, or a refusal's number.
-#[derive(Drop)]
+#[derive(Clone, Copy)]
 pub enum NameReply {
     Numbered(u32),
     Unknown,
@@ -18,21 +20,21 @@ pub enum NameReply {
 }
 
 // An answer, and how many names there are then.
-#[derive(Drop)]
+#[derive(Clone, Copy)]
 pub struct InternedName {
     pub answer: NameReply,
     pub count: usize,
 }
 
 // An answer, and beside it the bytes of a name that it gives the length of.
-#[derive(Drop)]
+#[derive(Clone, Copy)]
 pub struct NameBytes {
     pub answer: NameReply,
     pub bytes: [u8; entry::LONGEST_NAME],
 }
 
 // Where a name stands.
-#[derive(Drop)]
+#[derive(Clone, Copy)]
 enum EntryFound {
     At(usize),
     Nothing,

@@ -1,6 +1,8 @@
 // The patterns of patterns.rs over the store, first that fits: identities, then folding, then merging; and the strict ones of 02 (i). Each
 // pattern decides over the nodes as they are what is to stand in an operator's place; `carry_out` then makes it. Which pattern it is goes
 // with the decision.
+#![tactic(auto)]
+
 mod answers;
 
 ghost use Rattle.std.specs.Prelude.{[], ◌∷◌};
@@ -19,7 +21,7 @@ use definitions::mode::Mode;
 use kinds::{ADD, MOD, NEG};
 
 // What try_apply did: no pattern fits, or the id of its result, or the refusal (21, 22) that stopped it.
-#[derive(Drop)]
+#[derive(Clone, Copy)]
 pub enum Matched {
     Declined,
     Id(u64),
@@ -27,7 +29,7 @@ pub enum Matched {
 }
 
 // 02 (k): "A rule fires when a finished frame takes its result, so not when stopped by 21 or 22."
-#[derive(Drop)]
+#[derive(Clone, Copy)]
 pub struct Applied {
     pub matched: Matched,
     pub arena: DagArena,

@@ -1,4 +1,6 @@
 // Pruning (01, "simplifier: pruning"): an additive chain without the terms whose magnitude is below a threshold.
+#![tactic(auto)]
+
 pub mod threshold;
 
 ghost use Rattle.std.specs.Prelude.{◌<◌};
@@ -13,7 +15,7 @@ use definitions::refusals::{BAD_OPERAND, NOT_SOUND, TOO_MANY_TERMS};
 use kinds::ADD;
 use threshold::Threshold;
 
-#[derive(Drop)]
+#[derive(Clone, Copy)]
 pub enum PruneAnswer {
     // The id that stands for the pruned chain, and the numbers of terms kept and dropped.
     Pruned { id: u64, kept: u64, dropped: u64 },
@@ -22,7 +24,7 @@ pub enum PruneAnswer {
 }
 
 // An answer, and the store's count and size after it.
-#[derive(Drop)]
+#[derive(Clone, Copy)]
 pub struct PruneOutcome {
     pub answer: PruneAnswer,
     pub arena: DagArena,

@@ -7,7 +7,7 @@ ghost use Rattle.pruner.specs.Answers.{threshold_of};
 use definitions::refusals::{BAD_SETTING, BAD_THRESHOLD};
 use text_language::BITS_OF_INFINITY;
 
-#[derive(Drop)]
+#[derive(Clone, Copy)]
 pub enum Threshold {
     // The binary64 bits of a threshold.
     Bits(u64),

@@ -1,4 +1,6 @@
 // What a finished frame of the walk gives (01, "engine: the walk"): rebuild_or_match, the result's mark, and which pattern fired (02 k).
+#![tactic(auto)]
+
 ghost use Rattle.std.specs.Prelude.{◌≡◌};
 ghost use Rattle.std.proofs.Math.Option.{none};
 ghost use Rattle.definitions.specs.Modes.{mode_of};
@@ -22,7 +24,7 @@ const OTHER_FLAGS: u64 = 0;
 const CONSTRUCTED_ARITY: u64 = 2;
 
 // The result or the refusal that stopped it, the store after it, and the pattern that fired.
-#[derive(Drop)]
+#[derive(Clone, Copy)]
 pub struct Finished {
     pub answer: NodeAnswer,
     pub arena: DagArena,

@@ -1,4 +1,6 @@
 // Reading a sheet (01, "sheets and the listing"): how it starts, and one record at a cursor.
+#![tactic(auto)]
+
 mod decoding;
 mod number;
 
@@ -17,13 +19,13 @@ const FIRST_BYTE: u8 = 1;
 const LENGTH_BYTES: usize = 2;
 
 // A place in a sheet's bytes.
-#[derive(Drop)]
+#[derive(Clone, Copy)]
 pub struct Cursor {
     pub at: usize,
 }
 
 // Where a sheet's records start, or refusal 1.
-#[derive(Drop)]
+#[derive(Clone, Copy)]
 pub enum Opened {
     Records(Cursor),
     Refused,
@@ -31,7 +33,7 @@ pub enum Opened {
 
 // What a record asks for, on record numbers. A body with any number of operands says where they start and how
 // many there are. Malformed: past the end, unknown, or a wrong length (refusal 2).
-#[derive(Drop)]
+#[derive(Clone, Copy)]
 pub enum Body {
     Variable(u32),
     Constant(u64),
@@ -65,7 +67,7 @@ pub enum Body {
 }
 
 // A record's body, and the place after it.
-#[derive(Drop)]
+#[derive(Clone, Copy)]
 pub struct Record {
     pub body: Body,
     pub next: Cursor,

@@ -1,4 +1,6 @@
 // Carrying out a replacement through the store, which alone makes nodes.
+#![tactic(auto)]
+
 ghost use Rattle.std.specs.Prelude.{[], ◌∷◌};
 ghost use Rattle.store.specs.View.{Sound};
 ghost use Rattle.decisions.specs.Carrying.{BuildsBy, constant_of, operator_of, beside_constant, carried};

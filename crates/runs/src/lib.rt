@@ -1,10 +1,12 @@
 // The state of a walk, and its run: a budget of turns at most (01, "engine: the walk").
+#![tactic(auto)]
+
 pub mod run;
 pub mod state;
 
 use arena::DagArena;
 
-#[derive(Drop)]
+#[derive(Clone, Copy)]
 pub enum WalkAnswer {
     // What the root was simplified to.
     Simplified { id: u64, steps: u64 },
@@ -15,7 +17,7 @@ pub enum WalkAnswer {
 }
 
 // An answer, and the store's count and size after it.
-#[derive(Drop)]
+#[derive(Clone, Copy)]
 pub struct WalkOutcome {
     pub answer: WalkAnswer,
     pub arena: DagArena,

@@ -14,7 +14,7 @@ use scripts::memory::least;
 use scripts::tokens::{high, narrow};
 
 // The header of an encoded call, and the place of the first operand.
-#[derive(Drop)]
+#[derive(Clone, Copy)]
 struct Arguments {
     header: Header,
     first: usize,
@@ -112,6 +112,7 @@ fn call(
 
 // The call of a line, as often as asked for; the answer of the last is shown.
 pub fn run(
+    out: &impl Print,
     nodes: &mut [u64],
     slots: &mut [u32],
     entries: &mut [u8],
@@ -129,7 +130,7 @@ pub fn run(
         last = call(nodes, slots, entries, before, known, line, code, turn);
         turn += 1;
     }
-    showing::handed(last);
+    showing::handed(out, last);
     let mut after = now;
     let arena = last.arena;
     after.arena = arena;

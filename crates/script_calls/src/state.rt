@@ -9,7 +9,7 @@ use scripts::tokens::narrow;
 // The words of the longest list of calls.
 pub const LIST_WORDS: usize = 600;
 
-#[derive(Drop)]
+#[derive(Clone, Copy)]
 pub struct Now {
     pub arena: DagArena,
     pub names: usize,
@@ -46,17 +46,17 @@ pub fn with_arena(now: Now, arena: DagArena) -> Now {
 }
 
 // A fresh store, no names and no list.
-pub fn fresh(nodes: &[u64], slots: &mut [u32], now: Now) -> Now {
+pub fn fresh(out: &impl Print, nodes: &[u64], slots: &mut [u32], now: Now) -> Now {
     let mut after = now;
     let opened = builder::fresh(nodes, slots);
     let mut arena = DagArena { count: 0, size: 0 };
     match opened {
         FreshStore::Store(counts) => {
             arena = counts;
-            text(b" slots");
-            number(counts.size as u64);
+            text(out, b" slots");
+            number(out, counts.size as u64);
         }
-        FreshStore::Refused(refusal) => refused(refusal),
+        FreshStore::Refused(refusal) => refused(out, refusal),
     }
     after.arena = arena;
     after.names = 0;

@@ -24,19 +24,20 @@ fn untouched(buffer: &[u8], from: usize) -> bool {
     true
 }
 
-fn show_first(buffer: &[u8], count: usize) {
+fn show_first(out: &impl Print, buffer: &[u8], count: usize) {
     if count <= buffer.len() {
-        text(&buffer[..count]);
+        text(out, &buffer[..count]);
     }
 }
 
-fn show_whether_touched(buffer: &[u8], from: usize) {
+fn show_whether_touched(out: &impl Print, buffer: &[u8], from: usize) {
     if !untouched(buffer, from) {
-        text(b", bytes changed");
+        text(out, b", bytes changed");
     }
 }
 
 fn write_to(
+    out: &impl Print,
     nodes: &[u64],
     slots: &[u32],
     entries: &[u8],
@@ -48,23 +49,31 @@ fn write_to(
     let answer = writer::write(nodes, slots, arena, entries, names, id, buffer);
     match answer {
         WriteAnswer::Length(bytes) => {
-            number(bytes as u64);
-            text(b" ");
-            show_first(buffer, bytes);
-            show_whether_touched(buffer, bytes);
+            number(out, bytes as u64);
+            text(out, b" ");
+            show_first(out, buffer, bytes);
+            show_whether_touched(out, buffer, bytes);
         }
         WriteAnswer::Refused(refusal) => {
-            refused(refusal);
-            show_whether_touched(buffer, 0);
+            refused(out, refusal);
+            show_whether_touched(out, buffer, 0);
         }
     }
 }
 
 // A node's text, in a buffer of so many bytes.
-pub fn write(nodes: &[u64], slots: &[u32], entries: &[u8], now: Now, list: [u64; MOST_VALUES]) {
+pub fn write(
+    out: &impl Print,
+    nodes: &[u64],
+    slots: &[u32],
+    entries: &[u8],
+    now: Now,
+    list: [u64; MOST_VALUES],
+) {
     let mut buffer = [FILLING; BUFFER];
     let size = least(list[2] as usize, BUFFER);
     write_to(
+        out,
         nodes,
         slots,
         entries,

@@ -24,17 +24,18 @@ fn ready(nodes: &[u64], slots: &[u32], arena: DagArena, lhs: u64, rhs: u64) -> b
     }
 }
 
-fn show(matched: Matched) {
+fn show(out: &impl Print, matched: Matched) {
     match matched {
-        Matched::Declined => text(b" none"),
-        Matched::Id(id) => number(id),
-        Matched::Refused(refusal) => refused(refusal),
+        Matched::Declined => text(out, b" none"),
+        Matched::Id(id) => number(out, id),
+        Matched::Refused(refusal) => refused(out, refusal),
     }
 }
 
 // What `patterns::try_apply` answers for a kind, two ids and a number of children, of which those from the third on are the second again;
 // and the nodes that it added.
 pub fn apply(
+    out: &impl Print,
     nodes: &mut [u64],
     slots: &mut [u32],
     arena: DagArena,
@@ -45,11 +46,11 @@ pub fn apply(
     let rhs = list[3];
     let arity = list[4];
     if !ready(nodes, slots, arena, lhs, rhs) {
-        text(b" not ready");
+        text(out, b" not ready");
         return arena;
     }
     if (MOST_CHILDREN as u64) < arity {
-        text(b" too many");
+        text(out, b" too many");
         return arena;
     }
     let mut children = [rhs as u32; MOST_CHILDREN];
@@ -58,7 +59,7 @@ pub fn apply(
     let applied = patterns::try_apply(nodes, slots, arena, Mode::Standard, kind, &children[..used]);
     let matched = applied.matched;
     let left = applied.arena;
-    show(matched);
-    between(nodes, slots, left, arena.count, left.count);
+    show(out, matched);
+    between(out, nodes, slots, left, arena.count, left.count);
     left
 }

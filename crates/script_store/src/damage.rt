@@ -42,9 +42,9 @@ fn set_all(nodes: &mut [u64], slots: &mut [u32], entries: &mut [u8], value: u64)
     }
 }
 
-fn show_word(nodes: &[u64], at: usize) {
+fn show_word(out: &impl Print, nodes: &[u64], at: usize) {
     if at < nodes.len() {
-        number(nodes[at]);
+        number(out, nodes[at]);
     }
 }
 
@@ -52,26 +52,27 @@ fn wide(slot: u32) -> u64 {
     slot as u64
 }
 
-fn show_slot(slots: &[u32], at: usize) {
+fn show_slot(out: &impl Print, slots: &[u32], at: usize) {
     if at < slots.len() {
-        number(wide(slots[at]));
+        number(out, wide(slots[at]));
     }
 }
 
 // A slot; where an end is given, all from there on and before it.
-fn show_slots(slots: &[u32], from: usize, end: usize) {
-    show_slot(slots, from);
+fn show_slots(out: &impl Print, slots: &[u32], from: usize, end: usize) {
+    show_slot(out, slots, from);
     let mut at = from;
     while at < end {
         at += 1;
         if at != end {
-            show_slot(slots, at);
+            show_slot(out, slots, at);
         }
     }
 }
 
 // A word, slot or byte set, or all of them; hashes and slots made anew; a word or slots shown.
 pub fn change(
+    out: &impl Print,
     nodes: &mut [u64],
     slots: &mut [u32],
     entries: &mut [u8],
@@ -87,7 +88,7 @@ pub fn change(
         lines::FILL => set_all(nodes, slots, entries, list[1]),
         lines::REHASH => rehash(nodes, narrow(list[1])),
         lines::REFILL => fill(nodes, slots, at, narrow(value)),
-        lines::WORD => show_word(nodes, at),
-        _ => show_slots(slots, at, value as usize),
+        lines::WORD => show_word(out, nodes, at),
+        _ => show_slots(out, slots, at, value as usize),
     }
 }

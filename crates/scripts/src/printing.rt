@@ -1,16 +1,24 @@
-// Text and numbers on standard output.
-use libc::STDOUT_FILENO;
-
-pub fn text(t: &[u8]) {
-    io::write_all(STDOUT_FILENO, t);
+// Text and numbers on what prints, as the standard output. What it does not take is lost.
+pub fn text(out: &impl Print, t: &[u8]) {
+    let _ = out.write_all(t);
 }
 
-pub fn number(n: u64) {
-    text(b" ");
-    io::print_decimal(STDOUT_FILENO, n);
+pub fn number(out: &impl Print, n: u64) {
+    text(out, b" ");
+    decimal(out, n);
 }
 
-pub fn refused(refusal: u64) {
-    text(b" refused");
-    number(refusal);
+// A number with no blank before it.
+pub fn decimal(out: &impl Print, n: u64) {
+    let _ = out.print(n);
+}
+
+// The 16 hexadecimal digits of a number.
+pub fn hexadecimal(out: &impl Print, n: u64) {
+    let _ = print!(out; "{n:016x}");
+}
+
+pub fn refused(out: &impl Print, refusal: u64) {
+    text(out, b" refused");
+    number(out, refusal);
 }

@@ -12,7 +12,7 @@ const MOST_BEFORE: u64 = 0x0fff_ffff_ffff_ffff;
 const WORD_VALUES: u64 = 4_294_967_296;
 
 // A number as far as it was read.
-#[derive(Drop)]
+#[derive(Clone, Copy)]
 pub struct Token {
     // The digits since the last sign.
     pub value: u64,

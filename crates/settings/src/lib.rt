@@ -1,11 +1,13 @@
 // Prune settings: the threshold that a setting stands for.
+#![tactic(auto)]
+
 ghost use Rattle.std.specs.Prelude.{◌≡◌};
 ghost use Rattle.definitions.specs.Settings as Settings;
 ghost use Rattle.settings.specs.Answers.{meaning};
 
 use thresholds::{FIRST_PRUNING_SETTING, LAST_SETTING};
 
-#[derive(Drop)]
+#[derive(Clone, Copy)]
 pub enum Setting {
     // Prune at the threshold with this bit pattern.
     Threshold(u64),

@@ -1,11 +1,12 @@
 // Prints the thresholds of settings 20 to 200, by rising setting, 16 capital hex digits a line, computed from whole numbers alone.
+#![tactic(auto)]
+
 ghost use Rattle.std.specs.Prelude.{[], ◌∷◌, ◌++◌, ◌≤◌};
 ghost use Rattle.definitions.specs.Listing.{hex, line_feed};
 ghost use Rattle.thresholds.specs.Thresholds.{first_pruning_setting, last_setting, threshold};
 ghost use Rattle.listing_lines.specs.Line.{Holds};
 
 use computed_thresholds::nearest_pattern;
-use libc::STDOUT_FILENO;
 use listing_lines::{Line, hex_line};
 use thresholds::{FIRST_PRUNING_SETTING, LAST_SETTING};
 
@@ -17,17 +18,17 @@ fn table_line(n: u64) -> Line
     hex_line(nearest_pattern(n))
 }
 
-fn print_line(n: u64)
+fn print_line(out: &impl Print, n: u64)
     requires { (first_pruning_setting ≤ n) × (n ≤ last_setting) }
 {
     let line = table_line(n);
     let bytes = line.bytes;
     let length = line.length;
-    io::write_all(STDOUT_FILENO, &bytes[..length]);
+    let _ = out.write_all(&bytes[..length]);
 }
 
-fn main() {
+fn main(rt: HostRuntime) {
     for n in FIRST_PRUNING_SETTING as u64..=LAST_SETTING as u64 {
-        print_line(n);
+        print_line(&rt, n);
     }
 }

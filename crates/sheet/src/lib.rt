@@ -1,4 +1,6 @@
 // Sheets (01, "sheets and the listing"): records done in order on one store.
+#![tactic(auto)]
+
 mod operands;
 mod performing;
 mod running;
@@ -18,7 +20,7 @@ use running::run_records;
 pub(crate) const MOST_RECORDS: usize = 1_024;
 
 // What a sheet's first line says, and the counts of the store after it.
-#[derive(Drop)]
+#[derive(Clone, Copy)]
 pub struct Ran {
     pub outcome: SheetOutcome,
     pub arena: DagArena,

@@ -14,7 +14,7 @@ use records::Body;
 use store_calls::{Answer, Call, Performed, perform_sound};
 
 // What a record asks for: a call, and where its operands start and how many there are; or nothing (refusal 2).
-#[derive(Drop)]
+#[derive(Clone, Copy)]
 pub(crate) enum RecordRequest {
     Call {
         call: Call,

@@ -17,7 +17,7 @@ use store_calls::Answer;
 
 // How far a sheet is done: the number of records, where the next one starts, the last answer's id and whether its budget ran out,
 // and the counts of the store.
-#[derive(Drop)]
+#[derive(Clone, Copy)]
 pub(crate) struct SheetProgress {
     pub done: usize,
     pub at: usize,
@@ -27,14 +27,14 @@ pub(crate) struct SheetProgress {
 }
 
 // One more record done, or the number of the refusal that cuts the sheet short.
-#[derive(Drop)]
+#[derive(Clone, Copy)]
 pub(crate) enum SheetTurn {
     More(SheetProgress),
     Refused { number: u64, arena: DagArena },
 }
 
 // What a record's answer is noted as: an id, and whether the budget ran out; or the number of a refusal.
-#[derive(Drop)]
+#[derive(Clone, Copy)]
 pub(crate) enum Noted {
     Answered { id: u64, spent: bool },
     Refused(u64),

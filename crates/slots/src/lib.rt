@@ -1,5 +1,7 @@
 // The slots of the duplicate table (dedup.rs): its sizes, the first free place from a hash, and the ids put into slots. 01: "A slot is a
 // 32-bit id + 1, or 0."
+#![tactic(auto)]
+
 ghost use Rattle.std.specs.Prelude.{◌≡◌, ◌-◌, ◌<◌};
 
 pub mod filling;

@@ -1,4 +1,6 @@
 // The store: lent words and slots as the plain machine's list of nodes. Crates above use interning, lookups and marks.
+#![tactic(auto)]
+
 pub mod interning;
 pub mod lookup;
 
@@ -10,14 +12,14 @@ pub use interning::{REFUSALS, answer_in, intern, intern_likely};
 pub use lookup::{arity, child, has_children, is_canonical, kind, mark, payload};
 
 // The id of a node, or the number of a refusal.
-#[derive(Drop)]
+#[derive(Clone, Copy)]
 pub enum NodeAnswer {
     Id(u64),
     Refused(u64),
 }
 
 // An answer, and the counts of the store after it.
-#[derive(Drop)]
+#[derive(Clone, Copy)]
 pub struct Built {
     pub answer: NodeAnswer,
     pub arena: DagArena,

@@ -9,7 +9,7 @@ use arena::DagArena;
 use store::Built;
 
 // What a walk answers: an id, whether the budget was used up with frames left, and the steps.
-#[derive(Drop)]
+#[derive(Clone, Copy)]
 pub struct WalkResult {
     pub id: u64,
     pub spent: bool,
@@ -17,14 +17,14 @@ pub struct WalkResult {
 }
 
 // What a prune answers: an id, and the numbers of terms kept and dropped.
-#[derive(Drop)]
+#[derive(Clone, Copy)]
 pub struct PruneResult {
     pub id: u64,
     pub kept: u64,
     pub dropped: u64,
 }
 
-#[derive(Drop)]
+#[derive(Clone, Copy)]
 pub enum Answer {
     Stored(u64),
     Simplified(WalkResult),
@@ -34,7 +34,7 @@ pub enum Answer {
 }
 
 // An answer, and the store's count and size after it.
-#[derive(Drop)]
+#[derive(Clone, Copy)]
 pub struct Performed {
     pub answer: Answer,
     pub arena: DagArena,

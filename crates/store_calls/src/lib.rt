@@ -1,4 +1,6 @@
 // The calls of a store as values: one enum of the calls, one of the answers, and one function that performs any call.
+#![tactic(auto)]
+
 pub mod answers;
 pub mod codes;
 
@@ -15,7 +17,7 @@ use kinds::{ADD, CONSTANT, CONTROL, FOR_LOOP, FUNCTION, VARIABLE};
 
 // A call, but for its operands, which stand beside it: an enum holds no list. An operator, function or control is over the operands; no
 // other call looks at them.
-#[derive(Drop)]
+#[derive(Clone, Copy)]
 pub enum Call {
     Variable(u32),
     Constant(u64),

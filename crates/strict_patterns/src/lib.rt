@@ -1,4 +1,6 @@
 // The strict patterns (02 i). They tell constants by their bits, so that +0.0 is no identity of a sum, nor -0.0 of a difference.
+#![tactic(auto)]
+
 ghost use Rattle.std.specs.Prelude.{◌≡◌, [], ◌∷◌};
 ghost use Rattle.definitions.specs.Node as N;
 ghost use Rattle.definitions.specs.Strict as S;

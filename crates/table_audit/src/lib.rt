@@ -1,4 +1,6 @@
 // The audit of a store's nodes and slots, for refusal 20.
+#![tactic(auto)]
+
 ghost use Rattle.std.specs.Prelude.{◌≡◌, suc, ◌≤◌, ◌<◌, length};
 ghost use Rattle.definitions.specs.Says.{Says};
 ghost use Rattle.arena.specs.Node.{node_at};

@@ -1,4 +1,6 @@
 // Formulas typed as text: a text is checked and compiled to a program, and one loop runs the program over the name list and the store.
+#![tactic(auto)]
+
 mod making;
 
 ghost use Rattle.text.specs.Memory.{controller_memory};

@@ -21,7 +21,7 @@ use text_program::{FIRST_OPERATOR, bits_at, name_end, name_starts, operand_count
 const MOST_WAITING: usize = 2 * MOST_NESTED + 3;
 
 // An answer, with the counts of the store and of the names after it.
-#[derive(Drop)]
+#[derive(Clone, Copy)]
 pub struct ReadOutcome {
     pub answer: NodeAnswer,
     pub arena: DagArena,

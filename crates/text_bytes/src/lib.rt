@@ -1,4 +1,6 @@
 // The bytes of a typed formula by their kinds.
+#![tactic(auto)]
+
 ghost use Rattle.std.specs.Prelude.{◌≡◌, ◌&&◌, leb};
 ghost use Rattle.text_language.specs.Grammar.{is_digit, is_letter, is_word, is_hex, sums, products};
 ghost use Rattle.text_language.specs.Reader.{which, is_some};

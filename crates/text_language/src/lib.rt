@@ -1,5 +1,7 @@
 // The language of texts: definitions and proofs, the two limits of a text, the numbers of the refusals that it meets, and
 // which bits are a NaN's.
+#![tactic(auto)]
+
 ghost use Rattle.std.specs.Prelude.{◌≡◌};
 ghost use Rattle.std.specs.Float.{binary64};
 ghost use Rattle.std.specs.Float.Ieee.{nan_bits};

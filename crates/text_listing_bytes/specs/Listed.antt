@@ -1,6 +1,6 @@
 -- The listing of a formula typed as text: 01's listing of the reading's answer and nodes, and after it a line a name.
 use Rattle.std.specs.Prelude.{ℕ, ◌+◌, ◌*◌, ◌≤◌, ◌≡◌, cond, List, [], ◌∷◌, ◌++◌, length, take, drop, replicate, eqb}
-use Rattle.std.proofs.Math.Option.{Option, none, some}
+use Rattle.std.proofs.Math.Option.{none, some}
 use Rattle.definitions.specs.Node.{Node}
 use Rattle.definitions.specs.Machine as M
 use Rattle.definitions.specs.Machine.{state}

@@ -1,4 +1,6 @@
 // A formula typed as text, read into a fresh store and an empty name list: its listing as bytes, 01's lines and after them a line a name.
+#![tactic(auto)]
+
 mod naming;
 mod reading;
 

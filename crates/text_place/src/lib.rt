@@ -1,4 +1,6 @@
 // Where a text that is no formula goes wrong: it is read byte by byte up to the first byte that no text of the language has there.
+#![tactic(auto)]
+
 ghost use Rattle.std.specs.Prelude.{◌≡◌, ◌<◌};
 ghost use Rattle.text_place.specs.Progress.{open_in, operand_byte, byte_after, longer, bits_byte, advance};
 ghost use Rattle.text_place.specs.Stopping.{StopsAt};
@@ -24,7 +26,7 @@ const HASH: u8 = b'#';
 
 // How far a text is read: an operand is wanted; so many digits of a whole number, bytes of a name or hex digits after # stand; or an
 // operand has ended. Beside it how many brackets are open.
-#[derive(Drop)]
+#[derive(Clone, Copy)]
 pub enum ScanProgress {
     Wanted(usize),
     Digits { length: usize, brackets: usize },
@@ -34,7 +36,7 @@ pub enum ScanProgress {
 }
 
 // One byte further, or that no text has the byte there.
-#[derive(Drop)]
+#[derive(Clone, Copy)]
 pub enum Step {
     On(ScanProgress),
     Stop,

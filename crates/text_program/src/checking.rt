@@ -12,7 +12,7 @@ use crate::words::FIRST_OPERATOR;
 use text_language::{BAD_TEXT, MOST_BYTES, MOST_NESTED, NESTED_TOO_DEEP, OUTSIDE_LANGUAGE, is_nan};
 
 // The size of a text's program, or the number of a refusal.
-#[derive(Drop)]
+#[derive(Clone, Copy)]
 pub enum Checked {
     Program(usize),
     Refused(u64),

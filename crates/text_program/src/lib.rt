@@ -1,4 +1,6 @@
 // A typed text as a program: the scan says whether it is in the language, and four readers that call each other emit its words.
+#![tactic(auto)]
+
 mod bytes;
 mod checking;
 mod numbers;

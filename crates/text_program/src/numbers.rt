@@ -10,7 +10,7 @@ use crate::bytes::{DIGIT, HEX_DIGIT, digit, is_digit, passes};
 use crate::places::BITS_DIGITS;
 
 // What digits say, and how many there are.
-#[derive(Drop)]
+#[derive(Clone, Copy)]
 pub struct Digits {
     pub value: u64,
     pub count: usize,

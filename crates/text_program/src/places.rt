@@ -17,14 +17,14 @@ const LATER_NAME_BYTES: usize = 31;
 pub(crate) const BITS_DIGITS: usize = 16;
 
 // The end of a number or a name, if there is one.
-#[derive(Drop)]
+#[derive(Clone, Copy)]
 pub enum End {
     At(usize),
     Nowhere,
 }
 
 // The first byte that is no blank, 0 at the end, and its place.
-#[derive(Drop)]
+#[derive(Clone, Copy)]
 pub struct NextByte {
     pub at: usize,
     pub byte: u8,

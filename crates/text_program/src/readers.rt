@@ -7,7 +7,7 @@ use crate::places::{End, atom, next_byte};
 use crate::words::{NEGATE, RAISE, join_word};
 
 // Where a level of a text ends, with the size of its program; or why it has none.
-#[derive(Drop)]
+#[derive(Clone, Copy)]
 pub enum Parse {
     // The text goes on here, and the program has so many words.
     Ended { next: usize, size: usize },

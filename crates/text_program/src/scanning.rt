@@ -7,7 +7,7 @@ use crate::bytes::joins;
 use crate::places::{End, atom, next_byte};
 
 // Where the scan of a text is: an operand is wanted or an operator, and so many brackets are open.
-#[derive(Drop)]
+#[derive(Clone, Copy)]
 pub struct ScanState {
     pub at: usize,
     pub operand: bool,
@@ -15,7 +15,7 @@ pub struct ScanState {
 }
 
 // The next state, or whether the text is in the language.
-#[derive(Drop)]
+#[derive(Clone, Copy)]
 pub enum ScanStep {
     On(ScanState),
     Stop(bool),

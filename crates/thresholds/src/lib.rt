@@ -1,4 +1,6 @@
 // The threshold of each setting that prunes, 20 to 200.
+#![tactic(auto)]
+
 ghost use Rattle.std.specs.Prelude.{◌≡◌, ◌≤◌, ◌<◌};
 ghost use Rattle.thresholds.specs.Thresholds as Thresholds;
 

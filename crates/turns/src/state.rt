@@ -12,14 +12,14 @@ pub const MOST_VALUES: usize = MOST_FRAMES * MOST_CHILDREN;
 pub const MOST_DEPTH: u32 = 255;
 
 // Whether a walk goes on, or the refusal that stopped it.
-#[derive(Drop)]
+#[derive(Clone, Copy)]
 pub enum Status {
     Going,
     Stopped(u64),
 }
 
 // How many frames and values are in use, and the store's count and size.
-#[derive(Drop)]
+#[derive(Clone, Copy)]
 pub struct WalkProgress {
     pub frames: usize,
     pub filled: usize,

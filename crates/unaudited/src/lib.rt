@@ -1,6 +1,8 @@
 // The calls of the C interface without the audit, and audit and hash alone, for the benchmark. A call's `requires` is that the store is
 // sound, as every call leaves it. Nothing asks that of a caller in another language, so these functions stand in a library of their own and
 // in no header. The calls are those of the layers and not `perform_sound`, so that `build_sound` has one caller here and is compiled into it.
+#![tactic(auto)]
+
 ghost use Rattle.std.specs.Prelude.{◌≡◌, true, [], ◌∷◌};
 ghost use Rattle.hash.specs.Fnv.{node_hash_of};
 ghost use Rattle.definitions.specs.Says.{Says};
@@ -18,24 +20,21 @@ use outputs::leaving::{leave_built, leave_pruned, leave_simplified};
 use store_calls::{of_prune, of_walk};
 
 // The audit alone: whether the store is sound.
-#[unsafe(no_mangle)]
-pub extern "C" fn curvalique_audit(nodes: &[u64], slots: &[u32], count: u64, size: usize) -> bool
+pub fn curvalique_audit(nodes: &[u64], slots: &[u32], count: u64, size: usize) -> bool
     ensures { Says result (Sound nodes.now slots.now (arena_of count size)) }
 {
     store::audit(nodes, slots, DagArena { count, size })
 }
 
 // The hash of a node alone.
-#[unsafe(no_mangle)]
-pub extern "C" fn curvalique_node_hash(kind: u64, payload: u64, children: &[u64]) -> u64
+pub fn curvalique_node_hash(kind: u64, payload: u64, children: &[u64]) -> u64
     ensures { result ≡ node_hash_of kind payload children.now }
 {
     hash::node_hash(kind, payload, children)
 }
 
 // The id of a node with these parts.
-#[unsafe(no_mangle)]
-pub extern "C" fn curvalique_build_sound(
+pub fn curvalique_build_sound(
     nodes: &mut [u64],
     slots: &mut [u32],
     count: &mut u64,
@@ -60,8 +59,7 @@ pub extern "C" fn curvalique_build_sound(
 }
 
 // A walk of a root.
-#[unsafe(no_mangle)]
-pub extern "C" fn curvalique_simplify_sound(
+pub fn curvalique_simplify_sound(
     nodes: &mut [u64],
     slots: &mut [u32],
     count: &mut u64,
@@ -90,8 +88,7 @@ pub extern "C" fn curvalique_simplify_sound(
 }
 
 // A prune of a root at a threshold.
-#[unsafe(no_mangle)]
-pub extern "C" fn curvalique_prune_sound(
+pub fn curvalique_prune_sound(
     nodes: &mut [u64],
     slots: &mut [u32],
     count: &mut u64,

@@ -1,5 +1,7 @@
 // The walk (01, "engine: the walk"): rewrite_iterative with rebuild_or_match, one step a turn of the Rust's loop; and the strict walk of 02
 // (i).
+#![tactic(auto)]
+
 ghost use Rattle.std.specs.Prelude.{◌≡◌};
 ghost use Rattle.definitions.specs.Machine as M;
 ghost use Rattle.definitions.specs.Modes.{mode_of};

@@ -1,5 +1,7 @@
 // What the program `formula` does with a text: it is read into a fresh store, simplified, pruned by a setting if one is given, and written
 // back.
+#![tactic(auto)]
+
 ghost use Rattle.std.specs.Prelude.{◌≡◌};
 ghost use Rattle.store.specs.Memory.{memory};
 ghost use Rattle.text.specs.Memory.{controller_memory};
@@ -17,7 +19,7 @@ pub const DEPTH: u32 = 255;
 const BUDGET: u64 = 100_000_000;
 
 // The setting that the formula is pruned by, if it is.
-#[derive(Drop)]
+#[derive(Clone, Copy)]
 pub enum Pruning {
     Skipped,
     BySetting(u32),
@@ -25,7 +27,7 @@ pub enum Pruning {
 
 // The length of the text that was written, the walk's steps, whether its budget was used up, whether the formula may be deeper than it
 // went, and the terms kept and dropped; or a refusal.
-#[derive(Drop)]
+#[derive(Clone, Copy)]
 pub enum FormulaOutcome {
     Written {
         length: usize,
@@ -39,7 +41,7 @@ pub enum FormulaOutcome {
 }
 
 // An outcome, with the counts of the store and of the names after it.
-#[derive(Drop)]
+#[derive(Clone, Copy)]
 pub struct Answered {
     pub outcome: FormulaOutcome,
     pub arena: DagArena,

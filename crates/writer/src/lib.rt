@@ -1,4 +1,6 @@
 // A node's text in a lent buffer (02, "Write it back"): without blanks, and with the fewest brackets.
+#![tactic(auto)]
+
 mod bytes;
 mod numerals;
 mod operators;
@@ -19,7 +21,7 @@ use sweeping::has_text;
 use text_language::MOST_NESTED;
 
 // The length of a text, or a refusal.
-#[derive(Drop)]
+#[derive(Clone, Copy)]
 pub enum WriteAnswer {
     Length(usize),
     Refused(u64),

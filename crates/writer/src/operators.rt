@@ -14,7 +14,7 @@ pub(crate) const SUM: u64 = 4;
 
 // An operator of two operands: its sign, the ranks of what stands left and right of it without brackets, and how much deeper the right one
 // stands.
-#[derive(Drop)]
+#[derive(Clone, Copy)]
 pub struct Joint {
     pub sign: u8,
     pub left: u64,

@@ -20,7 +20,7 @@ use kinds::{ADD, CONSTANT, MUL, NEG, POW, VARIABLE};
 const NODES: usize = MOST_NODES as usize;
 
 // The children and the flags of a node that a text can read to: no node has as many children as `NO_FORM`.
-#[derive(Drop)]
+#[derive(Clone, Copy)]
 pub struct Form {
     pub arity: u64,
     pub flags: u64,

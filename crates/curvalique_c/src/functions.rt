@@ -1,0 +1,106 @@
+// Functions and controls.
+ghost use Rattle.std.specs.Prelude.{[], ◌∷◌};
+ghost use Rattle.definitions.specs.Machine as M;
+ghost use Rattle.store.specs.Memory.{Leaves};
+ghost use Rattle.outputs.specs.Calls.{lent_memory, unless_refused, OutputsStay};
+
+// A function, by its number, over its operands.
+#[unsafe(no_mangle)]
+pub extern "C" fn curvalique_function(
+    nodes: &mut [u64],
+    slots: &mut [u32],
+    count: &mut u64,
+    size: &mut usize,
+    number: u32,
+    operands: &[u32],
+    id: &mut u64,
+) -> u64
+    ensures leaves { Leaves (M.store (M.function number operands.now))
+        (lent_memory nodes.old slots.old count.old size.old)
+        (unless_refused result (M.stored id.new)) (lent_memory nodes.new slots.new count.new
+        size.new) }
+    ensures outputs_stay { OutputsStay result (id.old ∷ []) (id.new ∷ []) }
+{
+    curvalique::functions::curvalique_function(nodes, slots, count, size, number, operands, id)
+}
+
+// Select, over three operands.
+#[unsafe(no_mangle)]
+pub extern "C" fn curvalique_select(
+    nodes: &mut [u64],
+    slots: &mut [u32],
+    count: &mut u64,
+    size: &mut usize,
+    a: u32,
+    b: u32,
+    c: u32,
+    id: &mut u64,
+) -> u64
+    ensures leaves { Leaves (M.store (M.select a b c)) (lent_memory nodes.old slots.old count.old
+        size.old) (unless_refused result (M.stored id.new))
+        (lent_memory nodes.new slots.new count.new size.new) }
+    ensures outputs_stay { OutputsStay result (id.old ∷ []) (id.new ∷ []) }
+{
+    curvalique::functions::curvalique_select(nodes, slots, count, size, a, b, c, id)
+}
+
+// IfElse, over three operands.
+#[unsafe(no_mangle)]
+pub extern "C" fn curvalique_if_else(
+    nodes: &mut [u64],
+    slots: &mut [u32],
+    count: &mut u64,
+    size: &mut usize,
+    a: u32,
+    b: u32,
+    c: u32,
+    id: &mut u64,
+) -> u64
+    ensures leaves { Leaves (M.store (M.if_else a b c)) (lent_memory nodes.old slots.old count.old
+        size.old) (unless_refused result (M.stored id.new))
+        (lent_memory nodes.new slots.new count.new size.new) }
+    ensures outputs_stay { OutputsStay result (id.old ∷ []) (id.new ∷ []) }
+{
+    curvalique::functions::curvalique_if_else(nodes, slots, count, size, a, b, c, id)
+}
+
+// ForLoop, over four operands.
+#[unsafe(no_mangle)]
+pub extern "C" fn curvalique_for_loop(
+    nodes: &mut [u64],
+    slots: &mut [u32],
+    count: &mut u64,
+    size: &mut usize,
+    a: u32,
+    b: u32,
+    c: u32,
+    d: u32,
+    id: &mut u64,
+) -> u64
+    ensures leaves { Leaves (M.store (M.for_loop a b c d)) (lent_memory nodes.old slots.old count.old
+        size.old) (unless_refused result (M.stored id.new))
+        (lent_memory nodes.new slots.new count.new size.new) }
+    ensures outputs_stay { OutputsStay result (id.old ∷ []) (id.new ∷ []) }
+{
+    curvalique::functions::curvalique_for_loop(nodes, slots, count, size, a, b, c, d, id)
+}
+
+// Any control, by its code, over any operands.
+#[unsafe(no_mangle)]
+pub extern "C" fn curvalique_control(
+    nodes: &mut [u64],
+    slots: &mut [u32],
+    count: &mut u64,
+    size: &mut usize,
+    code: u32,
+    operands: &[u32],
+    id: &mut u64,
+) -> u64
+    ensures leaves { Leaves (M.store (M.control code operands.now))
+        (lent_memory nodes.old slots.old count.old size.old)
+        (unless_refused result (M.stored id.new)) (lent_memory nodes.new slots.new count.new
+        size.new) }
+    ensures outputs_stay { OutputsStay result (id.old ∷ []) (id.new ∷ []) }
+{
+    curvalique::functions::curvalique_control(nodes, slots, count, size, code, operands, id)
+}

@@ -1,0 +1,20 @@
+// A fresh store.
+ghost use Rattle.std.specs.Prelude.{[], ◌∷◌};
+ghost use Rattle.builder.specs.Opens.{Opens};
+ghost use Rattle.outputs.specs.Calls.{OutputsStay};
+ghost use Rattle.curvalique.specs.Opening.{fresh_unless_refused};
+
+// A store without nodes, with the first slots empty.
+#[unsafe(no_mangle)]
+pub extern "C" fn curvalique_fresh(
+    nodes: &[u64],
+    slots: &mut [u32],
+    count: &mut u64,
+    size: &mut usize,
+) -> u64
+    ensures opens { Opens nodes.now slots.old (fresh_unless_refused result count.new size.new)
+        slots.new }
+    ensures outputs_stay { OutputsStay result (count.old ∷ size.old ∷ []) (count.new ∷ size.new ∷ []) }
+{
+    curvalique::opening::curvalique_fresh(nodes, slots, count, size)
+}

@@ -1,0 +1,158 @@
+// Operators.
+ghost use Rattle.std.specs.Prelude.{[], ◌∷◌};
+ghost use Rattle.definitions.specs.Machine as M;
+ghost use Rattle.store.specs.Memory.{Leaves};
+ghost use Rattle.outputs.specs.Calls.{lent_memory, unless_refused, OutputsStay};
+
+// The sum of two.
+#[unsafe(no_mangle)]
+pub extern "C" fn curvalique_add(
+    nodes: &mut [u64],
+    slots: &mut [u32],
+    count: &mut u64,
+    size: &mut usize,
+    a: u32,
+    b: u32,
+    id: &mut u64,
+) -> u64
+    ensures leaves { Leaves (M.store (M.add a b)) (lent_memory nodes.old slots.old count.old
+        size.old) (unless_refused result (M.stored id.new))
+        (lent_memory nodes.new slots.new count.new size.new) }
+    ensures outputs_stay { OutputsStay result (id.old ∷ []) (id.new ∷ []) }
+{
+    curvalique::operators::curvalique_add(nodes, slots, count, size, a, b, id)
+}
+
+// The first minus the second.
+#[unsafe(no_mangle)]
+pub extern "C" fn curvalique_sub(
+    nodes: &mut [u64],
+    slots: &mut [u32],
+    count: &mut u64,
+    size: &mut usize,
+    a: u32,
+    b: u32,
+    id: &mut u64,
+) -> u64
+    ensures leaves { Leaves (M.store (M.sub a b)) (lent_memory nodes.old slots.old count.old
+        size.old) (unless_refused result (M.stored id.new))
+        (lent_memory nodes.new slots.new count.new size.new) }
+    ensures outputs_stay { OutputsStay result (id.old ∷ []) (id.new ∷ []) }
+{
+    curvalique::operators::curvalique_sub(nodes, slots, count, size, a, b, id)
+}
+
+// The product of two.
+#[unsafe(no_mangle)]
+pub extern "C" fn curvalique_mul(
+    nodes: &mut [u64],
+    slots: &mut [u32],
+    count: &mut u64,
+    size: &mut usize,
+    a: u32,
+    b: u32,
+    id: &mut u64,
+) -> u64
+    ensures leaves { Leaves (M.store (M.mul a b)) (lent_memory nodes.old slots.old count.old
+        size.old) (unless_refused result (M.stored id.new))
+        (lent_memory nodes.new slots.new count.new size.new) }
+    ensures outputs_stay { OutputsStay result (id.old ∷ []) (id.new ∷ []) }
+{
+    curvalique::operators::curvalique_mul(nodes, slots, count, size, a, b, id)
+}
+
+// The first over the second.
+#[unsafe(no_mangle)]
+pub extern "C" fn curvalique_div(
+    nodes: &mut [u64],
+    slots: &mut [u32],
+    count: &mut u64,
+    size: &mut usize,
+    a: u32,
+    b: u32,
+    id: &mut u64,
+) -> u64
+    ensures leaves { Leaves (M.store (M.div a b)) (lent_memory nodes.old slots.old count.old
+        size.old) (unless_refused result (M.stored id.new))
+        (lent_memory nodes.new slots.new count.new size.new) }
+    ensures outputs_stay { OutputsStay result (id.old ∷ []) (id.new ∷ []) }
+{
+    curvalique::operators::curvalique_div(nodes, slots, count, size, a, b, id)
+}
+
+// The first to the power of the second.
+#[unsafe(no_mangle)]
+pub extern "C" fn curvalique_pow(
+    nodes: &mut [u64],
+    slots: &mut [u32],
+    count: &mut u64,
+    size: &mut usize,
+    a: u32,
+    b: u32,
+    id: &mut u64,
+) -> u64
+    ensures leaves { Leaves (M.store (M.pow a b)) (lent_memory nodes.old slots.old count.old
+        size.old) (unless_refused result (M.stored id.new))
+        (lent_memory nodes.new slots.new count.new size.new) }
+    ensures outputs_stay { OutputsStay result (id.old ∷ []) (id.new ∷ []) }
+{
+    curvalique::operators::curvalique_pow(nodes, slots, count, size, a, b, id)
+}
+
+// The first modulo the second.
+#[unsafe(no_mangle)]
+pub extern "C" fn curvalique_modulo(
+    nodes: &mut [u64],
+    slots: &mut [u32],
+    count: &mut u64,
+    size: &mut usize,
+    a: u32,
+    b: u32,
+    id: &mut u64,
+) -> u64
+    ensures leaves { Leaves (M.store (M.modulo a b)) (lent_memory nodes.old slots.old count.old
+        size.old) (unless_refused result (M.stored id.new))
+        (lent_memory nodes.new slots.new count.new size.new) }
+    ensures outputs_stay { OutputsStay result (id.old ∷ []) (id.new ∷ []) }
+{
+    curvalique::operators::curvalique_modulo(nodes, slots, count, size, a, b, id)
+}
+
+// The opposite.
+#[unsafe(no_mangle)]
+pub extern "C" fn curvalique_neg(
+    nodes: &mut [u64],
+    slots: &mut [u32],
+    count: &mut u64,
+    size: &mut usize,
+    a: u32,
+    id: &mut u64,
+) -> u64
+    ensures leaves { Leaves (M.store (M.neg a)) (lent_memory nodes.old slots.old count.old
+        size.old) (unless_refused result (M.stored id.new))
+        (lent_memory nodes.new slots.new count.new size.new) }
+    ensures outputs_stay { OutputsStay result (id.old ∷ []) (id.new ∷ []) }
+{
+    curvalique::operators::curvalique_neg(nodes, slots, count, size, a, id)
+}
+
+// Any operator, by its code, with any flags and operands.
+#[unsafe(no_mangle)]
+pub extern "C" fn curvalique_operator(
+    nodes: &mut [u64],
+    slots: &mut [u32],
+    count: &mut u64,
+    size: &mut usize,
+    code: u32,
+    flags: u32,
+    operands: &[u32],
+    id: &mut u64,
+) -> u64
+    ensures leaves { Leaves (M.store (M.operator code flags operands.now))
+        (lent_memory nodes.old slots.old count.old size.old)
+        (unless_refused result (M.stored id.new)) (lent_memory nodes.new slots.new count.new
+        size.new) }
+    ensures outputs_stay { OutputsStay result (id.old ∷ []) (id.new ∷ []) }
+{
+    curvalique::operators::curvalique_operator(nodes, slots, count, size, code, flags, operands, id)
+}
