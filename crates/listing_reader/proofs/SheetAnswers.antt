@@ -163,7 +163,9 @@ as_calls_listed l s cs r h d = go r.refusal d.last d.ends d.same_answers
         subst (λ (x : State). AnswerListed (outcome_of none r.answers) (length x.nodes)) (sym d.same_state)
         (subst (λ (al : List Answer). AnswerListed (outcome_of none al) (length (run l s cs).nodes)) (e ∙ append-nil r.answers) (calls_listed l s cs h))
     go (some x) [] (by_sheet k m) e = tt
+    go none (a ∷ _) x5 e = elim x5 [ ]
     go (some x) (a ∷ []) (by_call k) e = tt
+    go (some x) (a ∷ (_ ∷ _)) x9 e = elim x9 [ ]
 
 sheet_listed : (l : Lent) (s : State) (bytes : List ℕ) → Sound s.nodes → AnswerListed (outcome_of (sheet l s bytes).refusal (sheet l s bytes).answers) (length (sheet l s bytes).left.nodes)
 sheet_listed l s bytes h = as_calls_listed l s (sheet_calls l s bytes) (sheet l s bytes) h (sheet_as_calls l s bytes)

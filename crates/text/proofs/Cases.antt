@@ -1,6 +1,6 @@
 -- The equation of a reading gives its case, and leaves one way.
 use Prim.Native.Nat.{ℕ}
-use mathlib.Core.Path.{◌≡◌, refl, sym, ap, ◌∙◌, subst}
+use mathlib.Core.Path.{◌≡◌, sym, ap, ◌∙◌, subst}
 use mathlib.Core.List.{List, List-discrete}
 use native.Mathlib.Omega.{arith}
 use native.Mathlib.Decide.{ℕ_discrete}
@@ -14,8 +14,8 @@ use Rattle.names.specs.Memory.{name_memory, name_model}
 use Rattle.names.proofs.Determined.{either}
 use Rattle.text_language.specs.Reading.{Verdict, refuses, denotes, verdict, Judged}
 use Rattle.text_language.proofs.Reading.{judged}
-use Rattle.text.specs.Memory.{ControllerMemory, controller_of, lent_of, BothSound}
-use Rattle.text.specs.Reading.{answered, ReadingLeft, reading_left, reading_left_by, ReadsText, ReadingCases, unsound, refused, read, EquationGivesCase, ReadsOneWay}
+use Rattle.text.specs.Memory.{ControllerMemory, BothSound}
+use Rattle.text.specs.Reading.{answered, ReadingLeft, reading_left, ReadsText, ReadingCases, unsound, refused, read, EquationGivesCase, ReadsOneWay}
 use Rattle.text.proofs.Determined.{case_gives_equation}
 use Rattle.text.proofs.Existing.{expression_made}
 

@@ -7,7 +7,6 @@ use mathlib.Core.List.{List, [], ◌∷◌, ◌++◌}
 use lib.ListN.{length, length-append}
 use lib.Dec.{ltb}
 use native.Mathlib.Omega.{arith}
-use Rattle.arena.specs.Node.{canonical}
 use Rattle.definitions.specs.Refusals.{bad_name_length, no_name_place}
 use Rattle.definitions.specs.Node as N
 use Rattle.definitions.specs.Names as Registry
@@ -26,7 +25,6 @@ use Rattle.name_entries.specs.Sound as Names
 use Rattle.names.specs.Calls as Calls
 use Rattle.names.specs.Calls.{NameListCalled, CallClauses, names_left_by}
 use Rattle.names.specs.Memory.{name_memory, names_after, names_left}
-use Rattle.names.proofs.Listing.{names_length}
 use Rattle.names.proofs.Clauses.{equation_gives_clauses, clauses_long}
 use Rattle.text_language.specs.Grammar.{Expr, constant, variable, negated, linked, raised}
 use Rattle.text_language.specs.Program.{Join, plus, minus, times, over, raise, join_of, name}

@@ -29,7 +29,6 @@ use Rattle.definitions.specs.Intern.{capacity}
 use Rattle.definitions.specs.Machine as M
 use Rattle.store.specs.declared.NodeAnswer.{NodeAnswer}
 use Rattle.store.specs.declared.NodeAnswer.TheVariants.{Refused}
-use Rattle.store.specs.declared.Built.{Built}
 use Rattle.store.specs.Sound.{Sound}
 use Rattle.store.specs.Lookup.{Fits}
 use Rattle.store.specs.Interning.{Interns}

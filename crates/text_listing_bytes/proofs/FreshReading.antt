@@ -1,15 +1,14 @@
 -- A text read into fresh lists, as the plain machine reads it.
-use Prim.Native.Nat.{ℕ, ◌+◌, ◌/◌, ◌≤◌, ◌<◌}
+use Prim.Native.Nat.{ℕ, ◌+◌, ◌/◌, ◌≤◌}
 use mathlib.Core.Path.{◌≡◌, refl, sym, ap, ap₂, ◌∙◌, subst}
 use mathlib.Core.Bool.{Bool, true, false, cond, false≢true}
-use mathlib.Core.List.{List, [], ◌∷◌, ◌++◌}
+use mathlib.Core.List.{List, [], ◌∷◌}
 use lib.ListN.{length, drop, replicate, length-append, length-drop, length-replicate}
-use lib.Dec.{ltb, eqb}
 use native.Mathlib.Omega.{arith}
 use borrow.Author.Tests.{eq-eqb, ne_eqb, le-ltb}
 use Rattle.arena.specs.declared.DagArena.{DagArena}
 use Rattle.arena.specs.Layout.{node_words}
-use Rattle.definitions.specs.Controller.{LentLists, Controller, AfterCall, empty_controller, controller_call, reading, store_part, names_part}
+use Rattle.definitions.specs.Controller.{LentLists, Controller, AfterCall, controller_call, reading, store_part, names_part}
 use Rattle.definitions.specs.Machine.{fresh_refused}
 use Rattle.definitions.specs.Promise.{All}
 use Rattle.definitions.specs.Beside.{SoundPart}
@@ -24,7 +23,6 @@ use Rattle.builder.specs.Opens.{Opens, fresh_answer, fresh_slots}
 use Rattle.names.specs.Memory.{name_memory, name_model}
 use Rattle.name_entries.specs.Sound.{lent_entries}
 use Rattle.names.proofs.Modelled.{no_names}
-use Rattle.listing_lines.specs.declared.SheetOutcome as Outcome
 use Rattle.listing_lines.specs.declared.SheetOutcome.TheVariants as outcome
 use Rattle.text.specs.Memory.{ControllerMemory, controller_memory}
 use Rattle.text.specs.Reading.{ReadsText}

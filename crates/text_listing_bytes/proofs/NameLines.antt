@@ -1,5 +1,5 @@
 -- The line of a name, and the lines of all.
-use Prim.Native.Nat.{ℕ, zero, suc, ◌+◌, ◌*◌, ◌≤◌, ◌<◌, min}
+use Prim.Native.Nat.{ℕ, suc, ◌+◌, ◌*◌, ◌≤◌, ◌<◌, min}
 use mathlib.Core.Path.{◌≡◌, refl, sym, ap, ◌∙◌, subst}
 use mathlib.Core.Bool.{Bool, true, false, cond, false≢true}
 use mathlib.Core.List.{List, [], ◌∷◌, ◌++◌, append_assoc, append-nil}
@@ -8,14 +8,14 @@ use native.Mathlib.Omega.{arith}
 use native.Mathlib.Nat.{min-le_left}
 use borrow.Author.Tests.{lt-ltb}
 use Rattle.definitions.specs.Listing.{space, line_feed, decimal}
-use Rattle.definitions.specs.Names.{NameAnswer, numbered, unknown, named, refused, name_of, name_call, answers}
+use Rattle.definitions.specs.Names.{NameAnswer, numbered, unknown, named, refused, name_call, answers}
 use Rattle.names.specs.declared.NameReply.{NameReply}
 use Rattle.names.specs.declared.NameReply.TheVariants.{Numbered, Unknown, Named, Refused}
 use Rattle.names.specs.declared.NameBytes.{NameBytes}
 use Rattle.names.specs.Calls.{answer_of, NameCalled, NameClauses, LengthFits}
 use Rattle.names.specs.Memory.{NamesLeft}
 use Rattle.names.proofs.Clauses.{name_equation_gives_clauses}
-use Rattle.name_entries.specs.Sound.{SoundNames, names_of, lent_entries}
+use Rattle.name_entries.specs.Sound.{SoundNames, names_of}
 use Rattle.names.proofs.Listing.{names_length}
 use Rattle.listing_lines.specs.declared.line.Line.{Line}
 use Rattle.listing_lines.specs.Line.{line_bytes, number_bytes, text, EmptyLine, ExtendsLine, Holds}

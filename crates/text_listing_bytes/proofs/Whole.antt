@@ -9,20 +9,18 @@ use Rattle.arena.specs.declared.DagArena.{DagArena}
 use Rattle.arena.specs.Layout.{node_words}
 use Rattle.arena.specs.Nodes.{Nodes}
 use Rattle.definitions.specs.Node.{Node}
-use Rattle.definitions.specs.Sheet.{Ran}
 use Rattle.definitions.specs.Listing.{listing}
 use Rattle.definitions.specs.Controller.{LentLists, Controller, AfterCall}
 use Rattle.store.specs.declared.NodeAnswer.{NodeAnswer}
 use Rattle.store.specs.declared.NodeAnswer.TheVariants.{Id, Refused}
-use Rattle.store.specs.Memory.{memory, model}
-use Rattle.store.specs.View.{nodes_in, lent}
+use Rattle.store.specs.View.{nodes_in}
 use Rattle.name_entries.specs.Sound.{SoundNames, names_of, lent_entries}
 use Rattle.listing_lines.specs.Line.{line_bytes}
 use Rattle.listing_lines.specs.Outcome as Shown
 use Rattle.listing_lines.specs.Outcome.{all_lines}
 use Rattle.listing_lines.specs.Filling.{PutsLine, Fills}
 use Rattle.listing_lines.proofs.Lines.{later_rest, listing_of_memory}
-use Rattle.text.specs.Memory.{ControllerMemory, controller_memory}
+use Rattle.text.specs.Memory.{controller_memory}
 use Rattle.text_listing_bytes.specs.Names.{name_lines}
 use Rattle.listing_lines.specs.declared.SheetOutcome as Outcome
 use Rattle.text.specs.Calling.{answered}

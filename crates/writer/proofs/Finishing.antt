@@ -10,7 +10,6 @@ use Rattle.writer.specs.Expression.{is_some, or_any}
 use Rattle.text_language.specs.Reading.{most_bytes, most_nested}
 use Rattle.writer.specs.Placing.{spare, space, placed, PlacedText, Open}
 use Rattle.writer.specs.Sweeping.{Copies, Texted, WritesExpression, Unreached}
-use Rattle.name_entries.specs.Sound as Names
 use Rattle.definitions.specs.Limits.{most_nodes}
 use Rattle.definitions.specs.Refusals.{no_text, text_too_long}
 use Rattle.writer.specs.declared.WriteAnswer.TheVariants.{Length, Refused}

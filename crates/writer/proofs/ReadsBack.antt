@@ -2,7 +2,7 @@
 use Rattle.std.proofs.Common.{◌≡◌, ℕ, zero, suc, ◌+◌, ◌<◌, Bool, true, false, cond, ◌&&◌, T, eqb, leb, List, [], ◌∷◌, length, get_or, sym, refl, ap, ◌∙◌, subst, ap₂, arith, lt-ltb, eqb-true, le-leb, leb-true}
 use mathlib.Core.Bool.{false≢true}
 use mathlib.Core.Option.{Option, some}
-use Rattle.text_language.specs.Grammar.{Expr, constant, variable, is_letter}
+use Rattle.text_language.specs.Grammar.{Expr, is_letter}
 use Rattle.text_language.specs.Program.{Join, plus, minus, times, over, raise}
 use Rattle.text_language.proofs.Sound.{and_both}
 use Rattle.definitions.specs.Node as N

@@ -1,7 +1,7 @@
 -- A node's expression is the one that denotes its formula under the names as they are: `Spells` and `expression_of` say the same of proper expressions.
-use Rattle.std.proofs.Common.{◌≡◌, ℕ, zero, suc, ◌<◌, Bool, true, false, cond, List, [], ◌∷◌, length, get_or, sym, refl, ap, ◌∙◌, subst, ap₂, arith}
+use Rattle.std.proofs.Common.{◌≡◌, ℕ, zero, suc, ◌<◌, Bool, true, cond, List, [], ◌∷◌, length, get_or, sym, refl, ap, ◌∙◌, subst, ap₂, arith}
 use mathlib.Core.Option.{Option, none, some}
-use Rattle.text_language.specs.Grammar.{sums, products, Expr, constant, variable}
+use Rattle.text_language.specs.Grammar.{Expr, constant, variable}
 use Rattle.text_language.specs.Program as Program
 use Rattle.text_language.specs.Program.{Join}
 use Rattle.definitions.specs.Node as N

@@ -1,0 +1,19 @@
+-- `arena::node::clear_places` meets its contract. The invariant: the places passed are 0.
+use Prim.Native.Nat.{ℕ, ◌+◌, ◌-◌, ◌≤◌}
+use mathlib.Core.Path.{◌≡◌, refl, sym, ◌∙◌, ap}
+use mathlib.Core.List.{List, []}
+use lib.ListN.{length, set, length-set}
+use lib.Seq.{paste, paste-zero}
+use native.Mathlib.Omega.{arith}
+use native.Mathlib.Numerals.{add-one}
+use Rattle.arena.specs.Layout.{most_children}
+use Rattle.arena.specs.Node.{places_of}
+use Rattle.arena.proofs.Places.{clears}
+use borrow.Author.Rules.{rules}
+use Rattle.arena.proofs.node.clear_places.Given as goal
+
+abbrev pub invariant-loop-j : goal.invariant-loop-j
+invariant-loop-j l = (l.j ≤ most_children) × (l.nodes ≡ paste l.initial.nodes l.at (places_of []) l.j) × (length l.nodes ≡ length l.initial.nodes)
+
+abbrev pub decreases-loop-j : goal.decreases-loop-j
+decreases-loop-j l = most_children - l.j

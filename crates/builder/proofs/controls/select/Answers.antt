@@ -1,0 +1,13 @@
+use mathlib.Core.Path.{refl}
+use Rattle.definitions.specs.Machine as M
+use native.Mathlib.Omega.{arith}
+use Rattle.building.proofs.Codes.{asked_control}
+use Rattle.building.proofs.Requesting.{stores_audited}
+use borrow.Author.Rules.{rules}
+use Rattle.builder.proofs.controls.select.Goals as goal
+
+pub build-requires : goal.build-requires
+build-requires c = asked_control _ (omega arith)
+
+pub returns : goal.returns
+returns c = stores_audited (M.select _ _ _) _ refl _ _ _ c.build.ensures

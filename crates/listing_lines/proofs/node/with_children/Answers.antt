@@ -1,0 +1,51 @@
+use Prim.Native.Nat.{ℕ, ◌-◌}
+use native.Mathlib.Omega.{arith}
+use Rattle.definitions.specs.Node as N
+use Rattle.store.specs.View.{nodes_in}
+use Rattle.store.proofs.Reading as R
+use Rattle.listing_lines.proofs.Lines.{Listed, listed_none, listed_more, listed_all}
+use Rattle.listing_lines.proofs.node.with_children.Reads as reads
+use Rattle.listing_lines.proofs.node.with_children.Lts as lts
+use Rattle.listing_lines.proofs.digits.with_number.Reads as with-number-reads
+use Rattle.store.proofs.arity.Reads as arity-reads
+use Rattle.store.proofs.child.Reads as child-reads
+use Rattle.listing_lines.proofs.node.with_children.Goals as goal
+
+pub arity-arity-requires : goal.arity-arity-requires
+arity-arity-requires c = c.requires.1
+
+pub loop-place-init : goal.loop-place-init
+loop-place-init c =
+    let few = R.few _ _ _ c.requires.1 in
+    listed_none _ _ few
+
+pub child-requires : goal.child-requires
+child-requires c =
+    let e = c.arity-arity.ensures in
+    (omega arith, c.requires.1)
+
+pub with_number-longer-requires : goal.with_number-longer-requires
+with_number-longer-requires c =
+    let e = c.arity-arity.ensures in
+    let v = c.loop-place.invariant in
+    let few = v.few in
+    let long = v.extends.long in
+    omega arith
+
+pub overflow_add-place : goal.overflow_add-place
+overflow_add-place c = omega arith
+
+pub loop-place-smaller : goal.loop-place-smaller
+loop-place-smaller c = omega arith
+
+pub loop-place-preserved : goal.loop-place-preserved
+loop-place-preserved c =
+    let e = c.arity-arity.ensures in
+    listed_more _ _ _ _ c.loop-place.invariant (omega arith) _ c.child.ensures _ c.with_number-longer.ensures
+
+pub returns : goal.returns
+returns c =
+    let e = c.arity-arity.ensures in
+    let v = c.loop-place.invariant in
+    let w = v.within in
+    listed_all _ _ _ _ v (omega arith)

@@ -1,0 +1,14 @@
+use native.Mathlib.Omega.{arith}
+use mathlib.Core.Path.{◌≡◌, sym, ap, ◌∙◌}
+use Rattle.records.proofs.Bodies as B
+use borrow.Author.Rules.{rules}
+use Rattle.records.proofs.decoding.simplify_body.Reads as reads
+use Rattle.records.proofs.decoding.simplify_body.Lts as lts
+use Rattle.records.proofs.number.number.Reads as number-reads
+use Rattle.records.proofs.decoding.simplify_body.Goals as goal
+
+pub returns-then-length : goal.returns-then-length
+returns-then-length c = B.simplify_wrong _ _ _ c.requires c.args.mode c.if-length.true
+
+pub returns : goal.returns
+returns c = B.simplify_whole _ _ _ c.requires c.args.mode c.if-length.false _ _ c.number-operand.ensures.is c.number-budget.ensures.is

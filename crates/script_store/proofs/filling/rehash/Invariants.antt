@@ -1,0 +1,12 @@
+-- `script_store::filling::rehash` is safe and ends.
+use Prim.Native.Nat.{◌/◌, ◌-◌, ◌≤◌}
+use mathlib.Core.Path.{◌≡◌}
+use lib.ListN.{length}
+use Rattle.arena.specs.Layout.{node_words}
+use Rattle.script_store.proofs.filling.rehash.Given as goal
+
+abbrev pub invariant-loop-id : goal.invariant-loop-id
+invariant-loop-id l = (l.id ≤ l.count) × (l.count ≤ length l.nodes / node_words) × (length l.nodes ≡ length l.initial.nodes)
+
+abbrev pub decreases-loop-id : goal.decreases-loop-id
+decreases-loop-id l = l.count - l.id

@@ -1,0 +1,6 @@
+use Rattle.definitions.proofs.Deciding.{says_map}
+use borrow.Author.Rules.{rules}
+use Rattle.store.proofs.audit.Goals as goal
+
+pub returns : goal.returns
+returns c = says_map _ (λ h. record { nodes = h.0; table = h.1 }) (λ h. (h.nodes, h.table)) c.audit.ensures

@@ -1,0 +1,6 @@
+use Rattle.store.proofs.Marking.{marked_is}
+use borrow.Author.Rules.{rules}
+use Rattle.store.proofs.lookup.mark.Goals as goal
+
+pub returns : goal.returns
+returns c = marked_is _ _ _ c.requires _ c.mark.ensures
