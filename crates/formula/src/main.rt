@@ -12,6 +12,7 @@ use arena::NODE_WORDS;
 use builder::FreshStore;
 use definitions::refusals::{BAD_SETTING, NO_NAME_PLACE, NO_TEXT, TEXT_TOO_LONG, TOO_MANY_TERMS};
 use std::env::{Env, FillError};
+use std::io::Read;
 use text_language::{BAD_TEXT, MOST_BYTES, NESTED_TOO_DEEP, NOT_A_NUMBER, OUTSIDE_LANGUAGE};
 use threshold::say_dropped;
 use write_back::{DEPTH, FormulaOutcome, Pruning};
@@ -245,13 +246,27 @@ fn typed_length(input: &[u8], read: usize) -> usize
     read
 }
 
+// Whether so many bytes are the whole input: a read answers 0 at its end alone.
+fn is_whole<R: Read>(input: &mut R, length: usize) -> bool {
+    if INPUT_BYTES <= length {
+        return true;
+    }
+    let mut next = [0; 1];
+    matches!(input.read(&mut next), Ok(0))
+}
+
 fn main(rt: HostRuntime) {
+    let mut stdin = rt.stdin();
     let mut input = [0; INPUT_BYTES];
-    let read = whole_input::fill(&mut rt.stdin(), &mut input);
-    let Ok(length) = read else {
+    let read = whole_input::fill(&mut stdin, &mut input);
+    let (length, whole) = match read {
+        Ok(length) => (length, is_whole(&mut stdin, length)),
+        Err(_) => (0, false),
+    };
+    if !whole {
         let _ = rt.eprint("formula: the text could not be read to its end\n");
         return;
-    };
+    }
     let size = typed_length(&input, length);
     run(&rt, &input[..size], pruning_of(&rt));
 }

@@ -5,6 +5,7 @@
 
 ghost use Rattle.std.specs.Prelude.{◌≤◌, length};
 
+use std::io::Read;
 use store::NodeAnswer;
 use text_language::{BAD_TEXT, MOST_BYTES, NESTED_TOO_DEEP, NOT_A_NUMBER, OUTSIDE_LANGUAGE};
 
@@ -12,6 +13,12 @@ use text_language::{BAD_TEXT, MOST_BYTES, NESTED_TOO_DEEP, NOT_A_NUMBER, OUTSIDE
 const INPUT_BYTES: usize = MOST_BYTES + 2;
 
 const LINE_FEED: u8 = b'\n';
+
+// Whether the input ends here: a read answers 0 at its end alone.
+fn at_end<R: Read>(input: &mut R) -> bool {
+    let mut next = [0; 1];
+    matches!(input.read(&mut next), Ok(0))
+}
 
 // The length of the text: without a line feed at its end.
 fn text_length(input: &[u8]) -> usize
@@ -84,12 +91,17 @@ fn complain(out: &impl Eprint, text: &str) {
 }
 
 fn main(rt: HostRuntime) {
+    let mut stdin = rt.stdin();
     let mut input = [0; INPUT_BYTES];
-    let read = whole_input::fill(&mut rt.stdin(), &mut input);
-    let Ok(length) = read else {
+    let read = whole_input::fill(&mut stdin, &mut input);
+    let (length, whole) = match read {
+        Ok(length) => (length, length == INPUT_BYTES || at_end(&mut stdin)),
+        Err(_) => (0, false),
+    };
+    if !whole {
         complain(&rt, "text_listing: the text could not be read to its end\n");
         return;
-    };
+    }
     if !print_text(&rt, &input[..length]) {
         complain(&rt, "text_listing: the listing could not be written\n");
     }
