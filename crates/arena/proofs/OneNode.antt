@@ -1,7 +1,9 @@
 -- When two nodes are one: the test as facts, and back.
 use Prim.Native.Nat.{ℕ, ◌%◌, ◌<◌}
 use mathlib.Core.Path.{◌≡◌, refl, sym, ap, ◌∙◌}
-use mathlib.Core.Bool.{true, false, false≢true}
+use mathlib.Core.Bool.{Bool, true, false, false≢true, ◌&&◌}
+use Rattle.std.specs.Bool.{Decides}
+use Rattle.std.specs.Cmp.Lexicographic.{pointwise}
 use mathlib.Core.List.{List, [], ◌∷◌}
 use lib.ListN.{get_or, length}
 use lib.Seq.{ext_get_or}
@@ -22,14 +24,15 @@ pub children_refl : (a : List ℕ) → same_children a a ≡ true
 children_refl [] = refl
 children_refl (x ∷ a) = rw (eq-eqb x x refl) (children_refl a)
 
-module _ (a b : List ℕ) where
-  -- a place where they differ
-  pub children_differ : (j : ℕ) → (get_or a j 0 ≡ get_or b j 0 → ⊥) → false ≡ same_children a b
-  children_differ j n = sym (is_false _ (λ h. n (ap (λ (l : List ℕ). get_or l j 0) (children_eq a b h))))
+-- as `==` on slices compares them
+pub same_pointwise : (a b : List ℕ) → pointwise eqb a b ≡ same_children a b
+same_pointwise [] [] = refl
+same_pointwise [] (y ∷ b) = refl
+same_pointwise (x ∷ a) [] = refl
+same_pointwise (x ∷ a) (y ∷ b) = ap (λ (t : Bool). eqb x y && t) (same_pointwise a b)
 
-  -- all places agree
-  pub children_agree : length a ≡ length b → ((j : ℕ) → j < length a → get_or a j 0 ≡ get_or b j 0) → true ≡ same_children a b
-  children_agree l h = let e = ext_get_or 0 a b l h in sym (rw e (children_refl b))
+pub children_decides : (a b : List ℕ) → Decides (same_children a b) (a ≡ b)
+children_decides a b = (children_eq a b, λ h. rw h (children_refl b))
 
 pub record One (a b : DagNode) : Type 0 where
   pub kind : a.kind ≡ b.kind

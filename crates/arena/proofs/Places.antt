@@ -44,10 +44,6 @@ module _ (c : List ℕ) where
   unfolding places_of
   places_length l = length-append c (zeros (most_children - length c)) ∙ omega (arith, zeros_length (most_children - length c))
 
--- one place more is cleared
-pub clears : (w : List ℕ) (at j : ℕ) → at + j < length w → j < most_children → set (paste w at (places_of []) j) (at + j) 0 ≡ paste w at (places_of []) (suc j)
-clears w at j l m = ap (set (paste w at (places_of []) j) (at + j)) (sym (places_at [] j)) ∙ paste-suc w at (places_of []) j 0 l (let e = places_length [] (omega arith) in omega arith)
-
 -- the places cleared, and then the children written
 pub cleared : (w : List ℕ) (at : ℕ) (c : List ℕ) → at + most_children ≤ length w → length c ≤ most_children → paste (paste w at (places_of []) most_children) at c (length c) ≡ paste w at (places_of c) most_children
 unfolding places_of

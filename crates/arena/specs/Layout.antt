@@ -1,5 +1,4 @@
--- The words of a node. 02 (g): "A node becomes 22 words", 01's "of 64 bits in a lent list: kind, payload, hash, coefficient bits, flags,
--- child count" and the child places.
+-- The 22 words of a node, of 64 bits each: its kind, payload, hash, coefficient's bits, flags and child count, and the child places.
 use Rattle.std.specs.Prelude.{ℕ}
 use Rattle.arena.specs.declared.DagArena.{DagArena}
 pub use Rattle.definitions.specs.Limits.{most_children, most_nodes}

@@ -1,3 +1,4 @@
+pub mod Key
 pub mod Layout
 pub mod Node
 pub mod Nodes

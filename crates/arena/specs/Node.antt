@@ -1,5 +1,5 @@
 -- A node, and its words in the lent list.
-use Rattle.std.specs.Prelude.{ℕ, zero, suc, ◌+◌, ◌-◌, ◌*◌, ◌%◌, ◌≤◌, ◌≡◌, Bool, cond, ◌&&◌, List, [], ◌∷◌, ◌++◌, length, get_or, take, drop, set, replicate, eqb}
+use Rattle.std.specs.Prelude.{ℕ, zero, suc, ◌+◌, ◌-◌, ◌*◌, ◌%◌, Bool, cond, ◌&&◌, List, [], ◌∷◌, ◌++◌, length, get_or, take, drop, set, replicate, eqb}
 use Rattle.std.proofs.Math.Option.{Option, none, some}
 use Rattle.definitions.specs.Node.{constant_kind, same_children}
 use Rattle.hash.specs.Fnv.{node_hash_of}
@@ -31,15 +31,15 @@ words_of n = n.kind ∷ n.payload ∷ n.hash ∷ n.coefficient ∷ n.flags ∷ n
 unfoldable pub put : List ℕ → ℕ → DagNode → List ℕ
 put words id n = take (id * node_words) words ++ words_of n ++ drop (id * node_words + node_words) words
 
--- 01: "Flags: 1 commutative, 2 associative, 4 canonical"
+-- the flag of a marked node; 1 is commutative, 2 associative
 abbrev pub canonical : ℕ
 canonical = 4
 
--- 01: "flags are 0 to 7"
+-- flags are 0 to 7
 abbrev pub flags_end : ℕ
 flags_end = 8
 
--- 01: "Two nodes are one if kind, payload, children and flags without 4 agree." Unused child places are 0.
+-- two nodes are one if their kinds, payloads, children and flags without 4 agree. Unused child places are 0.
 unfoldable pub one : DagNode → DagNode → Bool
 one a b =
     eqb a.kind b.kind
@@ -55,7 +55,7 @@ node_hash n = node_hash_of n.kind n.payload (take n.arity n.children)
 abbrev pub bits_of_one : ℕ
 bits_of_one = 4607182418800017408
 
--- 01: "Coefficient: a constant's value, else 1.0."
+-- the coefficient is a constant's value, else 1.0
 unfoldable pub coefficient : ℕ → ℕ → ℕ
 coefficient kind payload = cond (eqb kind constant_kind) payload bits_of_one
 
@@ -86,11 +86,6 @@ node_of kind payload flags children = record {
   arity = length children;
   children = places_of children;
 }
-
--- a key in parts: children that have their places, and the hash
-pub record Key (kind payload hash : ℕ) (children : List ℕ) : Type 0 where
-  pub few : length children ≤ most_children
-  pub hashed : hash ≡ node_hash_of kind payload children
 
 -- the words with a node's mark set
 unfoldable pub marked : List ℕ → ℕ → List ℕ

@@ -1,4 +1,4 @@
-// The audit of nodes, for refusal 20.
+// The audit of nodes.
 ghost use Rattle.std.specs.Prelude.{◌+◌, ◌*◌, ◌≤◌, length};
 ghost use Rattle.definitions.specs.Says.{Says};
 ghost use Rattle.arena.specs.Layout.{node_words};
@@ -41,7 +41,7 @@ fn well_formed(nodes: &[u64], id: u64) -> bool
     nodes[at + COEFFICIENT] == coefficient_of(kind, payload)
 }
 
-// Whether all nodes are as listed, and no more than there is place for.
+/// Whether all nodes are as listed, and no more than there is place for.
 pub fn audit_nodes(nodes: &[u64], count: u64) -> bool
     ensures { Says result (AllWellFormed nodes.now count) }
 {
@@ -51,12 +51,10 @@ pub fn audit_nodes(nodes: &[u64], count: u64) -> bool
     if nodes.len() < count as usize * NODE_WORDS {
         return false;
     }
-    let mut i: u64 = 0;
-    while i < count {
-        if !well_formed(nodes, i) {
+    for id in 0..count {
+        if !well_formed(nodes, id) {
             return false;
         }
-        i += 1;
     }
     true
 }

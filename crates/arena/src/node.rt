@@ -4,17 +4,19 @@ ghost use Rattle.definitions.specs.Node.{same_children};
 ghost use Rattle.std.proofs.Math.Seq.{paste};
 ghost use Rattle.arena.specs.Layout.{node_words, most_children};
 ghost use Rattle.arena.specs.Nodes.{WellFormed};
-ghost use Rattle.arena.specs.Node.{words_from, node_at, put, one, coefficient, new_node, places_of, node_of, Key, marked};
+ghost use Rattle.arena.specs.Node.{words_from, node_at, put, one, coefficient, new_node, places_of, marked};
+ghost use Rattle.arena.specs.Key.{node_of_parts, node_of_key};
 
+use crate::key::{Key, Parts};
 use crate::{ARITY, CANONICAL, CHILDREN, COEFFICIENT, FLAGS, HASH, KIND, NODE_WORDS, PAYLOAD};
 use definitions::MOST_CHILDREN;
 use kinds::CONSTANT;
 
-// The binary64 bits of 1.0.
+/// The binary64 bits of 1.0.
 pub const BITS_OF_ONE: u64 = 0x3ff0_0000_0000_0000;
 
-// A node by value carries its child places; unused ones are 0.
-#[derive(Clone, Copy)]
+/// A node by value, with its child places, of which the unused ones are 0.
+#[derive(Clone, Copy, Debug, PartialEq, Eq)]
 pub struct DagNode {
     pub kind: u64,
     pub payload: u64,
@@ -25,7 +27,7 @@ pub struct DagNode {
     pub children: [u64; MOST_CHILDREN],
 }
 
-// 01: "Coefficient: a constant's value, else 1.0."
+// The coefficient is a constant's value, else 1.0.
 pub(crate) fn coefficient_of(kind: u64, payload: u64) -> u64
     ensures { result ≡ coefficient kind payload }
 {
@@ -37,8 +39,8 @@ pub(crate) fn coefficient_of(kind: u64, payload: u64) -> u64
 }
 
 impl DagNode {
-    // A node with its hash and its coefficient. The children are lent to the hash: a copy of them would wait until they
-    // are in memory.
+    /// A node with its hash and its coefficient, over the first `arity` of the child places. The children are lent to the hash: a copy
+    /// of them would wait until they are in memory.
     pub fn new(
         kind: u64,
         payload: u64,
@@ -70,15 +72,11 @@ fn load_children(nodes: &[u64], at: usize) -> [u64; MOST_CHILDREN]
     ensures { result ≡ words_from most_children nodes.now at }
 {
     let mut children = [0; MOST_CHILDREN];
-    let mut j: usize = 0;
-    while j < MOST_CHILDREN {
-        children[j] = nodes[at + j];
-        j += 1;
-    }
+    children.copy_from_slice(&nodes[at..at + MOST_CHILDREN]);
     children
 }
 
-// The node of an id.
+/// The node of an id.
 pub fn load(nodes: &[u64], id: u64) -> DagNode
     requires { id * node_words + node_words ≤ length nodes.now }
     ensures { result ≡ node_at nodes.now id }
@@ -101,14 +99,10 @@ fn store_children(nodes: &mut [u64], at: usize, children: [u64; MOST_CHILDREN])
     requires { at + most_children ≤ length nodes.old }
     ensures { nodes.new ≡ paste nodes.old at children most_children }
 {
-    let mut j: usize = 0;
-    while j < MOST_CHILDREN {
-        nodes[at + j] = children[j];
-        j += 1;
-    }
+    nodes[at..at + MOST_CHILDREN].copy_from_slice(&children);
 }
 
-// A node's words, at its id.
+/// Writes a node's words, at its id.
 pub fn store_node(nodes: &mut [u64], id: u64, node: DagNode)
     requires { id * node_words + node_words ≤ length nodes.old }
     ensures { nodes.new ≡ put nodes.old id node }
@@ -129,11 +123,7 @@ fn clear_places(nodes: &mut [u64], at: usize)
     requires { at + most_children ≤ length nodes.old }
     ensures { nodes.new ≡ paste nodes.old at (places_of []) most_children }
 {
-    let mut j: usize = 0;
-    while j < MOST_CHILDREN {
-        nodes[at + j] = 0;
-        j += 1;
-    }
+    nodes[at..at + MOST_CHILDREN].fill(0);
 }
 
 // The children from a word on, and 0 in the places after them: all places are cleared first, in a loop of fixed length.
@@ -142,79 +132,58 @@ fn store_ids(nodes: &mut [u64], at: usize, children: &[u32])
     ensures { nodes.new ≡ paste nodes.old at (places_of children.now) most_children }
 {
     clear_places(nodes, at);
-    let mut j: usize = 0;
-    while j < children.len() {
-        nodes[at + j] = children[j] as u64;
-        j += 1;
+    for j in 0..children.len() {
+        nodes[at + j] = u64::from(children[j]);
     }
 }
 
-// The words of a node with these parts, at its id.
-pub fn store_parts(
-    nodes: &mut [u64],
-    id: u64,
-    kind: u64,
-    payload: u64,
-    flags: u64,
-    hash: u64,
-    children: &[u32],
-)
-    requires { (id * node_words + node_words ≤ length nodes.old) × Key kind payload hash children.now }
-    ensures { nodes.new ≡ put nodes.old id (node_of kind payload flags children.now) }
+/// Writes the words of the node of a key, at its id.
+pub fn store_parts(nodes: &mut [u64], id: u64, key: Key)
+    requires { id * node_words + node_words ≤ length nodes.old }
+    ensures { nodes.new ≡ put nodes.old id (node_of_key key.entry) }
 {
     let at = id as usize * NODE_WORDS;
-    nodes[at + KIND] = kind;
-    nodes[at + PAYLOAD] = payload;
-    nodes[at + HASH] = hash;
-    nodes[at + COEFFICIENT] = coefficient_of(kind, payload);
-    nodes[at + FLAGS] = flags;
-    nodes[at + ARITY] = children.len() as u64;
-    store_ids(nodes, at + CHILDREN, children);
+    let parts = key.parts;
+    nodes[at + KIND] = parts.kind;
+    nodes[at + PAYLOAD] = parts.payload;
+    nodes[at + HASH] = key.hash;
+    nodes[at + COEFFICIENT] = coefficient_of(parts.kind, parts.payload);
+    nodes[at + FLAGS] = parts.flags;
+    nodes[at + ARITY] = parts.children.len() as u64;
+    store_ids(nodes, at + CHILDREN, parts.children);
 }
 
-// Whether the words from a place on are these children.
+/// Whether the words from a place on are these children.
 pub fn has_children(nodes: &[u64], at: usize, children: &[u32]) -> bool
     requires { at + length children.now ≤ length nodes.now }
     ensures { result ≡ same_children (words_from (length children.now) nodes.now at) children.now }
 {
-    let mut j: usize = 0;
-    while j < children.len() {
-        if nodes[at + j] != children[j] as u64 {
-            return false;
-        }
-        j += 1;
-    }
-    true
+    nodes[at..at + children.len()]
+        .iter()
+        .zip(children)
+        .all(|(word, child)| *word == u64::from(*child))
 }
 
-// Whether an id's node is one with a node of these parts. 01: "Two nodes are one if kind, payload, children and flags
-// without 4 agree." Unused places of both are 0, so that those in use are compared alone.
-pub fn has_parts(
-    nodes: &[u64],
-    id: u64,
-    kind: u64,
-    payload: u64,
-    flags: u64,
-    children: &[u32],
-) -> bool
-    requires { (id * node_words + node_words ≤ length nodes.now) × WellFormed id (node_at nodes.now id) ×
-        (length children.now ≤ most_children) }
-    ensures { result ≡ one (node_at nodes.now id) (node_of kind payload flags children.now) }
+/// Whether an id's node is one with a node of these parts: two nodes are one if their kinds, payloads, children and flags without 4
+/// agree. Unused places of both are 0, so that those in use are compared alone.
+pub fn has_parts(nodes: &[u64], id: u64, parts: Parts) -> bool
+    requires { (id * node_words + node_words ≤ length nodes.now) × WellFormed id (node_at nodes.now id) }
+    ensures { result ≡ one (node_at nodes.now id) (node_of_parts parts.entry) }
 {
     let at = id as usize * NODE_WORDS;
-    if nodes[at + KIND] != kind {
+    if nodes[at + KIND] != parts.kind {
         return false;
     }
-    if nodes[at + PAYLOAD] != payload {
+    if nodes[at + PAYLOAD] != parts.payload {
         return false;
     }
-    if nodes[at + FLAGS] % CANONICAL != flags % CANONICAL {
+    if nodes[at + FLAGS] % CANONICAL != parts.flags % CANONICAL {
         return false;
     }
-    if nodes[at + ARITY] != children.len() as u64 {
+    if nodes[at + ARITY] != parts.children.len() as u64 {
         return false;
     }
-    has_children(nodes, at + CHILDREN, children)
+    has_children(nodes, at + CHILDREN, parts.children)
 }
 
 // Whether the words from two places on, so many of them, agree.
@@ -222,17 +191,10 @@ fn same_words(nodes: &[u64], a: usize, b: usize, count: usize) -> bool
     requires { (a + count ≤ length nodes.now) × (b + count ≤ length nodes.now) }
     ensures { result ≡ same_children (words_from count nodes.now a) (words_from count nodes.now b) }
 {
-    let mut j: usize = 0;
-    while j < count {
-        if nodes[a + j] != nodes[b + j] {
-            return false;
-        }
-        j += 1;
-    }
-    true
+    nodes[a..a + count] == nodes[b..b + count]
 }
 
-// Whether the nodes of two ids are one.
+/// Whether the nodes of two ids are one.
 pub fn is_one(nodes: &[u64], first: u64, second: u64) -> bool
     requires { (first * node_words + node_words ≤ length nodes.now) × (second * node_words + node_words ≤ length nodes.now) }
     ensures { result ≡ one (node_at nodes.now first) (node_at nodes.now second) }
@@ -254,7 +216,7 @@ pub fn is_one(nodes: &[u64], first: u64, second: u64) -> bool
     same_words(nodes, a + CHILDREN, b + CHILDREN, MOST_CHILDREN)
 }
 
-// A node's mark set: flag 4, canonical.
+/// Sets a node's mark: flag 4, canonical.
 pub fn mark(nodes: &mut [u64], id: u64)
     requires { id * node_words + node_words ≤ length nodes.old }
     ensures { nodes.new ≡ marked nodes.old id }

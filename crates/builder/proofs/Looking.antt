@@ -11,11 +11,11 @@ use Rattle.arena.specs.Node.{node_at}
 use Rattle.definitions.specs.Refusals.{not_sound, bad_operand}
 use Rattle.store.specs.Sound.{Sound}
 use Rattle.store.proofs.Viewing.{at_plain}
-use Rattle.builder.specs.declared.reading.NodeRead.{NodeRead}
-use Rattle.builder.specs.Reads.{ReadsNode, refused_read, found_read}
+use Rattle.std.proofs.Common.{Ok, Err}
+use Rattle.builder.specs.Reads.{NodeRead, ReadsNode}
 
 module _ (w slots : List ℕ) (s : DagArena) (id : ℕ) where
-  pub reads_unsound : (r : NodeRead) → r ≡ refused_read not_sound → (Sound w slots s → ⊥) → ReadsNode w slots s id r
+  pub reads_unsound : (r : NodeRead) → r ≡ Err not_sound → (Sound w slots s → ⊥) → ReadsNode w slots s id r
   reads_unsound r e n = record {
     unsound = λ _. e;
     unknown = λ h. absurd (n h);
@@ -24,7 +24,7 @@ module _ (w slots : List ℕ) (s : DagArena) (id : ℕ) where
   }
 
   module _ (h : Sound w slots s) where
-    pub reads_unknown : (r : NodeRead) → r ≡ refused_read bad_operand → s.count ≤ id → ReadsNode w slots s id r
+    pub reads_unknown : (r : NodeRead) → r ≡ Err bad_operand → s.count ≤ id → ReadsNode w slots s id r
     reads_unknown r e l = record {
       unsound = λ n. absurd (n h);
       unknown = λ _ _. e;
@@ -35,10 +35,10 @@ module _ (w slots : List ℕ) (s : DagArena) (id : ℕ) where
     pub reads_fits : id < s.count → id * node_words + node_words ≤ length w
     reads_fits l = let f = h.nodes.formed.fits in omega arith
 
-    pub reads_found : id < s.count → (n : DagNode) → n ≡ node_at w id → ReadsNode w slots s id (found_read n)
+    pub reads_found : id < s.count → (n : DagNode) → n ≡ node_at w id → ReadsNode w slots s id (Ok n)
     reads_found l n e = record {
       unsound = λ k. absurd (k h);
       unknown = λ _ m. absurd (omega arith);
-      found = λ _ _. ap found_read e;
+      found = λ _ _. ap Ok e;
       plain = λ _ m. sym (at_plain w s.count id m);
     }

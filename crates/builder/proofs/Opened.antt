@@ -15,7 +15,7 @@ use Rattle.definitions.specs.Refusals.{no_slot_place}
 use Rattle.definitions.specs.Promise.{Fresh}
 use Rattle.store.specs.View.{nodes_in}
 use Rattle.store.specs.Memory.{memory, model}
-use Rattle.builder.specs.declared.opening.FreshStore.TheVariants.{Store, Refused}
+use Rattle.std.proofs.Common.{Ok, Err}
 use Rattle.builder.specs.Opens.{Opens}
 
 -- no nodes are well formed
@@ -25,7 +25,7 @@ none_formed w = record { many = omega arith; fits = omega arith; each = λ i l. 
 pub first_fits : (slots : List ℕ) → first_table_size ≤ length slots → FitsTable 0 slots first_table_size
 first_fits slots l = record { doubled = record { doublings = 0; is = refl }; sized = l; load = omega arith }
 
-pub opens_refused : (w slots : List ℕ) → length slots < first_table_size → Opens w slots (Refused no_slot_place) slots
+pub opens_refused : (w slots : List ℕ) → length slots < first_table_size → Opens w slots (Err no_slot_place) slots
 opens_refused w slots l = record {
   answer = rw (lt-ltb (length slots) first_table_size l) refl;
   slots_after = rw (lt-ltb (length slots) first_table_size l) refl;
@@ -44,7 +44,7 @@ module _ (w slots slots' : List ℕ) (l : first_table_size ≤ length slots) (lo
   unfolding nodes_in
   fresh_first = record { sound = record { nodes = record { formed = none_formed w; apart = λ i j a. absurd (omega arith) }; table = r.table }; view = refl }
 
-  pub opens_first : Opens w slots (Store first) slots'
+  pub opens_first : Opens w slots (Ok first) slots'
   opens_first = record {
     answer = rw (le-ltb (length slots) first_table_size l) refl;
     slots_after = sym (take-append-drop first_table_size slots') ∙ ap (λ (x : List ℕ). x ++ drop first_table_size slots') empty ∙ ap (λ (x : List ℕ). replicate first_table_size 0 ++ x) r.past ∙ (rw (le-ltb (length slots) first_table_size l) refl);

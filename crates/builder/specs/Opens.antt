@@ -1,5 +1,5 @@
--- 01: "A fresh store has no nodes and 64 empty slots"; 22 "also a fresh store with under 64".
-use Rattle.std.specs.Prelude.{ℕ, ◌≡◌, Bool, true, false, List, ◌++◌, drop, replicate}
+-- A fresh store has no nodes and 64 empty slots; with fewer slots lent it is refused with 22.
+use Rattle.std.specs.Prelude.{ℕ, ◌≡◌, Bool, true, false, List, Result, Ok, Err, ◌++◌, drop, replicate}
 use Rattle.arena.specs.declared.DagArena.{DagArena}
 use Rattle.definitions.specs.Limits.{first_table_size}
 use Rattle.definitions.specs.Refusals.{no_slot_place}
@@ -7,12 +7,14 @@ use Rattle.definitions.specs.Machine.{fresh_refused}
 use Rattle.definitions.specs.Promise.{Fresh}
 use Rattle.store.specs.View.{lent}
 use Rattle.store.specs.Memory.{Memory, memory, model}
-use Rattle.builder.specs.declared.opening.FreshStore.{FreshStore}
-use Rattle.builder.specs.declared.opening.FreshStore.TheVariants.{Store, Refused}
+
+-- the counts of a fresh store, or the number of a refusal
+abbrev pub FreshStore : Type 0
+FreshStore = Result DagArena ℕ
 
 abbrev pub fresh_answer : Bool → FreshStore
-fresh_answer true = Refused no_slot_place
-fresh_answer false = Store (record { count = 0; size = first_table_size })
+fresh_answer true = Err no_slot_place
+fresh_answer false = Ok (record { count = 0; size = first_table_size })
 
 -- a refusal changes nothing, and slots past the first 64 stay
 abbrev pub fresh_slots : Bool → List ℕ → List ℕ
@@ -23,8 +25,8 @@ fresh_slots false slots = replicate first_table_size 0 ++ drop first_table_size 
 abbrev pub fresh_memory : List ℕ → List ℕ → Memory
 fresh_memory words slots = memory words (fresh_slots false slots) (record { count = 0; size = first_table_size })
 
--- the answer, the slots after it, and "A fresh store is sound"
+-- the answer, the slots after it, and that a fresh store is sound
 pub record Opens (words slots : List ℕ) (r : FreshStore) (slots' : List ℕ) : Type 0 where
   pub answer : r ≡ fresh_answer (fresh_refused (lent words slots))
   pub slots_after : slots' ≡ fresh_slots (fresh_refused (lent words slots)) slots
-  pub fresh : (arena : DagArena) → r ≡ Store arena → Fresh model (memory words slots' arena)
+  pub fresh : (arena : DagArena) → r ≡ Ok arena → Fresh model (memory words slots' arena)

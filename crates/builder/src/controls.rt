@@ -19,8 +19,7 @@ pub fn select(
     ensures { Stores (M.select a b c)
         nodes.old slots.old arena nodes.new slots.new result }
 {
-    let operands = [a, b, c];
-    build(nodes, slots, arena, true, CONTROL, SELECT, 0, &operands)
+    build(nodes, slots, arena, true, CONTROL, SELECT, 0, &[a, b, c])
 }
 
 // IfElse, over three operands.
@@ -35,8 +34,7 @@ pub fn if_else(
     ensures { Stores (M.if_else a b c)
         nodes.old slots.old arena nodes.new slots.new result }
 {
-    let operands = [a, b, c];
-    build(nodes, slots, arena, true, CONTROL, IF_ELSE, 0, &operands)
+    build(nodes, slots, arena, true, CONTROL, IF_ELSE, 0, &[a, b, c])
 }
 
 // ForLoop, over four operands.
@@ -52,11 +50,19 @@ pub fn for_loop(
     ensures { Stores (M.for_loop a b c d)
         nodes.old slots.old arena nodes.new slots.new result }
 {
-    let operands = [a, b, c, d];
-    build(nodes, slots, arena, true, CONTROL, FOR_LOOP, 0, &operands)
+    build(
+        nodes,
+        slots,
+        arena,
+        true,
+        CONTROL,
+        FOR_LOOP,
+        0,
+        &[a, b, c, d],
+    )
 }
 
-// Any control, by its code, over any operands.
+/// Any control, by its code, over any operands.
 pub fn control(
     nodes: &mut [u64],
     slots: &mut [u32],
@@ -67,7 +73,7 @@ pub fn control(
     ensures { Stores (M.control code operands.now)
         nodes.old slots.old arena nodes.new slots.new result }
 {
-    let payload = code as u64;
+    let payload = u64::from(code);
     build(
         nodes,
         slots,

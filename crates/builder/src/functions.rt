@@ -7,7 +7,7 @@ use building::build;
 use kinds::FUNCTION;
 use store::Built;
 
-// A function, by its number, over its operands.
+/// A function, by its number, over its operands.
 pub fn function(
     nodes: &mut [u64],
     slots: &mut [u32],
@@ -24,7 +24,7 @@ pub fn function(
         arena,
         true,
         FUNCTION,
-        number as u64,
+        u64::from(number),
         0,
         operands,
     )

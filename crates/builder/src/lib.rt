@@ -1,4 +1,5 @@
-// The builder's calls (builder.rs): each audits the store once, refuses or answers an id, and leaves a sound store.
+// The builder's calls: each audits the store once, refuses or answers an id, and leaves a sound store. They take slices and counts, as C lends
+// them.
 #![tactic(auto)]
 
 pub mod controls;
@@ -11,6 +12,6 @@ pub mod reading;
 pub use controls::{control, for_loop, if_else, select};
 pub use functions::function;
 pub use leaves::{constant, variable};
-pub use opening::{FreshStore, fresh};
+pub use opening::fresh;
 pub use operators::{add, div, modulo, mul, neg, operator, pow, sub};
-pub use reading::{NodeFound, NodeRead, node};
+pub use reading::node;

@@ -1,26 +1,24 @@
 // A fresh store.
+ghost use Rattle.refusal.specs.Number.{by_number};
 ghost use Rattle.builder.specs.Opens.{Opens};
 
 use arena::DagArena;
-use definitions::refusals::NO_SLOT_PLACE;
+use refusal::Refusal;
 use slots::{FIRST_SIZE, rehash};
 
-// The counts of a fresh store, or the number of a refusal.
-#[derive(Clone, Copy)]
-pub enum FreshStore {
-    Store(DagArena),
-    Refused(u64),
-}
-
-// A store without nodes, with the first slots empty.
-pub fn fresh(nodes: &[u64], slots: &mut [u32]) -> FreshStore
-    ensures { Opens nodes.now slots.old result slots.new }
+/// A store without nodes, with the first 64 slots empty.
+///
+/// # Errors
+///
+/// `NoSlotPlace` if fewer slots are lent. Nothing is changed then.
+pub fn fresh(nodes: &[u64], slots: &mut [u32]) -> Result<DagArena, Refusal>
+    ensures { Opens nodes.now slots.old (by_number result) slots.new }
 {
     if slots.len() < FIRST_SIZE {
-        return FreshStore::Refused(NO_SLOT_PLACE);
+        return Err(Refusal::NoSlotPlace);
     }
     rehash(nodes, slots, FIRST_SIZE, 0);
-    FreshStore::Store(DagArena {
+    Ok(DagArena {
         count: 0,
         size: FIRST_SIZE,
     })

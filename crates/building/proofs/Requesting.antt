@@ -1,6 +1,6 @@
 -- The constructors' shared work is the plain machine's store call.
 use Prim.Native.Nat.{ℕ}
-use mathlib.Core.Path.{◌≡◌, refl, sym, ap, ◌∙◌}
+use mathlib.Core.Path.{◌≡◌, refl, sym, ap, ◌∙◌, subst}
 use mathlib.Core.Bool.{Bool, true, false}
 use mathlib.Core.List.{List}
 use lib.ListN.{length}
@@ -99,3 +99,10 @@ module _ (listed : Bool) (kind payload flags : ℕ) (operands w slots : List ℕ
           interned w' slots' r i =
               let o : stored_as (I.intern (lent w slots) ns (N.node kind payload flags operands)) ≡ outcome (answer_of r.answer) (nodes_in w' r.arena.count) = ap stored_as (sym i.builds.answer) ∙ answered r.answer (nodes_in w' r.arena.count) in
               record { outcome = sym (passed ∙ o); kept = i.builds.kept; unchanged = λ number a. i.unchanged number (refused_is r.answer number a) }
+
+-- what was asked for by a code that is listed
+pub asked_listed : (listed : Bool) (kind payload flags : ℕ) → listed ≡ true → Asked listed kind payload flags → Asked true kind payload flags
+asked_listed listed kind payload flags e asked = subst (λ (b : Bool). Asked b kind payload flags) e asked
+
+pub listed_builds : (listed : Bool) → listed ≡ true → (n : N.Node) (m : Memory) (a : M.Answer) (m' : Memory) → BuildsSound (request true n) m a m' → BuildsSound (request listed n) m a m'
+listed_builds listed e n m a m' b = subst (λ (l : Bool). BuildsSound (request l n) m a m') (sym e) b

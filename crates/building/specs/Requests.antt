@@ -1,5 +1,6 @@
 -- What a request builds: on a sound store, and on any store, which is audited first.
-use Rattle.std.specs.Prelude.{ℕ, ◌<◌, ◌≡◌, Bool, true, false, List}
+use Rattle.std.specs.Prelude.{ℕ, ◌<◌, ◌≡◌, Bool, true, false, List, Result}
+use Rattle.refusal.specs.declared.Refusal.{Refusal}
 use Rattle.arena.specs.declared.DagArena.{DagArena}
 use Rattle.kinds.specs.Kind as Kind
 use Rattle.arena.specs.Node.{canonical}
@@ -7,6 +8,8 @@ use Rattle.definitions.specs.Node as N
 use Rattle.definitions.specs.Refusals.{not_sound}
 use Rattle.definitions.specs.Machine as M
 use Rattle.store.specs.declared.Built.{Built}
+use Rattle.building.specs.declared.Request.{Request}
+use Rattle.store.specs.Held.{node_answer}
 use Rattle.store.specs.View.{Kept}
 use Rattle.store.specs.Memory.{Memory, memory, model, answer_of}
 
@@ -29,6 +32,10 @@ StoresSound q words slots arena words' slots' r =
 abbrev pub StoresAudited : M.Request → List ℕ → List ℕ → DagArena → List ℕ → List ℕ → Built → Type 0
 StoresAudited q words slots arena words' slots' r =
     BuildsAudited q (memory words slots arena) (answer_of r.answer) (memory words' slots' r.arena)
+
+-- a listed request on a sound store that holds its lists
+abbrev pub BuildsRequest : Request → Memory → Result ℕ Refusal → Memory → Type 0
+BuildsRequest q m answer m' = BuildsSound (M.request true (N.node q.kind q.payload q.flags q.operands.now)) m (answer_of (node_answer answer)) m'
 
 -- A kind, payload and flags that unmarked nodes have, unless they are not listed or a NaN: a sound store's nodes have the child counts that
 -- the plain machine lists.

@@ -1,45 +1,29 @@
 // Lists of calls as words, run by `history::replay`.
-use history::{Opening, Replayed};
-use script_calls::showing::handed;
+use history::Run;
+use refusal::Refusal;
+use script_calls::showing::print_result;
 use script_calls::state::{LIST_WORDS, Now};
-use scripts::lines::{MOST_VALUES, Values};
-use scripts::memory::least;
-use scripts::printing::{number, refused, text};
+use scripts::lines::Values;
+use scripts::printing::refused;
 use scripts::tokens::narrow;
 
-// The list with the words of a line behind it.
-fn longer(now: Now, values: Values) -> Now {
-    let mut list = now.list;
-    let given = values.list;
-    let mut at = now.written;
-    let end = least(values.count, MOST_VALUES);
-    let mut i: usize = 1;
-    while i < end {
-        if LIST_WORDS <= at {
-            break;
-        }
-        list[at] = narrow(given[i]);
-        at += 1;
-        i += 1;
+// The words of a line put behind the list; what has no place there is left out.
+fn append(now: &mut Now, values: &Values) {
+    let numbers = values.list.iter().take(values.count).skip(1);
+    for (word, number) in now.list.iter_mut().skip(now.written).zip(numbers) {
+        *word = narrow(*number);
     }
-    let mut after = now;
-    after.list = list;
-    after.written = at;
-    after
+    let more = values.count.saturating_sub(1);
+    now.written = now.written.saturating_add(more).min(LIST_WORDS);
 }
 
-fn show(out: &impl Print, replayed: Replayed) {
-    let opening = replayed.opening;
-    let run = replayed.run;
-    match opening {
-        Opening::Opened => {
-            handed(out, run.last);
-            text(out, b" calls");
-            number(out, run.calls as u64);
-            text(out, b" words");
-            number(out, run.words as u64);
+fn print_replayed(out: &impl Print, replayed: Result<Run, Refusal>) {
+    match replayed {
+        Ok(run) => {
+            print_result(out, run.last);
+            let _ = print!(out; " calls {} words {}", run.calls, run.words);
         }
-        Opening::Refused(refusal) => refused(out, refusal),
+        Err(refusal) => refused(out, refusal.number()),
     }
 }
 
@@ -49,12 +33,10 @@ pub(crate) fn replay(
     nodes: &mut [u64],
     slots: &mut [u32],
     entries: &mut [u8],
-    now: Now,
-    values: Values,
-) -> Now {
-    let after = longer(now, values);
-    let list = after.list;
-    let end = least(after.written, LIST_WORDS);
-    show(out, history::replay(nodes, slots, entries, &list[..end]));
-    after
+    now: &mut Now,
+    values: &Values,
+) {
+    append(now, values);
+    let calls = &now.list[..now.written.min(LIST_WORDS)];
+    print_replayed(out, history::replay(nodes, slots, entries, calls));
 }

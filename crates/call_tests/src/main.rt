@@ -3,18 +3,18 @@
 // written is held to the file `stdout`; docs/ARCHITECTURE.md has the commands.
 #![tactic(auto)]
 
-ghost use Rattle.std.specs.Prelude.{◌≤◌};
-
 mod lists;
 
-use script_calls::state::{Now, at_first};
-use script_calls::{calling, state, writing};
-use script_store::{applying, damage, listing};
+use arena::DagArena;
+use script_calls::state::Now;
+use script_calls::{calling, writing};
+use script_store::{applying, damage, filling, listing};
 use scripts::lines;
-use scripts::lines::BLANK;
-use scripts::memory::{BYTES, SLOTS, WORDS, least, same};
-use scripts::printing::text;
+use scripts::lines::{BLANK, Command};
+use scripts::memory::{BYTES, SLOTS, WORDS};
+use scripts::tokens::{low_byte, narrow};
 use std::env::{Env, FillError};
+use std::io::ErrorKind;
 use std::rt::Files;
 use std::{fs, io, str};
 
@@ -24,126 +24,130 @@ const SCRIPT_BYTES: usize = 262_144;
 // The bytes of the longest path.
 const PATH_BYTES: usize = 4_096;
 
-const LINE_FEED: u8 = 10;
-
 // A command on what is lent.
 fn perform(
     out: &impl Print,
     nodes: &mut [u64],
     slots: &mut [u32],
     entries: &mut [u8],
-    now: Now,
+    now: &mut Now,
     line: &[u8],
-    command: u32,
-) -> Now {
-    if command < lines::REPEAT {
-        return calling::run(out, nodes, slots, entries, now, line, command);
-    }
-    let given = lines::numbers(line, 0);
-    let list = given.list;
+    command: Command,
+) {
+    let values = lines::numbers(line, 0);
+    let list = values.list;
+    let at = list[1] as usize;
+    let value = list[2];
     match command {
-        lines::FRESH => state::fresh(out, nodes, slots, now),
-        lines::APPLY => state::with_arena(now, applying::apply(out, nodes, slots, now.arena, list)),
-        lines::REPLAY => lists::replay(out, nodes, slots, entries, now, given),
-        lines::REPEAT | lines::LEND | lines::COUNTS => state::arrange(now, command, list),
-        lines::LIST => {
-            listing::list(out, nodes, slots, now.arena, list);
-            now
+        Command::Call(call) => calling::run(out, nodes, slots, entries, now, line, call),
+        Command::Repeat => now.turns = narrow(list[1]),
+        Command::Fresh => now.refresh(out, nodes, slots),
+        Command::Apply => now.arena = applying::apply(out, nodes, slots, now.arena, list),
+        Command::Replay => lists::replay(out, nodes, slots, entries, now, &values),
+        Command::Lend => {
+            now.words = list[1] as usize;
+            now.places = list[2] as usize;
+            now.bytes = list[3] as usize;
         }
-        lines::WRITE => {
-            writing::write(out, nodes, slots, entries, now, list);
-            now
+        Command::Counts => {
+            now.arena = DagArena {
+                count: list[1],
+                size: list[2] as usize,
+            };
+            now.names = list[3] as usize;
         }
-        lines::UNKNOWN => {
-            text(out, b" no such command");
-            now
+        Command::List => {
+            let end = if list[2] == 0 {
+                now.arena.count
+            } else {
+                list[2]
+            };
+            listing::between(out, nodes, slots, now.arena, list[1], end);
         }
-        _ => {
-            damage::change(out, nodes, slots, entries, command, list);
-            now
+        Command::SetWord => damage::set(nodes, at, value),
+        Command::SetSlot => damage::set(slots, at, narrow(value)),
+        Command::SetByte => damage::set(entries, at, low_byte(value)),
+        Command::Fill => damage::set_all(nodes, slots, entries, list[1]),
+        Command::Rehash => filling::rehash(nodes, narrow(list[1])),
+        Command::Refill => filling::refill(nodes, slots, at, narrow(value)),
+        Command::Word => damage::show(out, nodes, at, 0),
+        Command::Slot => damage::show(out, slots, at, value as usize),
+        Command::Write => {
+            writing::write(
+                out,
+                nodes,
+                slots,
+                entries,
+                now,
+                narrow(list[1]),
+                value as usize,
+            );
         }
     }
 }
 
-// A command on the parts of the memory that are lent.
-fn perform_lent(
-    out: &impl Print,
-    nodes: &mut [u64],
-    slots: &mut [u32],
-    entries: &mut [u8],
-    now: Now,
-    line: &[u8],
-    command: u32,
-) -> Now {
-    let words = least(now.words, nodes.len());
-    let places = least(now.places, slots.len());
-    let bytes = least(now.bytes, entries.len());
-    perform(
-        out,
-        &mut nodes[..words],
-        &mut slots[..places],
-        &mut entries[..bytes],
-        now,
-        line,
-        command,
-    )
-}
-
-// A command's line; behind a call, whether the whole memory is as it was.
-fn run_line(
+// A command on the parts of the memory that are lent; behind a call, whether the whole memory is as it was. The three lists are no struct:
+// two fields cannot be lent behind one reference in a proof.
+fn run_command(
     out: &impl Print,
     nodes: &mut [u64; WORDS],
     slots: &mut [u32; SLOTS],
     entries: &mut [u8; BYTES],
-    now: Now,
+    now: &mut Now,
     line: &[u8],
-) -> Now {
+    command: Command,
+) {
     let nodes_before = *nodes;
     let slots_before = *slots;
     let entries_before = *entries;
-    let command = lines::command(line);
-    text(out, b" ->");
-    let after = perform_lent(out, nodes, slots, entries, now, line, command);
-    if command < lines::REPEAT {
-        if same(
-            nodes,
-            &nodes_before,
-            slots,
-            &slots_before,
-            entries,
-            &entries_before,
-        ) {
-            text(out, b" unchanged");
-        }
+    perform(
+        out,
+        &mut nodes[..now.words.min(WORDS)],
+        &mut slots[..now.places.min(SLOTS)],
+        &mut entries[..now.bytes.min(BYTES)],
+        now,
+        line,
+        command,
+    );
+    let unchanged = *nodes == nodes_before && *slots == slots_before && *entries == entries_before;
+    if unchanged && matches!(command, Command::Call(_)) {
+        let _ = print!(out; " unchanged");
     }
-    after
 }
 
 // Every line of a script, from an empty memory on.
 fn run(out: &impl Print, script: &[u8]) {
-    let mut nodes = [0u64; WORDS];
-    let mut slots = [0u32; SLOTS];
-    let mut entries = [0u8; BYTES];
-    let mut now = at_first();
-    let mut at: usize = 0;
-    while at < script.len() {
-        let end = lines::find(script, at, LINE_FEED);
-        let line = &script[at..end];
-        text(out, line);
-        if script[at] == BLANK {
-            now = run_line(out, &mut nodes, &mut slots, &mut entries, now, line);
+    let mut nodes = [0; WORDS];
+    let mut slots = [0; SLOTS];
+    let mut entries = [0; BYTES];
+    let mut now = Now::new();
+    for piece in script.split_inclusive(|byte| *byte == b'\n') {
+        let line = piece.strip_suffix(b"\n").unwrap_or(piece);
+        let _ = out.write_all(line);
+        if line.first() == Some(&BLANK) {
+            let _ = print!(out; " ->");
+            match Command::of_line(line) {
+                Ok(command) => run_command(
+                    out,
+                    &mut nodes,
+                    &mut slots,
+                    &mut entries,
+                    &mut now,
+                    line,
+                    command,
+                ),
+                Err(_) => {
+                    let _ = print!(out; " no such command");
+                }
+            }
         }
-        text(out, b"\n");
-        if end == script.len() {
-            break;
-        }
-        at = end + 1;
+        let _ = println!(out);
     }
 }
 
 fn run_file<R: Files + Print>(rt: &R, path: &str) -> io::Result<()> {
     let mut file = fs::open(rt, path)?;
-    let mut script = [0u8; SCRIPT_BYTES];
+    let mut script = [0; SCRIPT_BYTES];
     let size = whole_input::fill(&mut file, &mut script)?;
     run(rt, &script[..size]);
     Ok(())
@@ -151,14 +155,14 @@ fn run_file<R: Files + Print>(rt: &R, path: &str) -> io::Result<()> {
 
 fn main(rt: HostRuntime) -> io::Result<()> {
     for argument in 1..usize::MAX {
-        let mut path = [0u8; PATH_BYTES];
+        let mut path = [0; PATH_BYTES];
         let length = match rt.arg(argument, &mut path) {
             Ok(length) => length,
             Err(FillError::NotPresent) => break,
-            Err(_) => return Err(io::Error::from(io::ErrorKind::InvalidFilename)),
+            Err(_) => return Err(io::Error::from(ErrorKind::InvalidFilename)),
         };
         let Ok(name) = str::from_utf8(&path[..length]) else {
-            return Err(io::Error::from(io::ErrorKind::InvalidFilename));
+            return Err(io::Error::from(ErrorKind::InvalidFilename));
         };
         run_file(&rt, name)?;
     }

@@ -17,7 +17,8 @@ use Rattle.names.specs.declared.NameReply.TheVariants.{Numbered, Unknown, Named,
 use Rattle.name_entries.specs.Sound.{SoundNames, names_of, lent_entries}
 use Rattle.names.specs.Memory.{name_memory, names_after, NamesLeft, names_left}
 use Rattle.names.specs.Calls.{answer_of, NameListCalled, plainly, names_left_by}
-use Rattle.calls.specs.declared.handing.LastReply.TheVariants as Last
+use Rattle.calls.specs.declared.handing.Reply.TheVariants as Reply
+use Rattle.std.specs.Prelude.{Some}
 use Rattle.encoding.specs.Encoding.{bytes_of}
 use Rattle.encoding.specs.Spelling.{most_name_bytes}
 use Rattle.calls.specs.Calling.{NameBeside}
@@ -94,7 +95,7 @@ module _ (bytes : List ℕ) (count : ℕ) (c d : NameCall) (a : NameReply) (out 
   beside (Refused r) k = refl
 
   -- 0s stand beside an answer that is no name's length
-  zeros_beside : (x : NameReply) → ((n : ℕ) → x ≡ Named n → ⊥) → NameBeside (Last.Names x) (replicate longest_name 0)
+  zeros_beside : (x : NameReply) → ((n : ℕ) → x ≡ Named n → ⊥) → NameBeside (Some (Reply.Names x)) (replicate longest_name 0)
   zeros_beside (Numbered n) k = (refl, tt)
   zeros_beside Unknown k = (refl, tt)
   zeros_beside (Named n) k = absurd (k n refl)
@@ -125,12 +126,12 @@ module _ (bytes : List ℕ) (count : ℕ) (operands name : List ℕ) (a : NameRe
 
 -- 0s stand beside the answers of interning and looking up
 module _ (bytes : List ℕ) (count : ℕ) (name : List ℕ) (a : NameReply) (bytes' : List ℕ) (count' : ℕ) where
-  pub interned_beside : NameListCalled bytes count (intern_name name) (answer_of a []) bytes' count' → NameBeside (Last.Names a) (replicate longest_name 0)
+  pub interned_beside : NameListCalled bytes count (intern_name name) (answer_of a []) bytes' count' → NameBeside (Some (Reply.Names a)) (replicate longest_name 0)
   interned_beside h =
       zeros_beside bytes count (intern_name name) (intern_name name) a [] bytes' count' a
       (no_name bytes count (intern_name name) (intern_name name) a [] bytes' count' (intern_unnamed (lent_entries bytes) (names_of bytes count) name) h)
 
-  pub looked_up_beside : NameListCalled bytes count (lookup_name name) (answer_of a []) bytes' count' → NameBeside (Last.Names a) (replicate longest_name 0)
+  pub looked_up_beside : NameListCalled bytes count (lookup_name name) (answer_of a []) bytes' count' → NameBeside (Some (Reply.Names a)) (replicate longest_name 0)
   looked_up_beside h =
       zeros_beside bytes count (lookup_name name) (lookup_name name) a [] bytes' count' a
       (no_name bytes count (lookup_name name) (lookup_name name) a [] bytes' count' (lookup_unnamed (lent_entries bytes) (names_of bytes count) name) h)

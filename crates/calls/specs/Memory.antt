@@ -1,5 +1,5 @@
 -- What each public call leaves of a controller's memory, and what a list of them leaves.
-use Rattle.std.specs.Prelude.{ℕ, ◌≡◌, List, [], ◌∷◌, map}
+use Rattle.std.specs.Prelude.{ℕ, ◌≡◌, List, [], ◌∷◌, map, Ok}
 use Rattle.arena.specs.declared.DagArena.{DagArena}
 use Rattle.definitions.specs.Machine as Machine
 use Rattle.definitions.specs.Names.{NameCall, NameAnswer}
@@ -8,9 +8,7 @@ use Rattle.definitions.specs.Promise.{FreshController, Promise, All}
 use Rattle.definitions.specs.Beside.{beside}
 use Rattle.store.specs.declared.NodeAnswer.{NodeAnswer}
 use Rattle.store.specs.Memory.{Memory, model, Leaves}
-use Rattle.builder.specs.declared.opening.FreshStore.{FreshStore}
-use Rattle.builder.specs.declared.opening.FreshStore.TheVariants.{Store}
-use Rattle.builder.specs.Opens.{fresh_memory, Opens}
+use Rattle.builder.specs.Opens.{FreshStore, fresh_memory, Opens}
 use Rattle.names.specs.Calls.{NameListCalled}
 use Rattle.names.specs.Memory.{NameMemory, name_memory, name_model}
 use Rattle.text.specs.Memory.{ControllerMemory, controller_memory, lent_controller}
@@ -38,7 +36,7 @@ abbrev pub fresh_controller_memory : List ℕ → List ℕ → List ℕ → Cont
 fresh_controller_memory words slots bytes = beside model name_model (fresh_memory words slots) (name_memory bytes 0)
 
 -- Whatever a caller does from a fresh memory with the constructors of nodes, simplify, the two prunes, the three name calls and readings
--- keeps the promise of demand 3, and the store and the names are sound on the way.
+-- keeps the promise of what a list of calls leaves, and the store and the names are sound on the way.
 abbrev pub KeepsPromise : Type 0
 KeepsPromise = (m : ControllerMemory) (cs : List ControllerCall) (al : List ControllerAnswer) (ms : List ControllerMemory)
     → FreshController lent_controller m → LeavesInTurn m cs al ms
@@ -46,5 +44,5 @@ KeepsPromise = (m : ControllerMemory) (cs : List ControllerCall) (al : List Cont
 
 -- A store that `fresh` opened and a name list of count 0 in any bytes are fresh.
 abbrev pub OpenedFresh : Type 0
-OpenedFresh = (words slots slots' bytes : List ℕ) (r : FreshStore) (arena : DagArena) → Opens words slots r slots' → r ≡ Store arena
+OpenedFresh = (words slots slots' bytes : List ℕ) (r : FreshStore) (arena : DagArena) → Opens words slots r slots' → r ≡ Ok arena
     → FreshController lent_controller (controller_memory words slots' arena bytes 0)

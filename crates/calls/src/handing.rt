@@ -1,10 +1,9 @@
 // What is handed on from call to call.
-ghost use Rattle.std.specs.Prelude.{◌≡◌, replicate};
+ghost use Rattle.std.specs.Prelude.{◌≡◌, replicate, Some, None};
 ghost use Rattle.std.proofs.Math.Option.{some};
 ghost use Rattle.definitions.specs.Names.{longest_name};
 ghost use Rattle.text.specs.Calling as Text;
 ghost use Rattle.calls.specs.Calling.{last_reply_of, NameBeside};
-ghost use Rattle.calls.specs.declared.handing.LastReply.TheVariants as Last;
 
 use crate::naming::NameCallResult;
 use arena::DagArena;
@@ -13,30 +12,34 @@ use store::Built;
 use store_calls::{Answer, Performed, of_built};
 use text::ReadOutcome;
 
-// The last call's reply.
+/// A call's reply.
 #[derive(Clone, Copy)]
-pub enum LastReply {
-    // No call was run.
-    Nothing,
+pub enum Reply {
     Store(Answer),
     Names(names::NameReply),
 }
 
-// A reply, the bytes of a name that it gives the length of, the store's count and size, and how many names there are.
+/// What stands after a call.
 #[derive(Clone, Copy)]
 pub struct CallResult {
-    pub reply: LastReply,
+    /// The last call's reply; `None` where no call was run.
+    pub reply: Option<Reply>,
+    /// The bytes of a name that the reply gives the length of, and then 0s.
     pub name: [u8; LONGEST_NAME],
     pub arena: DagArena,
+    /// How many names there are.
     pub names: usize,
 }
 
-// What the first call gets: no reply, and no names.
+/// What the first call gets: no reply, and no names.
 pub fn at_first(arena: DagArena) -> CallResult
-    ensures { (result.reply ≡ Last.Nothing) × (result.name ≡ replicate longest_name 0) × (result.arena ≡ arena) × (result.names ≡ 0) }
+    ensures reply { result.reply ≡ None }
+    ensures name { result.name ≡ replicate longest_name 0 }
+    ensures arena { result.arena ≡ arena }
+    ensures names { result.names ≡ 0 }
 {
     CallResult {
-        reply: LastReply::Nothing,
+        reply: None,
         name: [0u8; LONGEST_NAME],
         arena,
         names: 0,
@@ -45,43 +48,45 @@ pub fn at_first(arena: DagArena) -> CallResult
 
 // What a call of the store hands on.
 pub(crate) fn of_store(performed: Performed, names: usize) -> CallResult
-    ensures { (result.reply ≡ Last.Store performed.answer) × (result.name ≡ replicate longest_name 0)
-        × (result.arena ≡ performed.arena) × (result.names ≡ names) }
+    ensures reply { result.reply ≡ Some (Reply.Store performed.answer) }
+    ensures name { result.name ≡ replicate longest_name 0 }
+    ensures arena { result.arena ≡ performed.arena }
+    ensures names { result.names ≡ names }
 {
-    let answer = performed.answer;
-    let arena = performed.arena;
     CallResult {
-        reply: LastReply::Store(answer),
+        reply: Some(Reply::Store(performed.answer)),
         name: [0u8; LONGEST_NAME],
-        arena,
+        arena: performed.arena,
         names,
     }
 }
 
 // What a name call hands on.
 pub(crate) fn of_names(named: NameCallResult, arena: DagArena) -> CallResult
-    ensures { (result.reply ≡ Last.Names named.answer) × (result.name ≡ named.bytes)
-        × (result.arena ≡ arena) × (result.names ≡ named.count) }
+    ensures reply { result.reply ≡ Some (Reply.Names named.answer) }
+    ensures name { result.name ≡ named.bytes }
+    ensures arena { result.arena ≡ arena }
+    ensures names { result.names ≡ named.count }
 {
-    let answer = named.answer;
     let name = named.bytes;
-    let names = named.count;
     CallResult {
-        reply: LastReply::Names(answer),
+        reply: Some(Reply::Names(named.answer)),
         name,
         arena,
-        names,
+        names: named.count,
     }
 }
 
 // What a reading hands on.
 pub(crate) fn of_reading(made: ReadOutcome) -> CallResult
-    ensures { (last_reply_of result.reply result.name ≡ some (Text.answered made.answer)) × NameBeside result.reply result.name
-        × (result.arena ≡ made.arena) × (result.names ≡ made.names) }
+    ensures reply { last_reply_of result.reply result.name ≡ some (Text.answered made.answer) }
+    ensures name { NameBeside result.reply result.name }
+    ensures arena { result.arena ≡ made.arena }
+    ensures names { result.names ≡ made.names }
 {
-    let answer = made.answer;
-    let arena = made.arena;
-    let names = made.names;
-    let performed = of_built(Built { answer, arena });
-    of_store(performed, names)
+    let performed = of_built(Built {
+        answer: made.answer,
+        arena: made.arena,
+    });
+    of_store(performed, made.names)
 }

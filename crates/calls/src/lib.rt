@@ -8,4 +8,4 @@ pub mod naming;
 pub mod reading;
 
 pub use calling::call;
-pub use handing::{CallResult, LastReply, at_first};
+pub use handing::{CallResult, Reply, at_first};

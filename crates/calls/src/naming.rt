@@ -1,11 +1,8 @@
-// One name call, by its header.
-ghost use Rattle.std.specs.Prelude.{◌≤◌, ◌<◌};
-ghost use Rattle.encoding.specs.Encoding.{first_naming, first_reading};
-ghost use Rattle.encoding.specs.Headers.{header_call};
+// The name calls, by their operands.
+ghost use Rattle.definitions.specs.Names.{intern_name, lookup_name, name_of};
+ghost use Rattle.encoding.specs.Encoding.{bytes_of};
 ghost use Rattle.calls.specs.Calling.{RunsNameCall};
 
-use encoding::codes;
-use encoding::headers::Header;
 use encoding::spelling::{LONGEST_NAME, spell_name};
 
 // An answer, the bytes of a name that it gives the length of, and how many names there are then.
@@ -16,43 +13,40 @@ pub(crate) struct NameCallResult {
     pub count: usize,
 }
 
-pub(crate) fn call_names(
-    entries: &mut [u8],
-    count: usize,
-    header: Header,
-    operands: &[u32],
-) -> NameCallResult
-    requires { (first_naming ≤ header.code) × (header.code < first_reading) }
-    ensures { RunsNameCall (header_call header operands.now) entries.old count result entries.new }
+// The name that operands spell, interned.
+pub(crate) fn intern(entries: &mut [u8], count: usize, operands: &[u32]) -> NameCallResult
+    ensures { RunsNameCall (intern_name (bytes_of operands.now)) entries.old count result entries.new }
 {
-    let code = header.code;
-    if code == codes::NAME_OF {
-        let told = names::name(entries, count, header.a);
-        let answer = told.answer;
-        let bytes = told.bytes;
-        return NameCallResult {
-            answer,
-            bytes,
-            count,
-        };
-    }
     let name = spell_name(operands);
-    let bytes = name.bytes;
-    let length = name.length;
-    if code == codes::INTERN {
-        let interned = names::intern(entries, count, &bytes[..length]);
-        let answer = interned.answer;
-        let next = interned.count;
-        return NameCallResult {
-            answer,
-            bytes: [0u8; LONGEST_NAME],
-            count: next,
-        };
-    }
-    let answer = names::lookup(entries, count, &bytes[..length]);
+    let interned = names::intern(entries, count, &name.bytes[..name.length]);
     NameCallResult {
-        answer,
+        answer: interned.answer,
         bytes: [0u8; LONGEST_NAME],
+        count: interned.count,
+    }
+}
+
+// The name that operands spell, looked up.
+pub(crate) fn lookup(entries: &[u8], count: usize, operands: &[u32]) -> NameCallResult
+    ensures { RunsNameCall (lookup_name (bytes_of operands.now)) entries.now count result entries.now }
+{
+    let name = spell_name(operands);
+    NameCallResult {
+        answer: names::lookup(entries, count, &name.bytes[..name.length]),
+        bytes: [0u8; LONGEST_NAME],
+        count,
+    }
+}
+
+// The name of a number.
+pub(crate) fn name_of(entries: &[u8], count: usize, number: u32) -> NameCallResult
+    ensures { RunsNameCall (name_of number) entries.now count result entries.now }
+{
+    let told = names::name(entries, count, number);
+    let bytes = told.bytes;
+    NameCallResult {
+        answer: told.answer,
+        bytes,
         count,
     }
 }

@@ -20,7 +20,12 @@ pub(crate) fn call_reading(
         (controller_memory nodes.new slots.new result.arena entries.new result.names) }
 {
     let typed = spell_text(operands);
-    let bytes = typed.bytes;
-    let length = typed.length;
-    text::read(&bytes[..length], nodes, slots, arena, entries, names)
+    text::read(
+        &typed.bytes[..typed.length],
+        nodes,
+        slots,
+        arena,
+        entries,
+        names,
+    )
 }

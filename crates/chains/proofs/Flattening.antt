@@ -15,10 +15,9 @@ use Rattle.definitions.proofs.Intern.{lower_up}
 use Rattle.store.specs.View.{nodes_in}
 use Rattle.store.proofs.Viewing.{plain_length}
 use Rattle.chains.specs.Terms.{children_in, Readable, Pushes, HasTerm, PutsTerm, Closes, Flattens}
-use Rattle.chains.specs.declared.chain.Waiting.{Waiting}
-use Rattle.chains.specs.declared.chain.Waiting.TheVariants.{Before, Nowhere}
-use Rattle.chains.specs.declared.chain.Flattened.{Flattened}
-use Rattle.chains.specs.declared.chain.Flattened.TheVariants.{TooMany}
+use Rattle.std.specs.Prelude.{Option, None, Some, Ok, Err}
+use Rattle.chains.specs.declared.chain.Terms.{Terms}
+use Rattle.refusal.specs.declared.Refusal.TheVariants.{TooManyTerms}
 use Rattle.chains.proofs.Below.{lower_append, lower_parts}
 use Rattle.chains.proofs.Chains.{chains, chains_append, chain_add, chain_term, chains_filled}
 use Rattle.chains.proofs.Weights.{weights, weights_append, weight_some, children_lighter}
@@ -166,8 +165,8 @@ module _ (words : List ℕ) (count root : ℕ) (keep : ℕ → Bool) (r : Readab
 
     module _ (other : (at (nodes_in words count) id).kind ≡ add_kind → ⊥) (back' : ℕ) (counts : Counts answer back back') where
       -- the only one left
-      pub ends_flat : top ≡ front → (answer : Flattened) (array' : List ℕ) → Closes (found + 1) front back' after answer array'
-          → Flattens (chain (nodes_in words count) root) keep answer array'
+      pub ends_flat : top ≡ front → (answer : Terms) (array' : List ℕ) → Closes (found + 1) front back' after answer array'
+          → Flattens (chain (nodes_in words count) root) keep (Ok answer) array'
       ends_flat e answer' array' c =
           let none : chains ns rest ≡ [] = ap (chains ns) (none_left e) in
           let all : take front after ++ drop (most_terms - back') after ≡ filter keep (chain ns root) =
@@ -210,8 +209,8 @@ module _ (words : List ℕ) (count root : ℕ) (keep : ℕ → Bool) (r : Readab
     lighter = omega (arith, children_lighter id children ((layered words count r).low id known) (few_children words count r id id_below))
 
     -- ---- two children
-    pub exceeds_two : length (children_in words count id) ≡ 2 → most_terms - 1 - found + front ≤ top → Flattens (chain (nodes_in words count) root) keep TooMany array
-    exceeds_two two h = record { holds = omega (arith, at_least, f.room, f.ordered); long = f.long }
+    pub exceeds_two : length (children_in words count id) ≡ 2 → most_terms - 1 - found + front ≤ top → Flattens (chain (nodes_in words count) root) keep (Err TooManyTerms) array
+    exceeds_two two h = record { holds = (refl, omega (arith, at_least, f.room, f.ordered)); long = f.long }
 
     both_are : length children ≡ 2 → (first : ℕ) → first ≡ get_or children 0 0 → (last : ℕ) → last ≡ get_or children 1 0 → children ≡ first ∷ last ∷ []
     both_are two first opens_with last closes_with = two_are children two ∙ ap₂ (λ (x y : ℕ). x ∷ y ∷ []) (sym opens_with) (sym closes_with)
@@ -301,15 +300,15 @@ module _ (words : List ℕ) (count root : ℕ) (keep : ℕ → Bool) (r : Readab
     abbrev free : ℕ
     free = most_terms - 1 - found + front
 
-    module _ (waiting : Waiting) (array' : List ℕ) (pushes : Pushes (children_in words count id) top (most_terms - 1 - found + front) array waiting array') where
-      pub exceeds : waiting ≡ Nowhere → Flattens (chain (nodes_in words count) root) keep TooMany array'
+    module _ (waiting : Option ℕ) (array' : List ℕ) (pushes : Pushes (children_in words count id) top (most_terms - 1 - found + front) array waiting array') where
+      pub exceeds : waiting ≡ None → Flattens (chain (nodes_in words count) root) keep (Err TooManyTerms) array'
       exceeds e =
-          let p = subst (λ (x : Waiting). Pushes children top free array x array') e pushes in
-          record { holds = omega (arith, p.0, f.room, f.ordered, at_least); long = p.1 }
+          let p = subst (λ (x : Option ℕ). Pushes children top free array x array') e pushes in
+          record { holds = (refl, omega (arith, p.0, f.room, f.ordered, at_least)); long = p.1 }
 
-      module _ (to : ℕ) (is : waiting ≡ Before to) where
-        pushed : Pushes children top free array (Before to) array'
-        pushed = subst (λ (x : Waiting). Pushes children top free array x array') is pushes
+      module _ (to : ℕ) (is : waiting ≡ Some to) where
+        pushed : Pushes children top free array (Some to) array'
+        pushed = subst (λ (x : Option ℕ). Pushes children top free array x array') is pushes
 
         abbrev between : ℕ
         between = found + 1 - front - back

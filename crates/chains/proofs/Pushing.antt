@@ -8,7 +8,7 @@ use native.Mathlib.Omega.{arith}
 use native.Mathlib.Numerals.{add-one}
 use Rattle.definitions.specs.Limits.{most_terms}
 use Rattle.chains.specs.Terms.{Pushes}
-use Rattle.chains.specs.declared.chain.Waiting.TheVariants.{Before, Nowhere}
+use Rattle.std.specs.Prelude.{None, Some}
 
 -- between turns, the children before place j have been put
 pub record Pushing (children : List ℕ) (top free : ℕ) (before array : List ℕ) (to j : ℕ) : Type 0 where
@@ -31,10 +31,10 @@ module _ (children : List ℕ) (top free : ℕ) (before : List ℕ) (ends : free
   }
 
   module _ (array : List ℕ) (to j : ℕ) (p : Pushing children top free before array to j) where
-    pub nowhere : j + 1 < length children → free ≤ to → Pushes children top free before Nowhere array
+    pub nowhere : j + 1 < length children → free ≤ to → Pushes children top free before None array
     nowhere h k = (omega (arith, p.places), p.long)
 
-    pub somewhere : length children ≤ j + 1 → Pushes children top free before (Before to) array
+    pub somewhere : length children ≤ j + 1 → Pushes children top free before (Some to) array
     somewhere h =
         let one : j ≡ length children - 1 = omega (arith, p.many) in
         (p.room, omega (arith, p.places, p.many), p.front ∙ ap (λ (k : ℕ). take top before ++ take k children) one, p.back, p.long)
@@ -60,7 +60,7 @@ module _ (children : List ℕ) (top free : ℕ) (before : List ℕ) (ends : free
         long = length-set array to child ∙ p.long;
       }
 
-  pub first : length children ≡ 2 → top < free → length before ≡ most_terms → (child : ℕ) → child ≡ get_or children 0 0 → Pushes children top free before (Before (top + 1)) (set before top child)
+  pub first : length children ≡ 2 → top < free → length before ≡ most_terms → (child : ℕ) → child ≡ get_or children 0 0 → Pushes children top free before (Some (top + 1)) (set before top child)
   first two fits long child e =
       let start = begins (omega arith) (omega arith) long in
       somewhere _ _ _ (goes_on _ _ _ start (omega arith) fits child e) (omega arith)

@@ -1,4 +1,4 @@
-// The terms of an additive chain that a threshold keeps. 01: "the chain is flattened left to right through Adds".
+// The terms of an additive chain that a threshold keeps. The chain is flattened left to right through Adds.
 ghost use Rattle.std.specs.Prelude.{◌≡◌, true, ◌+◌, ◌<◌, ◌≤◌, length};
 ghost use Rattle.std.specs.Float.{binary64};
 ghost use Rattle.std.specs.Float.Ieee.{of_bits};
@@ -10,32 +10,24 @@ ghost use Rattle.store.specs.Lookup.{Lookup};
 ghost use Rattle.chains.specs.Terms.{children_in, Readable, Pushes, HasTerm, PutsTerm, Closes, Flattens};
 
 use kinds::ADD;
+use refusal::Refusal;
 
-// 01: "over 4,096 terms" is refused.
+/// A chain of more terms than this is refused.
 pub const MOST_TERMS: usize = 4096;
 
-// Where the ids that wait to be flattened stand: in the first places of the array, in order.
-#[derive(Clone, Copy)]
-pub enum Waiting {
-    // Before this place.
-    Before(usize),
-    // There is no place for them.
-    Nowhere,
+/// The terms of a chain: how many there are, and where those that are kept stand in the lent array, in order.
+#[derive(Clone, Copy, Debug, PartialEq, Eq)]
+pub struct Terms {
+    /// The place of the first term that is kept.
+    pub from: usize,
+    /// How many terms there are, kept or not.
+    pub found: usize,
+    /// How many terms are kept.
+    pub kept: usize,
 }
 
-#[derive(Clone, Copy)]
-pub enum Flattened {
-    // So many terms were found, of which so many are kept: these stand from a place on.
-    Terms {
-        from: usize,
-        found: usize,
-        kept: usize,
-    },
-    // Over 4,096 terms.
-    TooMany,
-}
-
-// The first of a node's two children, put after the ids that wait before `top`. The places from `free` on stay.
+// The first of a node's two children, put after the ids that wait before `top`: the place before which they wait then, or `None` where
+// there is no place for it. The places from `free` on stay.
 fn push_first(
     nodes: &[u64],
     count: u64,
@@ -43,19 +35,20 @@ fn push_first(
     terms: &mut [u32; MOST_TERMS],
     top: usize,
     free: usize,
-) -> Waiting
+) -> Option<usize>
     requires { Lookup nodes.now count id × (length (children_in nodes.now count id) ≡ 2) × (top ≤ free) × (free ≤ most_terms) ×
         (length terms.old ≡ most_terms) }
     ensures { Pushes (children_in nodes.now count id) top free terms.old result terms.new }
 {
     if free <= top {
-        return Waiting::Nowhere;
+        return None;
     }
     terms[top] = store::child(nodes, count, id, 0) as u32;
-    Waiting::Before(top + 1)
+    Some(top + 1)
 }
 
-// The children of a node before its last, put after the ids that wait before `top`. The places from `free` on stay.
+// The children of a node before its last, put after the ids that wait before `top`: the place before which they wait then, or `None`
+// where there are too few places for them. The places from `free` on stay.
 // Most Adds have two children. They go without the loop, since its preparation costs more than they do.
 fn push_siblings(
     nodes: &[u64],
@@ -64,7 +57,7 @@ fn push_siblings(
     terms: &mut [u32; MOST_TERMS],
     top: usize,
     free: usize,
-) -> Waiting
+) -> Option<usize>
     requires { Lookup nodes.now count id × (0 < length (children_in nodes.now count id)) × (top ≤ free) × (free ≤ most_terms) ×
         (length terms.old ≡ most_terms) }
     ensures { Pushes (children_in nodes.now count id) top free terms.old result terms.new }
@@ -74,16 +67,14 @@ fn push_siblings(
         return push_first(nodes, count, id, terms, top, free);
     }
     let mut to = top;
-    let mut place: usize = 0;
-    while place < last {
+    for place in 0..last {
         if free <= to {
-            return Waiting::Nowhere;
+            return None;
         }
         terms[to] = store::child(nodes, count, id, place) as u32;
-        place += 1;
         to += 1;
     }
-    Waiting::Before(to)
+    Some(to)
 }
 
 // Whether an Add has two children of which the one at a place is a term.
@@ -116,40 +107,38 @@ fn put_term(
 }
 
 // The terms kept in the first places and in the last ones, side by side. Where there are none in the first places nothing is moved.
-fn close_up(terms: &mut [u32; MOST_TERMS], found: usize, front: usize, back: usize) -> Flattened
+fn close_up(terms: &mut [u32; MOST_TERMS], found: usize, front: usize, back: usize) -> Terms
     requires { (front + back ≤ most_terms) × (length terms.old ≡ most_terms) }
     ensures { Closes found front back terms.old result terms.new }
 {
     let from = MOST_TERMS - back;
     if front == 0 {
-        return Flattened::Terms {
+        return Terms {
             from,
             found,
             kept: back,
         };
     }
-    let mut i: usize = 0;
-    while i < back {
-        terms[front + i] = terms[from + i];
-        i += 1;
-    }
-    Flattened::Terms {
+    terms.copy_within(from.., front);
+    Terms {
         from: 0,
         found,
         kept: front + back,
     }
 }
 
-// The terms under an id that a threshold keeps, taken from both ends: in the first places those before the ids that wait, then
-// these, before `top`, and in the last places those after them. Each that waits and `id` give a term at least, so that there
-// are too many terms exactly if those found, kept or not, leave no place.
+/// The terms under an id that a threshold keeps: the chain is read left to right through Adds. Over 4,096 terms are
+/// refused as `TooManyTerms`, whether they are kept or not.
+// They are taken from both ends: in the first places stand those before the ids that wait, then these, before `top`, and in the last
+// places those after them. Each that waits and `id` give a term at least, so that there are too many terms exactly if those found, kept
+// or not, leave no place.
 pub fn flatten(
     nodes: &[u64],
     count: u64,
     root: u64,
     threshold: u64,
     terms: &mut [u32; MOST_TERMS],
-) -> Flattened
+) -> Result<Terms, Refusal>
     requires { (root < count) × Readable nodes.now count × (length terms.old ≡ most_terms) }
     ensures { Flattens (chain (nodes_in nodes.now count) root)
         (Prune.keeps (nodes_in nodes.now count) (of_bits binary64 threshold)) result terms.new }
@@ -170,13 +159,13 @@ pub fn flatten(
             }
             found += 1;
             if top == front {
-                return close_up(terms, found, front, back);
+                return Ok(close_up(terms, found, front, back));
             }
             top -= 1;
             id = terms[top] as u64;
         } else if has_term(nodes, count, id, 1) {
             if MOST_TERMS - 1 - found + front <= top {
-                return Flattened::TooMany;
+                return Err(Refusal::TooManyTerms);
             }
             let below = id - store::child(nodes, count, id, 0);
             if below != left_step {
@@ -191,7 +180,7 @@ pub fn flatten(
             id = id - left_step;
         } else if top == front && has_term(nodes, count, id, 0) {
             if MOST_TERMS <= found + 1 {
-                return Flattened::TooMany;
+                return Err(Refusal::TooManyTerms);
             }
             let below = id - store::child(nodes, count, id, 1);
             if below != right_step {
@@ -206,14 +195,13 @@ pub fn flatten(
             top = front;
             id = id - right_step;
         } else {
-            match push_siblings(nodes, count, id, terms, top, MOST_TERMS - 1 - found + front) {
-                Waiting::Nowhere => return Flattened::TooMany,
-                Waiting::Before(to) => {
-                    top = to;
-                    let last = store::arity(nodes, count, id) as usize - 1;
-                    id = store::child(nodes, count, id, last);
-                }
-            }
+            let free = MOST_TERMS - 1 - found + front;
+            let Some(to) = push_siblings(nodes, count, id, terms, top, free) else {
+                return Err(Refusal::TooManyTerms);
+            };
+            top = to;
+            let last = store::arity(nodes, count, id) as usize - 1;
+            id = store::child(nodes, count, id, last);
         }
     }
 }

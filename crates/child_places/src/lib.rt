@@ -10,25 +10,17 @@ ghost use Rattle.child_places.specs.Places.{AllBelow, AllZero, LowerChildren};
 fn all_below(children: &[u64], id: u64) -> bool
     ensures { Says result (AllBelow id children.now) }
 {
-    let mut j: usize = 0;
-    while j < children.len() {
-        if id <= children[j] {
-            return false;
-        }
-        j += 1;
-    }
-    true
+    children.iter().all(|child| *child < id)
 }
 
-// Whether all of these words are 0, without a branch for each.
+// Whether all of these words are 0. They are gathered by or, since `all` has a branch for each, and an audit looks at up to 16 for
+// each node.
 fn all_zero(words: &[u64]) -> bool
     ensures { Says result (AllZero words.now) }
 {
-    let mut any: u64 = 0;
-    let mut j: usize = 0;
-    while j < words.len() {
-        any = any | words[j];
-        j += 1;
+    let mut any = 0;
+    for word in words {
+        any = any | *word;
     }
     any == 0
 }
@@ -51,7 +43,7 @@ fn unused_zero(places: &[u64], used: usize) -> bool
     all_zero(&places[used..])
 }
 
-// Whether the children are lower than the id and the unused places 0.
+/// Whether the children are lower than the id and the unused places 0, in the 16 child places of a node.
 pub fn lower_children(places: &[u64], arity: u64, id: u64) -> bool
     requires { (length places.now ≡ most_children) × (arity ≤ most_children) }
     ensures { Says result (LowerChildren id arity places.now) }

@@ -37,8 +37,8 @@ const LIMBS_OF_ROOT: u64 = 20;
 // as m · 2^(field - 1076), m odd, that is whether m^200 · 10^(800-3n) is at least 2^(200 · (1076 - field)), which is whether it
 // has more limbs of ten bits than 20 · (1076 - field).
 fn middle_reaches(n: u64, pattern: u64) -> bool
-    requires first_pruning_setting_le_n { (first_pruning_setting ≤ n) × (n ≤ last_setting) }
-    requires lowest_le_pattern { (lowest ≤ pattern) × (pattern < highest) }
+    requires prunes { (first_pruning_setting ≤ n) × (n ≤ last_setting) }
+    requires in_range { (lowest ≤ pattern) × (pattern < highest) }
     ensures { Compared n pattern result }
 {
     let tens = OFFSET - SLOPE * n;
@@ -52,7 +52,7 @@ fn middle_reaches(n: u64, pattern: u64) -> bool
     LIMBS_OF_ROOT * (MIDDLE_EXPONENT - field) < used as u64
 }
 
-// The pattern of the number nearest 10^((3n-800)/200): the least whose middle with the next reaches it.
+/// The pattern of the number nearest 10^((3n-800)/200): the least whose middle with the next reaches it.
 pub fn nearest_pattern(n: u64) -> u64
     requires { (first_pruning_setting ≤ n) × (n ≤ last_setting) }
     ensures { Nearest half_hundredths n result × (result ≡ threshold n) }

@@ -12,17 +12,15 @@ fn scale(limbs: &mut [u64; LIMBS], used: usize, factor: u64) -> u64
     ensures { Scaled limbs.old used factor result limbs.new }
 {
     let mut over: u64 = 0;
-    let mut i: usize = 0;
-    while i < used {
+    for i in 0..used {
         let sum = limbs[i] * factor + over;
         limbs[i] = sum % BASE;
         over = sum / BASE;
-        i += 1;
     }
     over
 }
 
-// What is left over put into the limbs above; the count of limbs then.
+// What is left over put into the limbs above; the count of limbs then. The loop ends when nothing is left, so it is no `for`.
 fn append(limbs: &mut [u64; LIMBS], used: usize, left: u64) -> usize
     requires { Appends limbs.old used left }
     ensures { Appended limbs.old used left result limbs.new }
@@ -57,10 +55,8 @@ pub(crate) fn multiply_by_power(
     ensures { Multiplied limbs.old used (factor ^ times) result limbs.new }
 {
     let mut count = used;
-    let mut done: u64 = 0;
-    while done < times {
+    for _ in 0..times {
         count = multiply(limbs, count, factor);
-        done += 1;
     }
     count
 }

@@ -4,8 +4,7 @@ use mathlib.Core.Path.{◌≡◌, refl, subst}
 use mathlib.Core.List.{List}
 use native.Mathlib.Omega.{arith}
 use Rattle.writer.specs.Writing.{Writes, unsound, unknown, textless, too_long, written}
-use Rattle.writer.specs.declared.WriteAnswer.{WriteAnswer}
-use Rattle.writer.specs.declared.WriteAnswer.TheVariants.{Length, Refused}
+use Rattle.writer.specs.Answers.{WriteAnswer, Length, Refused}
 use Rattle.outputs.specs.Calls.{OutputsStay}
 use Rattle.curvalique.specs.Writing.{length_unless_refused}
 use Rattle.text.specs.Memory.{ControllerMemory}

@@ -1,9 +1,8 @@
 -- A fresh store in numbers.
-use Rattle.std.specs.Prelude.{ℕ, zero, suc}
-use Rattle.builder.specs.declared.opening.FreshStore.{FreshStore}
-use Rattle.builder.specs.declared.opening.FreshStore.TheVariants.{Store, Refused}
+use Rattle.std.specs.Prelude.{ℕ, zero, suc, Ok, Err}
+use Rattle.builder.specs.Opens.{FreshStore}
 use Rattle.outputs.specs.Calls.{arena_of}
 
 abbrev pub fresh_unless_refused : ℕ → ℕ → ℕ → FreshStore
-fresh_unless_refused zero count size = Store (arena_of count size)
-fresh_unless_refused (suc number) count size = Refused (suc number)
+fresh_unless_refused zero count size = Ok (arena_of count size)
+fresh_unless_refused (suc number) count size = Err (suc number)

@@ -23,8 +23,14 @@ pub fn curvalique_function(
         size.new) }
     ensures outputs_stay { OutputsStay result (id.old ∷ []) (id.new ∷ []) }
 {
-    let call = Call::Function(number);
-    make(nodes, slots, count, size, call, operands, id)
+    make(
+        nodes,
+        slots,
+        count,
+        size,
+        Call::Function { number, operands },
+        id,
+    )
 }
 
 // Select, over three operands.
@@ -43,8 +49,11 @@ pub fn curvalique_select(
         (lent_memory nodes.new slots.new count.new size.new) }
     ensures outputs_stay { OutputsStay result (id.old ∷ []) (id.new ∷ []) }
 {
-    let call = Call::Control(codes::SELECT);
-    make(nodes, slots, count, size, call, &[a, b, c], id)
+    let call = Call::Control {
+        code: codes::SELECT,
+        operands: &[a, b, c],
+    };
+    make(nodes, slots, count, size, call, id)
 }
 
 // IfElse, over three operands.
@@ -63,8 +72,11 @@ pub fn curvalique_if_else(
         (lent_memory nodes.new slots.new count.new size.new) }
     ensures outputs_stay { OutputsStay result (id.old ∷ []) (id.new ∷ []) }
 {
-    let call = Call::Control(codes::IF_ELSE);
-    make(nodes, slots, count, size, call, &[a, b, c], id)
+    let call = Call::Control {
+        code: codes::IF_ELSE,
+        operands: &[a, b, c],
+    };
+    make(nodes, slots, count, size, call, id)
 }
 
 // ForLoop, over four operands.
@@ -84,8 +96,11 @@ pub fn curvalique_for_loop(
         (lent_memory nodes.new slots.new count.new size.new) }
     ensures outputs_stay { OutputsStay result (id.old ∷ []) (id.new ∷ []) }
 {
-    let call = Call::Control(codes::FOR_LOOP);
-    make(nodes, slots, count, size, call, &[a, b, c, d], id)
+    let call = Call::Control {
+        code: codes::FOR_LOOP,
+        operands: &[a, b, c, d],
+    };
+    make(nodes, slots, count, size, call, id)
 }
 
 // Any control, by its code, over any operands.
@@ -104,6 +119,12 @@ pub fn curvalique_control(
         size.new) }
     ensures outputs_stay { OutputsStay result (id.old ∷ []) (id.new ∷ []) }
 {
-    let call = Call::Control(code);
-    make(nodes, slots, count, size, call, operands, id)
+    make(
+        nodes,
+        slots,
+        count,
+        size,
+        Call::Control { code, operands },
+        id,
+    )
 }

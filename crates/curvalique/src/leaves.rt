@@ -21,7 +21,7 @@ pub fn curvalique_variable(
         (lent_memory nodes.new slots.new count.new size.new) }
     ensures outputs_stay { OutputsStay result (id.old ∷ []) (id.new ∷ []) }
 {
-    make(nodes, slots, count, size, Call::Variable(symbol), &[], id)
+    make(nodes, slots, count, size, Call::Variable(symbol), id)
 }
 
 // A constant, by its binary64 bits.
@@ -38,5 +38,5 @@ pub fn curvalique_constant(
         (lent_memory nodes.new slots.new count.new size.new) }
     ensures outputs_stay { OutputsStay result (id.old ∷ []) (id.new ∷ []) }
 {
-    make(nodes, slots, count, size, Call::Constant(bits), &[], id)
+    make(nodes, slots, count, size, Call::Constant(bits), id)
 }

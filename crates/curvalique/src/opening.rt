@@ -4,7 +4,6 @@ ghost use Rattle.builder.specs.Opens.{Opens};
 ghost use Rattle.outputs.specs.Calls.{OutputsStay};
 ghost use Rattle.curvalique.specs.Opening.{fresh_unless_refused};
 
-use builder::FreshStore;
 use outputs::leaving::{ANSWERED, leave_arena};
 
 // A store without nodes, with the first slots empty.
@@ -13,12 +12,11 @@ pub fn curvalique_fresh(nodes: &[u64], slots: &mut [u32], count: &mut u64, size:
         slots.new }
     ensures outputs_stay { OutputsStay result (count.old ∷ size.old ∷ []) (count.new ∷ size.new ∷ []) }
 {
-    let opened = builder::fresh(nodes, slots);
-    match opened {
-        FreshStore::Store(arena) => {
+    match builder::fresh(nodes, slots) {
+        Ok(arena) => {
             leave_arena(arena, count, size);
             ANSWERED
         }
-        FreshStore::Refused(number) => number,
+        Err(refusal) => refusal.number(),
     }
 }

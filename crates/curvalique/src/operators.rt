@@ -25,8 +25,9 @@ pub fn curvalique_add(
     let call = Call::Operator {
         code: codes::ADD,
         flags: codes::REORDERABLE,
+        operands: &[a, b],
     };
-    make(nodes, slots, count, size, call, &[a, b], id)
+    make(nodes, slots, count, size, call, id)
 }
 
 // The first minus the second.
@@ -47,8 +48,9 @@ pub fn curvalique_sub(
     let call = Call::Operator {
         code: codes::SUB,
         flags: codes::NO_FLAGS,
+        operands: &[a, b],
     };
-    make(nodes, slots, count, size, call, &[a, b], id)
+    make(nodes, slots, count, size, call, id)
 }
 
 // The product of two.
@@ -69,8 +71,9 @@ pub fn curvalique_mul(
     let call = Call::Operator {
         code: codes::MUL,
         flags: codes::REORDERABLE,
+        operands: &[a, b],
     };
-    make(nodes, slots, count, size, call, &[a, b], id)
+    make(nodes, slots, count, size, call, id)
 }
 
 // The first over the second.
@@ -91,8 +94,9 @@ pub fn curvalique_div(
     let call = Call::Operator {
         code: codes::DIV,
         flags: codes::NO_FLAGS,
+        operands: &[a, b],
     };
-    make(nodes, slots, count, size, call, &[a, b], id)
+    make(nodes, slots, count, size, call, id)
 }
 
 // The first to the power of the second.
@@ -113,8 +117,9 @@ pub fn curvalique_pow(
     let call = Call::Operator {
         code: codes::POW,
         flags: codes::NO_FLAGS,
+        operands: &[a, b],
     };
-    make(nodes, slots, count, size, call, &[a, b], id)
+    make(nodes, slots, count, size, call, id)
 }
 
 // The first modulo the second.
@@ -135,8 +140,9 @@ pub fn curvalique_modulo(
     let call = Call::Operator {
         code: codes::MOD,
         flags: codes::NO_FLAGS,
+        operands: &[a, b],
     };
-    make(nodes, slots, count, size, call, &[a, b], id)
+    make(nodes, slots, count, size, call, id)
 }
 
 // The opposite.
@@ -156,8 +162,9 @@ pub fn curvalique_neg(
     let call = Call::Operator {
         code: codes::NEG,
         flags: codes::NO_FLAGS,
+        operands: &[a],
     };
-    make(nodes, slots, count, size, call, &[a], id)
+    make(nodes, slots, count, size, call, id)
 }
 
 // Any operator, by its code, with any flags and operands.
@@ -177,6 +184,10 @@ pub fn curvalique_operator(
         size.new) }
     ensures outputs_stay { OutputsStay result (id.old ∷ []) (id.new ∷ []) }
 {
-    let call = Call::Operator { code, flags };
-    make(nodes, slots, count, size, call, operands, id)
+    let call = Call::Operator {
+        code,
+        flags,
+        operands,
+    };
+    make(nodes, slots, count, size, call, id)
 }

@@ -17,11 +17,10 @@ pub(crate) fn make(
     count: &mut u64,
     size: &mut usize,
     call: Call,
-    operands: &[u32],
     id: &mut u64,
 ) -> u64
-    requires { kind_of (call_of call operands.now) ≡ making }
-    ensures leaves { Leaves (call_of call operands.now)
+    requires { kind_of (call_of call) ≡ making }
+    ensures leaves { Leaves (call_of call.entry)
         (lent_memory nodes.old slots.old count.old size.old)
         (unless_refused result (M.stored id.new))
         (lent_memory nodes.new slots.new count.new size.new) }
@@ -31,7 +30,7 @@ pub(crate) fn make(
         count: *count,
         size: *size,
     };
-    let performed = perform(nodes, slots, arena, call, operands);
+    let performed = perform(nodes, slots, arena, call);
     leave_stored(performed, count, size, id)
 }
 
@@ -46,8 +45,8 @@ pub(crate) fn simplify(
     spent: &mut u64,
     steps: &mut u64,
 ) -> u64
-    requires { kind_of (call_of call []) ≡ walking }
-    ensures leaves { Leaves (call_of call [])
+    requires { kind_of (call_of call) ≡ walking }
+    ensures leaves { Leaves (call_of call.entry)
         (lent_memory nodes.old slots.old count.old size.old)
         (unless_refused result (M.simplified id.new (is_spent spent.new) steps.new))
         (lent_memory nodes.new slots.new count.new size.new) }
@@ -59,7 +58,7 @@ pub(crate) fn simplify(
         count: *count,
         size: *size,
     };
-    let performed = perform(nodes, slots, arena, call, &[]);
+    let performed = perform(nodes, slots, arena, call);
     leave_simplified(performed, count, size, id, spent, steps)
 }
 
@@ -74,8 +73,8 @@ pub(crate) fn prune(
     kept: &mut u64,
     dropped: &mut u64,
 ) -> u64
-    requires { kind_of (call_of call []) ≡ pruning }
-    ensures leaves { Leaves (call_of call [])
+    requires { kind_of (call_of call) ≡ pruning }
+    ensures leaves { Leaves (call_of call.entry)
         (lent_memory nodes.old slots.old count.old size.old)
         (unless_refused result (M.pruned id.new kept.new dropped.new))
         (lent_memory nodes.new slots.new count.new size.new) }
@@ -86,6 +85,6 @@ pub(crate) fn prune(
         count: *count,
         size: *size,
     };
-    let performed = perform(nodes, slots, arena, call, &[]);
+    let performed = perform(nodes, slots, arena, call);
     leave_pruned(performed, count, size, id, kept, dropped)
 }

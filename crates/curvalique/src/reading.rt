@@ -5,7 +5,6 @@ ghost use Rattle.outputs.specs.Calls.{arena_of};
 ghost use Rattle.curvalique.specs.Reading.{ReadsWords};
 
 use arena::{DagArena, DagNode, NODE_WORDS};
-use builder::NodeFound;
 use outputs::leaving::ANSWERED;
 
 // A node as its words.
@@ -28,14 +27,11 @@ pub fn curvalique_node(
 ) -> u64
     ensures { ReadsWords nodes.now slots.now (arena_of count size) id result words.old words.new }
 {
-    let read = builder::node(nodes, slots, DagArena { count, size }, id);
-    let answer = read.answer;
-    match answer {
-        NodeFound::Node => {
-            let node = read.node;
+    match builder::node(nodes, slots, DagArena { count, size }, id) {
+        Ok(node) => {
             *words = words_of(node);
             ANSWERED
         }
-        NodeFound::Refused(number) => number,
+        Err(refusal) => refusal.number(),
     }
 }

@@ -7,7 +7,6 @@ ghost use Rattle.text.specs.Memory.{controller_memory};
 
 use arena::DagArena;
 use outputs::leaving::ANSWERED;
-use writer::WriteAnswer;
 
 // The text of a node, and its length.
 pub fn curvalique_write_text(
@@ -36,10 +35,10 @@ pub fn curvalique_write_text(
         text,
     );
     match answer {
-        WriteAnswer::Length(bytes) => {
+        Ok(bytes) => {
             *length = bytes as u64;
             ANSWERED
         }
-        WriteAnswer::Refused(number) => number,
+        Err(reason) => reason.number(),
     }
 }

@@ -25,23 +25,23 @@ fn rounded_up(pattern: u64) -> u64
     (scaled >> (WHOLE - pattern / LEADING_DIGIT)) + 1
 }
 
-// The threshold of a setting that prunes, in billionths, rounded up.
+/// The threshold of a setting that prunes, in billionths, rounded up.
 pub fn threshold_billionths(setting: u32) -> u64
-    requires first_pruning_setting_le_setting { first_pruning_setting ≤ setting }
-    requires setting_le_last_setting { setting ≤ last_setting }
+    requires prunes { first_pruning_setting ≤ setting }
+    requires is_setting { setting ≤ last_setting }
     ensures { result ≡ billionths (threshold setting) }
 {
     rounded_up(thresholds::threshold(setting))
 }
 
-// The most terms that a sum may have for a prune.
+/// The most terms that a sum may have for a prune.
 pub const MOST_TERMS: u64 = 4_096;
 
-// So many thresholds of a setting that prunes, in billionths: above that many times the threshold (`TogetherRoundedUp`).
+/// So many thresholds of a setting that prunes, in billionths: above that many times the threshold (`TogetherRoundedUp`).
 pub fn together_billionths(setting: u32, count: u64) -> u64
-    requires first_pruning_setting_le_setting { first_pruning_setting ≤ setting }
-    requires setting_le_last_setting { setting ≤ last_setting }
-    requires count_le_most_terms { count ≤ most_terms }
+    requires prunes { first_pruning_setting ≤ setting }
+    requires is_setting { setting ≤ last_setting }
+    requires is_of_a_sum { count ≤ most_terms }
     ensures { result ≡ count * billionths (threshold setting) }
 {
     count * threshold_billionths(setting)

@@ -6,7 +6,7 @@ use mathlib.Core.List.{List}
 use lib.ListN.{length, get_or}
 use lib.Dec.{eqb}
 use native.Mathlib.Omega.{arith}
-use borrow.Author.Tests.{eq-eqb, ne_eqb}
+use borrow.Author.Tests.{eq-eqb}
 use Rattle.definitions.specs.Node.{Node, at}
 use Rattle.store.specs.View.{nodes_in}
 use Rattle.store.specs.Lookup.{Lookup}
@@ -14,9 +14,6 @@ use Rattle.store.proofs.Reading.{child_low}
 
 pub this_kind : {A : Type 0} (n k j : ℕ) (x y : A) → j ≡ n → j ≡ k → x ≡ cond (eqb n k) x y
 this_kind n k j x y e f = rw (eq-eqb n k (sym e ∙ f)) refl
-
-pub other_kind : {A : Type 0} (n k j : ℕ) (x y : A) → j ≡ n → (j ≡ k → ⊥) → y ≡ cond (eqb n k) x y
-other_kind n k j x y e f = rw (ne_eqb n k (λ g. f (e ∙ g))) refl
 
 module _ {w : List ℕ} {count a : ℕ} (h : Lookup w count a) where
   abbrev n : Node

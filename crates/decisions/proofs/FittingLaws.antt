@@ -1,39 +1,33 @@
 -- First that fits.
 use Prim.Native.Nat.{ℕ}
-use mathlib.Core.Path.{◌≡◌, refl, ◌∙◌, subst}
-use mathlib.Core.Bool.{true, false}
+use mathlib.Core.Path.{◌≡◌, refl, subst}
 use mathlib.Core.List.{List}
-use mathlib.Core.Option.{Option, none}
-use native.Mathlib.Omega.{arith}
+use mathlib.Core.Option.{Option, none, some}
+use Rattle.std.specs.Prelude.{Some, None}
+use Rattle.std.specs.Prelude as Std
 use Rattle.definitions.specs.Node.{Node}
 use Rattle.definitions.specs.Intern.{Lent, Built}
 use Rattle.definitions.specs.Patterns.{or_else}
 use Rattle.store.specs.View.{nodes_in}
-use Rattle.decisions.specs.Deciding.{Decides, plain_result, declines}
-use Rattle.decisions.specs.declared.PatternResult.{PatternResult}
-use Rattle.decisions.specs.declared.PatternResult.TheVariants.{Fits, Declined}
+use Rattle.decisions.specs.Deciding.{Decides, plain_result}
+use Rattle.decisions.specs.Carrying.{carried}
+use Rattle.decisions.specs.declared.Replacement.{Replacement}
 
 abbrev pub Plain : Type 0
 Plain = Lent → List Node → Option Built
 
-first_is : (l : Lent) (ns : List Node) (r : PatternResult) (x y : Option Built) → declines r ≡ false → plain_result l ns r ≡ x → plain_result l ns r ≡ or_else x y
-first_is l ns (Fits p) x y d e = subst (λ (o : Option Built). plain_result l ns (Fits p) ≡ or_else o y) e refl
-first_is l ns Declined x y d e = absurd (let z : ◌≡◌ {A = ℕ} 0 1 = cc in omega arith)
+module _ {w : List ℕ} {count : ℕ} {f : Plain} where
+  pub first_fits : (g : Plain) {r : Replacement} → Decides w count f (Some r) → Decides w count (λ l ns. or_else (f l ns) (g l ns)) (Some r)
+  first_fits g {r} e = record { is = λ l. subst (λ (o : Option Built). some (carried r l (nodes_in w count)) ≡ or_else o (g l (nodes_in w count))) (e.is l) refl; low = e.low }
 
-second_is : (l : Lent) (ns : List Node) (r : PatternResult) (x y z : Option Built) → declines r ≡ true → plain_result l ns r ≡ x → z ≡ y → z ≡ or_else x y
-second_is l ns (Fits p) x y z d e f = absurd (let z : ◌≡◌ {A = ℕ} 0 1 = cc in omega arith)
-second_is l ns Declined x y z d e f = subst (λ (o : Option Built). z ≡ or_else o y) e f
+  pub second_fits : {g : Plain} {s : Std.Option Replacement} → Decides w count f None → Decides w count g s → Decides w count (λ l ns. or_else (f l ns) (g l ns)) s
+  second_fits {g} {s} d e = record { is = λ l. subst (λ (o : Option Built). plain_result l (nodes_in w count) s ≡ or_else o (g l (nodes_in w count))) (d.is l) (e.is l); low = e.low }
 
-module _ {w : List ℕ} {count : ℕ} {f : Plain} {r : PatternResult} where
-  pub first_fits : (g : Plain) → declines r ≡ false → Decides w count f r → Decides w count (λ l ns. or_else (f l ns) (g l ns)) r
-  first_fits g d e = record { is = λ l. first_is l (nodes_in w count) r _ _ d (e.is l); low = e.low }
+  -- the first that fits, else the second's
+  pub either_fits : {g : Plain} (r : Std.Option Replacement) {s : Std.Option Replacement} → Decides w count f r → (r ≡ None → Decides w count g s) → ((x : Replacement) → r ≡ Some x → s ≡ Some x)
+      → Decides w count (λ l ns. or_else (f l ns) (g l ns)) s
+  either_fits {g} (Some x) d e i = rw (i x refl) (first_fits g d)
+  either_fits None d e i = second_fits d (e refl)
 
-  pub second_fits : {g : Plain} {s : PatternResult} → declines r ≡ true → Decides w count f r → Decides w count g s → Decides w count (λ l ns. or_else (f l ns) (g l ns)) s
-  second_fits d e i = record { is = λ l. second_is l (nodes_in w count) r _ _ _ d (e.is l) (i.is l); low = i.low }
-
-  -- a pattern that is another's
-  pub decides_as : {g : Plain} → ((l : Lent) (ns : List Node) → f l ns ≡ g l ns) → Decides w count f r → Decides w count g r
-  decides_as e d = record { is = λ l. d.is l ∙ e l (nodes_in w count); low = d.low }
-
-pub nothing : {w : List ℕ} {count : ℕ} {f : Plain} → ((l : Lent) (ns : List Node) → none ≡ f l ns) → Decides w count f Declined
+pub nothing : {w : List ℕ} {count : ℕ} {f : Plain} → ((l : Lent) (ns : List Node) → none ≡ f l ns) → Decides w count f None
 nothing {w} {count} e = record { is = λ l. e l (nodes_in w count); low = tt }

@@ -1,5 +1,5 @@
 -- What a replacement builds.
-use Rattle.std.specs.Prelude.{ℕ, ◌<◌, ◌≡◌, Bool, true, false, List, [], ◌∷◌}
+use Rattle.std.specs.Prelude.{ℕ, ◌<◌, ◌≡◌, true, false, List, [], ◌∷◌}
 use Rattle.std.specs.Float.{binary64}
 use Rattle.std.specs.Float.Ieee.{nan_bits}
 use Rattle.arena.specs.declared.DagArena.{DagArena}
@@ -9,11 +9,14 @@ use Rattle.definitions.specs.Intern.{Lent, then, intern}
 use Rattle.store.specs.View.{nodes_in, lent, Builds, listed}
 use Rattle.store.specs.declared.Built.{Built}
 use Rattle.decisions.specs.declared.Replacement.{Replacement}
-use Rattle.decisions.specs.declared.Replacement.TheVariants.{Id, Constant, ConstantLeft, ConstantRight}
+use Rattle.decisions.specs.declared.Replacement.TheVariants.{Id, Constant, BesideConstant}
+use Rattle.decisions.specs.declared.Side.{Side}
+use Rattle.decisions.specs.declared.Side.TheVariants.{Left, Right}
 
-abbrev pub ordered : Bool → ℕ → ℕ → List ℕ
-ordered true i other = i ∷ other ∷ []
-ordered false i other = other ∷ i ∷ []
+-- a constant's id on its side of the other operand
+abbrev pub ordered : Side → ℕ → ℕ → List ℕ
+ordered Left i other = i ∷ other ∷ []
+ordered Right i other = other ∷ i ∷ []
 
 abbrev pub constant_of : ℕ → Lent → List Node → I.Built
 constant_of b l ns = intern l ns (node constant_kind b 0 [])
@@ -22,15 +25,14 @@ constant_of b l ns = intern l ns (node constant_kind b 0 [])
 abbrev pub operator_of : ℕ → List ℕ → Lent → List Node → I.Built
 operator_of k c l ns = intern l ns (node k 0 3 c)
 
--- a constant, and then an operator over it and another operand, the constant on the left (true) or on the right
-abbrev pub beside_constant : Bool → ℕ → ℕ → ℕ → Lent → List Node → I.Built
-beside_constant left k b other l ns = then (constant_of b l ns) (λ ms i. operator_of k (ordered left i other) l ms)
+-- a constant, and then an operator over it and another operand, the constant on its side
+abbrev pub beside_constant : Side → ℕ → ℕ → ℕ → Lent → List Node → I.Built
+beside_constant side k b other l ns = then (constant_of b l ns) (λ ms i. operator_of k (ordered side i other) l ms)
 
 abbrev pub carried : Replacement → Lent → List Node → I.Built
 carried (Id i) l ns = I.built ns i
 carried (Constant b) l ns = constant_of b l ns
-carried (ConstantLeft k b other) l ns = beside_constant true k b other l ns
-carried (ConstantRight k b other) l ns = beside_constant false k b other l ns
+carried (BesideConstant k b other side) l ns = beside_constant side k b other l ns
 
 -- a store is left as building on its nodes leaves the plain machine
 abbrev pub BuildsBy : (Lent → List Node → I.Built) → List ℕ → List ℕ → DagArena → List ℕ → List ℕ → Built → Type 0
@@ -54,5 +56,4 @@ NumberBits b = nan_bits binary64 b ≡ false
 abbrev pub ReplacementLow : ℕ → Replacement → Type 0
 ReplacementLow count (Id i) = i < count
 ReplacementLow count (Constant b) = NumberBits b
-ReplacementLow count (ConstantLeft k b other) = Operand count k other × NumberBits b
-ReplacementLow count (ConstantRight k b other) = Operand count k other × NumberBits b
+ReplacementLow count (BesideConstant k b other side) = Operand count k other × NumberBits b

@@ -1,6 +1,7 @@
 -- Which pattern a decision is by.
-use Rattle.std.specs.Prelude.{ℕ, ◌≡◌, List}
-use Rattle.std.proofs.Math.Option.{Option, none, some}
+use Rattle.std.specs.Prelude.{ℕ, ◌≡◌, List, Option, Some, None}
+use Rattle.std.proofs.Math.Option as Math
+use Rattle.std.proofs.Math.Option.{none, some}
 use Rattle.definitions.specs.Node.{Node}
 use Rattle.definitions.specs.Intern.{Lent, Built}
 use Rattle.definitions.specs.Walk.{Mode}
@@ -8,12 +9,9 @@ use Rattle.definitions.specs.Firing as F
 use Rattle.definitions.specs.Firing.{apply_as, firing}
 use Rattle.store.specs.View.{nodes_in}
 use Rattle.decisions.specs.Deciding.{Decides}
-use Rattle.decisions.specs.declared.PatternResult.{PatternResult}
-use Rattle.decisions.specs.declared.PatternResult.TheVariants.{Fits, Declined}
+use Rattle.decisions.specs.declared.Replacement.{Replacement}
 use Rattle.decisions.specs.declared.firing.Pattern.{Pattern}
 use Rattle.decisions.specs.declared.firing.Pattern.TheVariants.{AddZero, SubIdentity, MulIdentity, DivIdentity, PowIdentity, NegDouble, ConstantFold, MulCoefMerge, AddCoefMerge}
-use Rattle.decisions.specs.declared.firing.Fired.{Fired}
-use Rattle.decisions.specs.declared.firing.Fired.TheVariants.{Nothing, BuiltIn}
 use Rattle.decisions.specs.declared.firing.Decision.{Decision}
 
 abbrev pub pattern_of : Pattern → F.Pattern
@@ -27,23 +25,24 @@ pattern_of ConstantFold = F.constant_fold
 pattern_of MulCoefMerge = F.mul_coef_merge
 pattern_of AddCoefMerge = F.add_coef_merge
 
-abbrev pub fired_of : Fired → Option F.Pattern
-fired_of Nothing = none
-fired_of (BuiltIn p) = some (pattern_of p)
+abbrev pub fired_of : Option Pattern → Math.Option F.Pattern
+fired_of None = none
+fired_of (Some p) = some (pattern_of p)
 
-abbrev pub nothing_fits : Decision
-nothing_fits = record { result = Declined; fired = Nothing }
+-- what stands in the place, and the pattern that says so
+abbrev pub replacement_of : Option Decision → Option Replacement
+replacement_of None = None
+replacement_of (Some d) = Some d.replacement
 
--- what a pattern says, under its name
-abbrev pub decision_by : PatternResult → Pattern → Decision
-decision_by (Fits r) p = record { result = Fits r; fired = BuiltIn p }
-decision_by Declined p = nothing_fits
+abbrev pub pattern_in : Option Decision → Option Pattern
+pattern_in None = None
+pattern_in (Some d) = Some d.pattern
 
 -- a decision and the pattern that it is by are the plain machine's, whatever is lent
-pub record Chooses (w : List ℕ) (count : ℕ) (plain : Lent → List Node → Option Built) (naming : Lent → List Node → Option F.Pattern) (d : Decision) : Type 0 where
-  pub decides : Decides w count plain d.result
-  pub fired : (l : Lent) → fired_of d.fired ≡ naming l (nodes_in w count)
+pub record Chooses (w : List ℕ) (count : ℕ) (plain : Lent → List Node → Math.Option Built) (naming : Lent → List Node → Math.Option F.Pattern) (d : Option Decision) : Type 0 where
+  pub decides : Decides w count plain (replacement_of d)
+  pub fired : (l : Lent) → fired_of (pattern_in d) ≡ naming l (nodes_in w count)
 
 -- the first pattern of a mode that fits a kind over its children
-abbrev pub Fires : Mode → List ℕ → ℕ → ℕ → List ℕ → Decision → Type 0
+abbrev pub Fires : Mode → List ℕ → ℕ → ℕ → List ℕ → Option Decision → Type 0
 Fires m w count k c d = Chooses w count (λ l ns. apply_as m l ns k c) (λ l ns. firing m l ns k c) d

@@ -1,13 +1,13 @@
-// Which pattern a decision is by: 02 (k) counts "the nine functions of `patterns.rs` from `add_zero` to `add_coef_merge`, in the file's
-// order".
+// Which pattern a decision is by: one of the nine functions of `patterns.rs` from `add_zero` to `add_coef_merge`, in the file's order.
 ghost use Rattle.std.specs.Prelude.{◌≡◌};
 ghost use Rattle.definitions.specs.Firing.{first_function, merge_function};
-ghost use Rattle.decisions.specs.Fired.{pattern_of, nothing_fits, decision_by};
+ghost use Rattle.decisions.specs.Fired.{pattern_of};
 
-use crate::PatternResult;
+use crate::Replacement;
 use kinds::{ADD, DIV, MUL, POW, SUB};
 
-#[derive(Clone, Copy)]
+/// A built-in pattern, by the function of `patterns.rs` that it comes from.
+#[derive(Clone, Copy, Debug, PartialEq, Eq)]
 pub enum Pattern {
     AddZero,
     SubIdentity,
@@ -20,20 +20,14 @@ pub enum Pattern {
     AddCoefMerge,
 }
 
-#[derive(Clone, Copy)]
-pub enum Fired {
-    Nothing,
-    BuiltIn(Pattern),
-}
-
-// What is to stand in an operator's place, and the pattern that says so.
-#[derive(Clone, Copy)]
+/// What is to stand in an operator's place, and the pattern that says so.
+#[derive(Clone, Copy, Debug, PartialEq, Eq)]
 pub struct Decision {
-    pub result: PatternResult,
-    pub fired: Fired,
+    pub replacement: Replacement,
+    pub pattern: Pattern,
 }
 
-// The first function of an operator: its identities, strict ones too.
+/// The first function of an operator: its identities, strict ones too.
 pub fn first_function(kind: u64) -> Pattern
     ensures { pattern_of result ≡ first_function kind }
 {
@@ -47,35 +41,12 @@ pub fn first_function(kind: u64) -> Pattern
     }
 }
 
-// The merge of an operator: only Mul and Add have one.
+/// The merge of an operator: only Mul and Add have one.
 pub fn merge_function(kind: u64) -> Pattern
     ensures { pattern_of result ≡ merge_function kind }
 {
     match kind {
         MUL => Pattern::MulCoefMerge,
         _ => Pattern::AddCoefMerge,
-    }
-}
-
-// No pattern fits.
-pub fn nothing_fits() -> Decision
-    ensures { result ≡ nothing_fits }
-{
-    Decision {
-        result: PatternResult::Declined,
-        fired: Fired::Nothing,
-    }
-}
-
-// What a pattern says, under its name.
-pub fn named(res: PatternResult, pattern: Pattern) -> Decision
-    ensures { result ≡ decision_by res pattern }
-{
-    match res {
-        PatternResult::Fits(replacement) => Decision {
-            result: PatternResult::Fits(replacement),
-            fired: Fired::BuiltIn(pattern),
-        },
-        PatternResult::Declined => nothing_fits(),
     }
 }

@@ -1,49 +1,47 @@
 -- What a call with a node answers and leaves.
-use Rattle.std.specs.Prelude.{ℕ, ◌+◌, ◌*◌, ◌≤◌, ◌<◌, ◌≡◌, cond, ◌||◌, List, length, drop, leb, ltb}
+use Rattle.std.specs.Prelude.{ℕ, ◌+◌, ◌*◌, ◌≤◌, ◌<◌, ◌≡◌, cond, ◌||◌, Result, Ok, Err, List, length, drop, leb, ltb}
 use Rattle.std.proofs.Math.Option.{Option, none, some}
 use Rattle.arena.specs.declared.DagArena.{DagArena}
 use Rattle.arena.specs.declared.node.DagNode.{DagNode}
 use Rattle.arena.specs.Layout.{node_words, most_nodes, arena_of}
 use Rattle.arena.specs.Node.{put, find}
 use Rattle.arena.specs.Nodes.{WellFormed, Nodes}
-use Rattle.dedup.specs.declared.Insertion.{Insertion}
-use Rattle.dedup.specs.declared.Insertion.TheVariants.{Old, New, Refused}
-use Rattle.definitions.specs.Refusals.{no_node_place, no_slot_place}
+use Rattle.refusal.specs.declared.Refusal.{Refusal}
+use Rattle.refusal.specs.declared.Refusal.TheVariants.{NoNodePlace, NoSlotPlace}
 use Rattle.definitions.specs.Intern.{capacity}
 use Rattle.slots.specs.Table.{Table, hash_at}
 
 -- an answer, and the counts of the store after it
 pub record Interned : Type 0 where
-  pub answer : Insertion
+  pub answer : Result ℕ Refusal
   pub arena : DagArena
 
-abbrev pub answered : Insertion → ℕ → ℕ → Interned
+abbrev pub answered : Result ℕ Refusal → ℕ → ℕ → Interned
 answered answer count size = record { answer = answer; arena = arena_of count size }
 
--- to a new node, with so many words and slots lent. 01: "21 no place for a new node (65,536 at most). 22 a new node needs a doubling and
--- the lent slots are too few"
+-- to a new node, with so many words and slots lent: there is no place for it past 65,536 nodes or past the lent words, and no slot where it
+-- needs a doubling and the lent slots are too few
 unfoldable pub new_answer : ℕ → ℕ → ℕ → ℕ → Interned
 new_answer words slots count size =
-    cond (leb most_nodes count || ltb words (count * node_words + node_words)) (answered (Refused no_node_place) count size)
-    (cond (leb (count + 1) (capacity size)) (answered (New count) (count + 1) size)
-    (cond (ltb slots (size * 2)) (answered (Refused no_slot_place) count size)
-    (answered (New count) (count + 1) (size * 2))))
+    cond (leb most_nodes count || ltb words (count * node_words + node_words)) (answered (Err NoNodePlace) count size)
+    (cond (leb (count + 1) (capacity size)) (answered (Ok count) (count + 1) size)
+    (cond (ltb slots (size * 2)) (answered (Err NoSlotPlace) count size)
+    (answered (Ok count) (count + 1) (size * 2))))
 
--- an old node is found before 21 or 22 can apply
+-- an old node is found before anything is refused
 unfoldable pub intern_answer : Option ℕ → ℕ → ℕ → ℕ → ℕ → Interned
-intern_answer (some id) words slots count size = answered (Old id) count size
+intern_answer (some id) words slots count size = answered (Ok id) count size
 intern_answer none words slots count size = new_answer words slots count size
 
--- the words after an answer: those of a new node, put at its id
-unfoldable pub words_after : Insertion → List ℕ → DagNode → List ℕ
-words_after (Old id) words key = words
-words_after (New id) words key = put words id key
-words_after (Refused number) words key = words
+-- the words after an answer, where so many nodes were: those of a new node, put at its id, which no old node has
+unfoldable pub words_after : Result ℕ Refusal → List ℕ → ℕ → DagNode → List ℕ
+words_after (Ok id) words count key = cond (ltb id count) words (put words id key)
+words_after (Err refusal) words count key = words
 
--- the answer, the words after it, and the slots. 01: "Words and slots past the used ones stay."
+-- the answer, the words after it, and the slots. Words and slots past the used ones stay.
 pub record Inserts (words slots : List ℕ) (arena : DagArena) (key : DagNode) (r : Interned) (words' slots' : List ℕ) : Type 0 where
   pub answer : r ≡ intern_answer (find words arena.count key) (length words) (length slots) arena.count arena.size
-  pub words_then : words' ≡ words_after r.answer words key
+  pub words_then : words' ≡ words_after r.answer words arena.count key
   pub slots_past : drop r.arena.size slots' ≡ drop r.arena.size slots
   pub nodes : Nodes words' r.arena.count
   pub table : Table (hash_at words') r.arena.count slots' r.arena.size

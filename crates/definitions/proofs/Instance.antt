@@ -109,7 +109,7 @@ instance_stopped =
     let e : Expr = linked sums false (name (120 ∷ [])) (name (121 ∷ [])) in
     kept_texts.reads_stopped 1 24 (120 ∷ 43 ∷ 121 ∷ []) e refl (subst (Judged (120 ∷ 43 ∷ 121 ∷ [])) second_denotes (judged (120 ∷ 43 ∷ 121 ∷ []))) refl
 
--- The knob (02 a, m): flow + 0.25 simplified; settings 0 and 19 answer it untouched, with 1 kept; 20 and 200 keep both of its terms; 4 comes
+-- The knob: flow + 0.25 simplified; settings 0 and 19 answer it untouched, with 1 kept; 20 and 200 keep both of its terms; 4 comes
 -- before 8, which begins at 201.
 abbrev knob : List ControllerCall
 knob =
@@ -121,7 +121,7 @@ pub instance_knob : controller_answers lent empty_controller knob
 unfolding controller_answers add_float le lt eq of_bits
 instance_knob = refl
 
--- A strict walk (02 i) of (-0.0) + x·1, which is x: the promise's premises on it can be met, and the bits are x's under every evaluation.
+-- A strict walk of (-0.0) + x·1, which is x: the promise's premises on it can be met, and the bits are x's under every evaluation.
 abbrev strictly : List ControllerCall
 strictly =
     building (variable 0) ∷ building (constant 0x3FF0000000000000) ∷ building (constant 0x8000000000000000) ∷ building (mul 0 1) ∷ building (add 2 3)

@@ -1,4 +1,4 @@
--- What 02 (b) says of folding, merging, rebuilding, store calls and sheets.
+-- That no NaN comes into the store, of folding, merging, rebuilding, store calls and sheets.
 use Prim.Native.Nat.{ℕ, suc}
 use native.Mathlib.Omega.{arith}
 use mathlib.Core.Path.{◌≡◌, refl, sym, ap, ◌∙◌, subst}

@@ -101,7 +101,7 @@ sheet_as_calls l s (v ∷ bs) = by_test (eqb v 1 && leb (length (v ∷ bs)) most
     by_test true = records_as_calls most_records l [] s bs
     by_test false = without_calls l [] s (some (bad_sheet, 0)) (by_sheet bad_sheet (omega arith))
 
--- the calls of 01's sheet
+-- the calls of the sheet of the examples
 pub example_calls : sheet_calls (record { nodes = 512; slots = 1024 }) empty sheet_bytes
     ≡ store (variable 7) ∷ store (constant 0) ∷ store (operator 0 3 (0 ∷ 1 ∷ [])) ∷ simplify standard 2 255 100 ∷ []
 unfolding sheet_calls

@@ -1,4 +1,4 @@
--- A strict walk keeps the bits of every evaluation (02 i).
+-- A strict walk keeps the bits of every evaluation.
 use Prim.Native.Nat.{ℕ, ◌<◌}
 use mathlib.Core.Path.{◌≡◌, refl, sym, ap, ◌∙◌, subst}
 use mathlib.Core.Bool.{Bool, true, false, cond, ◌&&◌, not}

@@ -1,4 +1,4 @@
--- A strict walk sets no marks (02 i): it leaves each node as it was, and those that it adds are unmarked.
+-- A strict walk sets no marks: it leaves each node as it was, and those that it adds are unmarked.
 use Prim.Native.Nat.{ℕ, zero, suc}
 use mathlib.Core.Path.{◌≡◌, refl, sym, ap, ◌∙◌, subst}
 use mathlib.Core.Bool.{Bool, true, false, cond}

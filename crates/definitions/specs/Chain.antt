@@ -1,4 +1,4 @@
--- The chain of a formula, and its terms kept and dropped at a threshold (01, "The simplified chain ..."; demand 3).
+-- The chain of a formula, and its terms kept and dropped at a threshold.
 use Rattle.std.specs.Prelude.{ℕ, ◌≡◌, Bool, true, false, not, ◌&&◌, cond, List, [], ◌∷◌, ◌++◌, eqb, Float}
 use Rattle.std.specs.Float.{binary64}
 use Rattle.std.specs.Float.Ieee.{of_bits, lt}

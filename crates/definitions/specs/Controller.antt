@@ -1,6 +1,6 @@
--- The controller's plain machine (02 c): "demand 3's lists and plain machine take in name calls, readings and later calls that change store
--- or lists, with name and rule lists handed on like the store, empty at first, lent places known." It stands over the plain machine of 01
--- and the plain registry of names, and changes neither. A later call is one constructor more, and a later list one field more.
+-- The controller's plain machine: the store's plain machine and the plain registry of names side by side, with name calls and readings
+-- beside the store's calls. Store and names are empty at first and are handed on from call to call; how many places are lent is known. It
+-- stands over both and changes neither. A later call is one constructor more, and a later list one field more.
 use Rattle.std.specs.Prelude.{ℕ, ◌≡◌, Bool, List, [], ◌∷◌}
 pub use Rattle.definitions.specs.Lists.{LentLists, Controller, empty_controller}
 use Rattle.definitions.specs.Walk.{Mode}

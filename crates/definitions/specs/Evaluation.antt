@@ -1,4 +1,4 @@
--- The laboratory's evaluation of a formula (02 i): "The laboratory evaluates in binary64 and wants equal results." A value is a number of
+-- The laboratory's evaluation of a formula: "The laboratory evaluates in binary64 and wants equal results." A value is a number of
 -- lib.Ieee, which has one NaN.
 use Rattle.std.specs.Prelude.{ℕ, cond, List, [], ◌∷◌, map, eqb, Float}
 use Rattle.std.specs.Float.{nan, binary64}

@@ -1,4 +1,4 @@
--- The exact kind of formulas (01, "Exact kind (demand 3)"): no Div or Pow, finite constants, and W * 2 ^ P at most 2 ^ 53 at every node.
+-- The exact kind of formulas: no Div or Pow, finite constants, and W * 2 ^ P at most 2 ^ 53 at every node.
 use Rattle.std.specs.Prelude.{ℕ, ◌+◌, ◌*◌, ◌^◌, ◌≤◌, max, Bool, true, false, ◌||◌, cond, List, [], ◌∷◌, T, eqb, Float}
 use Rattle.std.specs.Float.{nan, inf, fin, binary64}
 use Rattle.std.specs.Float.Ieee.{of_bits, up, down}

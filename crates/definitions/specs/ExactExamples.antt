@@ -1,4 +1,4 @@
--- The exact kind at its limits (01, "Every reachable node has W·2^P at most 2^53"): for each clause a formula of the exact kind, and a
+-- The exact kind at its limits ("Every reachable node has W·2^P at most 2^53"): for each clause a formula of the exact kind, and a
 -- neighbour that is not.
 use Rattle.std.specs.Prelude.{ℕ, ◌+◌, ◌-◌, ◌*◌, ◌^◌, ◌≤◌, ◌≡◌, refl, Bool, true, false, List, [], ◌∷◌, map, T, ℤ, pos, negsuc, Float}
 use Rattle.std.proofs.Math.Decide.{dec_le}

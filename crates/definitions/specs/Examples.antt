@@ -1,4 +1,4 @@
--- 01's list under "Proved examples", settled together, with cases of 02: calls, answers and nodes, each computed.
+-- The request's examples, settled together, with cases of its later parts: calls, answers and nodes, each computed.
 use Rattle.std.specs.Prelude.{ℕ, zero, suc, ◌≡◌, refl, Bool, true, false, List, [], ◌∷◌, ◌++◌, map, take}
 use Rattle.std.specs.Float.{binary64}
 use Rattle.std.specs.Float.Ieee.{of_bits}
@@ -156,7 +156,7 @@ examples =
     -- four kept of one Add: the left half has the lower ids
     ∷ example (variables 4 1 ++ store (operator 0 3 (0 ∷ 1 ∷ 2 ∷ 3 ∷ [])) ∷ prune 4 tenth ∷ plus 0 1 ∷ plus 2 3 ∷ plus 5 6 ∷ [])
     (stored 0 ∷ stored 1 ∷ stored 2 ∷ stored 3 ∷ stored 4 ∷ pruned 7 4 0 ∷ stored 5 ∷ stored 6 ∷ stored 7 ∷ [])
-    -- 02 (n), two kept: (x+0.5)+0.01 at 0.1 leaves x+0.5, and so it does again; at 1.0 both that and the original become x
+    -- pruned again, two kept: (x+0.5)+0.01 at 0.1 leaves x+0.5, and so it does again; at 1.0 both that and the original become x
     ∷ example (x ∷ number half ∷ number hundredth ∷ plus 0 1 ∷ plus 3 2 ∷ prune 4 tenth ∷ prune 3 tenth ∷ prune 3 one ∷ prune 4 one ∷ [])
     (stored 0 ∷ stored 1 ∷ stored 2 ∷ stored 3 ∷ stored 4 ∷ pruned 3 2 1 ∷ pruned 3 2 0 ∷ pruned 0 1 1 ∷ pruned 0 1 2 ∷ [])
     -- "With one term of a chain kept this fails for a constant between t and u": 0.5+0.01 at 0.1 leaves 0.5, which stays at 1.0, where the
@@ -186,7 +186,7 @@ pub listing_nodes : (run lent empty (x ∷ number plus_zero ∷ plus 0 1 ∷ sim
 unfolding run
 listing_nodes = refl
 
--- the sheet of 01 and the bytes that the listing program prints for it
+-- a sheet and the bytes that the listing program prints for it
 abbrev pub sheet_bytes : List ℕ
 sheet_bytes =
     0x01
@@ -246,7 +246,7 @@ pub identity_cases_lem : map (λ (cs : List Call). answers lent empty cs) identi
 unfolding answers
 identity_cases_lem = refl
 
--- 02 (b), "A fold to NaN is now declined and the node is rebuilt plainly": the simplify answers its root, and the next new node has the
+-- "A fold to NaN is now declined and the node is rebuilt plainly": the simplify answers its root, and the next new node has the
 -- next id, so that nothing was interned
 abbrev declined_fold : ℕ → ℕ → ℕ → List Call
 declined_fold code a b = number a ∷ number b ∷ store (operator code 0 (0 ∷ 1 ∷ [])) ∷ simplify 2 255 100 ∷ number five ∷ []

@@ -1,4 +1,4 @@
--- Which pattern fires (02 k): "each built-in rule's firings (the nine functions of `patterns.rs` from `add_zero` to `add_coef_merge`, in the
+-- Which pattern fires: "each built-in rule's firings (the nine functions of `patterns.rs` from `add_zero` to `add_coef_merge`, in the
 -- file's order)".
 use Rattle.std.specs.Prelude.{ℕ, ◌≡◌, refl, cond, List, [], ◌∷◌, eqb}
 use Rattle.std.proofs.Math.Option.{Option, none, some}

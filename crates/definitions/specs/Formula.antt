@@ -1,4 +1,4 @@
--- The formula of an id (01, "Exact kind"): "the tree of nodes under it, marks aside".
+-- The formula of an id: "the tree of nodes under it, marks aside".
 use Rattle.std.specs.Prelude.{ℕ, List, [], ◌∷◌, ◌++◌, get_or}
 use Rattle.definitions.specs.Node.{Node}
 

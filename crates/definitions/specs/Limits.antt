@@ -1,11 +1,11 @@
--- The numbers of documents 01 and 02 that have a meaning, each once.
+-- The limits and sizes that have a meaning, each once.
 use Rattle.std.specs.Prelude.{ℕ}
 
 -- "65,536 at most" (refusal 21)
 abbrev pub most_nodes : ℕ
 most_nodes = 65536
 
--- 02 (g), "Functions may have up to 16 children": a node has so many child places
+-- "Functions may have up to 16 children": a node has so many child places
 abbrev pub most_children : ℕ
 most_children = 16
 

@@ -1,4 +1,4 @@
--- The listing of a sheet's result (01, "sheets and the listing"), as bytes.
+-- The listing of a sheet's result, as bytes.
 use Rattle.std.specs.Prelude.{ℕ, zero, suc, ◌+◌, ◌*◌, ◌/◌, ◌%◌, ◌^◌, Bool, true, false, cond, List, [], ◌∷◌, ◌++◌, length, ltb}
 use Rattle.std.proofs.Math.Option.{Option, none, some}
 use Rattle.definitions.specs.Node.{Node, canonical_flag}

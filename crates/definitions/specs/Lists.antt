@@ -1,4 +1,4 @@
--- What a controller hands on from call to call, and how much is lent for it (02 c).
+-- What a controller hands on from call to call, and how much is lent for it.
 use Rattle.std.specs.Prelude.{ℕ, List, []}
 use Rattle.definitions.specs.Intern.{Lent}
 use Rattle.definitions.specs.Node.{Node}

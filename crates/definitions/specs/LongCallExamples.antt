@@ -1,4 +1,4 @@
--- Cases of longer calls (02 g), each computed: "Functions may have up to 16 children, others as before".
+-- Cases of longer calls, each computed: "Functions may have up to 16 children, others as before".
 use Rattle.std.specs.Prelude.{ℕ, zero, suc, ◌≡◌, refl, false, List, [], ◌∷◌, ◌++◌, map}
 use Rattle.definitions.specs.Walk.{standard}
 use Rattle.definitions.specs.Machine.{variable, constant, add, operator, function, control, Call, store, simplify, Answer, stored, simplified, refused, empty, answers}

@@ -1,4 +1,4 @@
--- The plain machine of 01: a list of nodes, empty at first, fed with calls and their arguments alone, without hashes or slots.
+-- The plain machine: a list of nodes, empty at first, fed with calls and their arguments alone, without hashes or slots.
 use Rattle.std.specs.Prelude.{ℕ, ◌+◌, ◌-◌, Bool, true, false, ◌&&◌, cond, List, [], ◌∷◌, length, leb, ltb, eqb, Float}
 use Rattle.std.specs.Float.{binary64}
 use Rattle.std.specs.Float.Ieee.{of_bits, nan_bits}
@@ -13,7 +13,7 @@ use Rattle.definitions.specs.Settings.{setting}
 
 -- ---- calls
 
--- the builder's calls (01, "builder: the calls"), with any arguments
+-- the builder's calls, with any arguments
 pub data Store : Type 0 where
   variable : ℕ → Store
   constant : ℕ → Store
@@ -31,7 +31,7 @@ pub data Store : Type 0 where
   for_loop : ℕ → ℕ → ℕ → ℕ → Store
   control : ℕ → List ℕ → Store
 
--- simplify: the walk's mode (02 i), id, depth limit, budget. prune: id, threshold bits. prune_by_setting: id, setting.
+-- simplify: the walk's mode, id, depth limit, budget. prune: id, threshold bits. prune_by_setting: id, setting.
 pub data Call : Type 0 where
   store : Store → Call
   simplify : Mode → ℕ → ℕ → ℕ → Call
@@ -89,7 +89,7 @@ abbrev pub stored_as : Built → Outcome
 stored_as (built ns i) = outcome (stored i) ns
 stored_as (stopped ns r) = outcome (refused r) ns
 
--- refusals 5, 10 "right after 5" (02 b), 6, 4, then 21 and 22 from interning
+-- refusals 5, 10 "right after 5", 6, 4, then 21 and 22 from interning
 unfoldable pub store_call : Lent → List Node → Request → Outcome
 unfolding nan_bits child_count_listed intern
 store_call l ns r =
@@ -130,7 +130,7 @@ prune_chain l ns t ts =
     let ks = filter (keeps ns t) ts in
     cond (ltb most_terms (length ts)) (outcome (refused too_many_terms) ns) (pruned_as (length ks) (length ts - length ks) (sum_of_kept l ns ks))
 
--- "A root that is no Add has no chain and is answered itself, 1 kept, 0 dropped." Without a threshold every root is (02 a), with no chain
+-- "A root that is no Add has no chain and is answered itself, 1 kept, 0 dropped." Without a threshold every root is, with no chain
 -- looked at: "23, 21 and 22 do not occur there".
 unfoldable pub prune_at : Lent → List Node → ℕ → Threshold → Outcome
 unfolding chain prune_chain of_bits

@@ -1,4 +1,4 @@
--- The plain registry of names (01, "symbol registry and settings"): a list of names in order of first interning. A name is a list of bytes,
+-- The plain registry of names: a list of names in order of first interning. A name is a list of bytes,
 -- and its number is its place in the list.
 use Rattle.std.specs.Prelude.{ℕ, suc, min, Bool, true, false, ◌&&◌, cond, List, [], ◌∷◌, ◌++◌, length, get_or, leb, ltb, eqb}
 use Rattle.std.proofs.Math.Option.{Option, none, some}

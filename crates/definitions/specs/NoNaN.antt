@@ -1,4 +1,4 @@
--- 02 (b), "No NaN in the store": what is proved of folding, merging, rebuilding, store calls and sheets (proofs NoNaN). That no list of
+-- "No NaN in the store": what is proved of folding, merging, rebuilding, store calls and sheets (proofs NoNaN). That no list of
 -- calls leaves a NaN among the nodes is `numbers` of the promise.
 use Rattle.std.specs.Prelude.{ℕ, suc, ◌≡◌, true, false, List, [], ◌∷◌, length, Float}
 use Rattle.std.proofs.Math.Option.{Option, none, some}

@@ -1,4 +1,4 @@
--- A node, its kinds, and when two nodes are one (01, "dedup and arena: one node, one id").
+-- A node, its kinds, and when two nodes are one: "one node, one id".
 use Rattle.std.specs.Prelude.{ℕ, ◌+◌, Bool, true, false, ◌&&◌, ◌||◌, cond, List, [], ◌∷◌, get_or, leb, ltb, eqb}
 use lib.Ieee.{binary64, nan_bits}
 use Rattle.definitions.specs.Limits.{most_children, most_operands}
@@ -93,7 +93,7 @@ same_children (a ∷ al) (b ∷ bs) = eqb a b && same_children al bs
 abbrev pub same : Node → Node → Bool
 same m n = eqb m.kind n.kind && (eqb m.payload n.payload && (eqb m.flags n.flags && same_children m.children n.children))
 
--- 02 (b), "a constant whose bits are a NaN": of any pattern, quiet or signalling, of either sign. Without the sign's bit a NaN's bits are
+-- "a constant whose bits are a NaN": of any pattern, quiet or signalling, of either sign. Without the sign's bit a NaN's bits are
 -- above the infinity's, 7FF0000000000000 (`nan_bits_above` of the kit's lib.Ieee.Bits).
 abbrev pub nan_constant : ℕ → ℕ → Bool
 nan_constant k p = eqb k constant_kind && nan_bits binary64 p
@@ -108,7 +108,7 @@ operator_children k n = cond (eqb k add_kind || eqb k mul_kind) (leb 1 n && leb 
 abbrev pub control_children : ℕ → ℕ → Bool
 control_children p n = cond (eqb p for_loop_control) (eqb n 4) (eqb n 3)
 
--- whether a node of a kind and payload may have so many children; variables and constants have none, a function none to 16 (02 g)
+-- whether a node of a kind and payload may have so many children; variables and constants have none, a function none to 16
 unfoldable pub child_count_listed : ℕ → ℕ → ℕ → Bool
 child_count_listed k p n =
     cond (leb add_kind k && leb k neg_kind) (operator_children k n)

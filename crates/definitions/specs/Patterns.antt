@@ -1,4 +1,4 @@
--- The patterns, first that fits (01, "patterns"): identities, then folding, then merging, in the order and under the names of patterns.rs.
+-- The patterns, first that fits: identities, then folding, then merging, in the order and under the names of patterns.rs.
 use Rattle.std.specs.Prelude.{ℕ, Bool, true, false, not, ◌&&◌, ◌||◌, cond, List, [], ◌∷◌, eqb, pos, Float}
 use Rattle.std.proofs.Math.Option.{Option, none, some}
 use Rattle.std.specs.Float.{nan, inf, fin, binary64}
@@ -132,7 +132,7 @@ binary64_result k x y =
     (cond (eqb k mul_kind) (some (mul binary64 x y))
     (cond (eqb k div_kind && not (eq y zero64)) (some (div binary64 x y)) none)))
 
--- 02 (b): "A fold to NaN is now declined"
+-- a fold to NaN is declined
 abbrev pub unless_nan : Option Float → Option Float
 unless_nan none = none
 unless_nan (some z) = cond (is_nan z) none (some z)

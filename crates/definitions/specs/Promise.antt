@@ -161,7 +161,7 @@ pub data StopsReading : ℕ → Type 0 where
 -- Of a list of calls from the empty controller: `al` are the answers, and `ss` what stands after each call. Position i of `empty_controller
 -- ∷ ss` is what stands before call i, position i of `ss` what stands after it.
 pub record Promise (l : LentLists) (cs : List ControllerCall) (al : List ControllerAnswer) (ss : List Controller) : Type 0 where
-  -- "Each call's answer or refusal, and the nodes after it, equal those of 01's plain machine, fed with the same calls alone."
+  -- each call's answer or refusal, and the nodes after it, equal those of the plain machine, fed with the same calls alone
   pub plain_answers : al ≡ controller_answers l empty_controller cs
   pub plain_states : ss ≡ controllers l empty_controller cs
   -- "A store call's answer has the formula that the call was given"
@@ -174,7 +174,7 @@ pub record Promise (l : LentLists) (cs : List ControllerCall) (al : List Control
   -- no two ids have one formula
   pub unique : (i id id' : ℕ) (s : Controller) → nth ss i ≡ some s → id < length s.nodes → id' < length s.nodes
       → formula s.nodes id ≡ formula s.nodes id' → id ≡ id'
-  -- 02 (b), "No NaN in the store": no constant of any node is one
+  -- "No NaN in the store": no constant of any node is one
   pub numbers : (i id : ℕ) (s : Controller) → nth ss i ≡ some s → id < length s.nodes
       → nan_constant (at s.nodes id).kind (at s.nodes id).payload ≡ false
   -- an answered simplify at i, strict or not, of a formula of the exact kind, and a later answered prune of its answer at j, at a threshold
@@ -189,7 +189,7 @@ pub record Promise (l : LentLists) (cs : List ControllerCall) (al : List Control
       → (root < length s0.nodes) × (id < length s1.nodes) × (answer < length s3.nodes)
       × Exact (formula s1.nodes id)
       × Balanced (formula s0.nodes root) (formula s1.nodes id) (formula s3.nodes answer) (of_bits binary64 t) kept_count dropped_count
-  -- 02 (a), a prune without a threshold: it answers the id untouched, "1 kept and 0 dropped; 23, 21 and 22 do not occur there"
+  -- a prune without a threshold: it answers the id untouched, "1 kept and 0 dropped; 23, 21 and 22 do not occur there"
   pub untouched_answers : (j id : ℕ) (p : ControllerCall) (s s' : Controller)
       → nth cs j ≡ some p → prunes p ≡ some (id, untouched) → nth (empty_controller ∷ ss) j ≡ some s → nth ss j ≡ some s' → id < length s.nodes
       → (nth al j ≡ some (pruned id 1 0)) × (s' ≡ s)
@@ -202,7 +202,7 @@ pub record Promise (l : LentLists) (cs : List ControllerCall) (al : List Control
       → Exact (formula s0.nodes root)
       → (root < length s0.nodes) × (id < length s1.nodes) × (id < length s3.nodes) × (nth al j ≡ some (pruned id 1 0))
       × ((r : Reading) → value_of r (formula s0.nodes root) ≡ value_of r (formula s3.nodes id))
-  -- 02 (i), an answered strict walk at i, spent or not, of any formula: "For every formula and all binary64 variable values, evaluating
+  -- an answered strict walk at i, spent or not, of any formula: "For every formula and all binary64 variable values, evaluating
   -- before and after gives the same bits, all NaNs counted as one"
   pub same_bits : (i root depth budget id steps : ℕ) (spent : Bool) (s0 s1 : Controller)
       → nth cs i ≡ some (simplifying strict root depth budget) → nth al i ≡ some (simplified id spent steps)

@@ -1,4 +1,4 @@
--- Pruning (01, "simplifier: pruning"): prune_additive_chain with balanced_add.
+-- Pruning: prune_additive_chain with balanced_add.
 use Rattle.std.specs.Prelude.{ℕ, zero, suc, ◌-◌, ◌/◌, Bool, true, false, cond, List, [], ◌∷◌, ◌++◌, map, length, take, drop, eqb, Float}
 use Rattle.std.proofs.Math.Option.{Option, none, some}
 use Rattle.std.specs.Float.{nan, inf, fin}

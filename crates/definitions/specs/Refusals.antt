@@ -1,4 +1,4 @@
--- The numbers of the refusals of documents 01 and 02, by what they say. Those that a text meets stand with the language, 10 among them,
+-- The numbers of the refusals, by what they say. Those that a text meets stand with the language, 10 among them,
 -- which a store call and a sheet meet too.
 use Rattle.std.specs.Prelude.{ℕ}
 pub use Rattle.text_language.specs.Refusals.{bad_text, not_a_number, outside_language, nested_too_deep}
@@ -31,7 +31,7 @@ bad_child_count = 6
 abbrev pub bad_threshold : ℕ
 bad_threshold = 7
 
--- 8: setting, "above 200" (02 m)
+-- 8: a setting above 200
 abbrev pub bad_setting : ℕ
 bad_setting = 8
 
@@ -39,11 +39,11 @@ bad_setting = 8
 abbrev pub bad_name_length : ℕ
 bad_name_length = 9
 
--- 13: a node that has no text, or a symbol without a name of the text's form (02 d)
+-- 13: a node that has no text, or a symbol without a name of the text's form
 abbrev pub no_text : ℕ
 no_text = 13
 
--- 14: text over 8,192 bytes, longer than the lent text buffer, or too deep for reading (02 d)
+-- 14: text over 8,192 bytes, longer than the lent text buffer, or too deep for reading
 abbrev pub text_too_long : ℕ
 text_too_long = 14
 

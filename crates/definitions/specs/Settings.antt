@@ -1,4 +1,4 @@
--- Prune settings. 02 (m): "Settings 0 to 19 prune nothing; the upper end of refusal 8 moves to above 200." What the thresholds of the
+-- Prune settings: 0 to 19 prune nothing, and one above 200 is refused with 8. What the thresholds of the
 -- others are, and that they are the nearest numbers, stands in the crate thresholds.
 use Rattle.std.specs.Prelude.{ℕ, cond, leb, ltb}
 use Rattle.definitions.specs.Refusals.{bad_setting}

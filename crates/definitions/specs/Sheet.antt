@@ -1,4 +1,4 @@
--- Sheets (01, "sheets and the listing"): bytes to answers and nodes.
+-- Sheets: bytes to answers and nodes.
 use Rattle.std.specs.Prelude.{ℕ, zero, suc, ◌+◌, ◌*◌, Bool, true, false, ◌&&◌, ◌||◌, not, cond, List, [], ◌∷◌, ◌++◌, map, length, get_or, take, drop, leb, ltb, eqb}
 use Rattle.std.proofs.Math.Option.{Option, none, some}
 use Rattle.definitions.specs.Limits.{most_sheet_bytes, most_records}
@@ -60,7 +60,7 @@ unfolding operands
 control_body [] = none
 control_body (o ∷ r) = with_operands (λ os. store (control o os)) (operands r)
 
--- 06 operand, depth(1), budget(4); a strict walk's "sheet body is 08, laid out as 06" (02 i)
+-- 06 operand, depth(1), budget(4); a strict walk's "sheet body is 08, laid out as 06"
 abbrev pub simplify_body : Mode → List ℕ → Option Call
 simplify_body m bs = sized 7 bs (simplify m (big_endian (take 2 bs)) (get_or bs 2 0) (big_endian (drop 3 bs)))
 

@@ -1,4 +1,4 @@
--- The strict patterns (02 i): "A strict walk has only these patterns, which name all operands of the node, each firing wherever it fits: x
+-- The strict patterns: "A strict walk has only these patterns, which name all operands of the node, each firing wherever it fits: x
 -- + (-0.0), (-0.0) + x, x - (+0.0), 1·x, x·1, x/1, double Neg, and folding of two constants by +, -, ·, / where not NaN and not by zero."
 use Rattle.std.specs.Prelude.{ℕ, Bool, ◌&&◌, cond, ◌≡◌, refl, List, [], ◌∷◌, eqb}
 use Rattle.std.proofs.Math.Option.{Option, none, some}

@@ -1,4 +1,4 @@
--- Cases of the strict patterns (02 i), each computed: what fires, and what stays though patterns.rs would rewrite it.
+-- Cases of the strict patterns, each computed: what fires, and what stays though patterns.rs would rewrite it.
 use Rattle.std.specs.Prelude.{ℕ, ◌≡◌, refl, false, true, List, [], ◌∷◌, ◌++◌, map, take, drop}
 use Rattle.std.proofs.Math.Option.{some}
 use Rattle.definitions.specs.Walk.{standard, strict}
@@ -116,7 +116,7 @@ pub marks_unheeded :
 unfolding answers
 marks_unheeded = refl
 
--- 01's sheet with a strict walk of its sum x + 0.0, which stays: "its sheet body is 08, laid out as 06"
+-- the sheet of the examples with a strict walk of its sum x + 0.0, which stays: "its sheet body is 08, laid out as 06"
 abbrev strict_sheet : List ℕ
 strict_sheet = take 30 sheet_bytes ++ 8 ∷ drop 31 sheet_bytes
 

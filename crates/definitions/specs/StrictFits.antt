@@ -1,4 +1,4 @@
--- "A strict walk has only these patterns, which name all operands of the node, each firing wherever it fits" (02 i): the patterns as a list
+-- "A strict walk has only these patterns, which name all operands of the node, each firing wherever it fits": the patterns as a list
 -- of cases, and what is proved of `strict_apply` by it (proofs StrictFits).
 use Rattle.std.specs.Prelude.{ℕ, ◌≡◌, true, false, List, [], ◌∷◌, Float}
 use Rattle.std.proofs.Math.Option.{none, some}

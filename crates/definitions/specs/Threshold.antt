@@ -3,7 +3,7 @@ use Rattle.std.specs.Prelude.{ℕ, cond, leb}
 use Rattle.definitions.specs.Limits.{infinity_bits}
 use Rattle.definitions.specs.Refusals.{bad_threshold}
 
--- a threshold's bits; none, so that the root is answered untouched (02 a: "Such a prune has no threshold"); or the refusal of what was
+-- a threshold's bits; none, so that the root is answered untouched ("Such a prune has no threshold"); or the refusal of what was
 -- handed in
 pub data Threshold : Type 0 where
   bits : ℕ → Threshold

@@ -1,4 +1,4 @@
--- The value of a formula (01, "Exact kind"): whole numbers over powers of two.
+-- The value of a formula: whole numbers over powers of two.
 use Rattle.std.specs.Prelude.{ℕ, suc, ◌*◌, ◌^◌, ◌≤◌, ◌≡◌, Bool, true, false, cond, List, [], ◌∷◌, ℤ, pos, negsuc, eqb, Float}
 use Rattle.std.specs.Float.{nan, inf, fin, binary64}
 use Rattle.std.specs.Float.Ieee.{of_bits, up, down}

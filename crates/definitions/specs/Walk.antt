@@ -1,4 +1,4 @@
--- The walk (01, "engine: the walk"): rewrite_iterative with rebuild_or_match, one step a turn of the Rust's loop.
+-- The walk: rewrite_iterative with rebuild_or_match, one step a turn of the Rust's loop.
 use Rattle.std.specs.Prelude.{ℕ, zero, suc, Bool, true, false, ◌&&◌, ◌||◌, cond, List, [], ◌∷◌, length, get_or, take, drop, set, leb, ltb, eqb}
 use Rattle.std.proofs.Math.Option.{Option, none, some}
 use Rattle.definitions.specs.Node.{Node, node, at, same_children, add_kind, mul_kind, both_flags}
@@ -23,12 +23,12 @@ unfoldable pub rebuild_or_match : Lent → List Node → ℕ → List ℕ → Bu
 unfolding try_apply intern
 rebuild_or_match l ns i c = rebuilt l ns i c (try_apply l ns (at ns i).kind c)
 
--- with the strict patterns (02 i)
+-- with the strict patterns
 unfoldable pub rebuild_strictly : Lent → List Node → ℕ → List ℕ → Built
 unfolding strict_apply intern
 rebuild_strictly l ns i c = rebuilt l ns i c (strict_apply l ns (at ns i).kind c)
 
--- ---- how a walk goes: which mark it heeds and sets, and how it rebuilds; "A strict walk sets and heeds no marks" (02 i)
+-- ---- how a walk goes: which mark it heeds and sets, and how it rebuilds; "A strict walk sets and heeds no marks"
 pub data Mode : Type 0 where
   standard : Mode
   strict : Mode

@@ -8,7 +8,7 @@ pub mod refusals;
 ghost use Rattle.std.specs.Prelude.{◌≡◌};
 ghost use Rattle.definitions.specs.Limits.{most_children};
 
-// 02 (g): "Functions may have up to 16 children".
+/// The most children of a node: those of a function.
 pub const MOST_CHILDREN: usize = 16;
 
 pub fn most_children() -> usize

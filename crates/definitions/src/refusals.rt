@@ -1,4 +1,4 @@
-// The numbers of the refusals, each with what 01 or 02 says of it. `specs/Refusals` has the same numbers for the statements; those that a
+// The numbers of the refusals, each with what it says. `specs/Refusals` has the same numbers for the statements; those that a
 // text meets stand in text_language, 10 among them, which a store call and a sheet meet too.
 
 // "sheet empty, over 16,384 bytes, or first byte not 1"

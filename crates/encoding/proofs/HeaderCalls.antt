@@ -1,61 +1,69 @@
 -- A header's call, by its code.
-use Prim.Native.Nat.{ℕ, suc, ◌≤◌, ◌<◌}
+use Prim.Native.Nat.{ℕ}
 use mathlib.Core.Path.{◌≡◌, refl, sym, ap, ◌∙◌, subst}
 use mathlib.Core.Option.{some}
-use mathlib.Core.List.{List}
+use mathlib.Core.List.{List, [], ◌∷◌}
+use lib.ListN.{length, get_or, take}
 use native.Mathlib.Omega.{arith}
 use Rattle.definitions.specs.Machine as M
 use Rattle.definitions.specs.Controller.{asked}
 use Rattle.store_calls.specs.declared.Call.{Call}
 use Rattle.store_calls.specs.Calls.{call_of, SameCall}
 use Rattle.store_calls.proofs.Same.{same_equal, same_request}
+use Rattle.encoding.specs.declared.codes.CallCode.{CallCode}
 use Rattle.encoding.specs.declared.headers.Header.{Header}
-use Rattle.encoding.specs.declared.headers.HeaderOperands.{HeaderOperands}
-use Rattle.encoding.specs.declared.headers.StoreCall.{StoreCall}
-use Rattle.encoding.specs.Encoding.{first_with_operands, first_rewriting, first_naming, call_of_code}
-use Rattle.encoding.specs.Headers.{operands_of, InNumbers, DecodesHeader}
+use Rattle.encoding.specs.Codes.{code_of}
+use Rattle.encoding.specs.Encoding.{call_of_code}
+use Rattle.encoding.specs.Headers.{header_call, DecodesTo}
 
-module _ (h : Header) (k : ℕ) (e : h.code ≡ k) (call : Call) (place : HeaderOperands) (r : StoreCall) (is : r ≡ record { call = call; operands = place }) (few : InNumbers place) where
-  -- the line of a code's table, with a call that is the same
-  decodes : (plain : List ℕ → M.Call) → ((operands : List ℕ) → call_of_code k h.a h.b h.high h.low operands ≡ some (asked (plain operands)))
-      → ((operands : List ℕ) → SameCall (call_of call (operands_of h place operands)) (plain operands)) → DecodesHeader h r
-  decodes plain line same =
-      subst (DecodesHeader h) (sym is)
-      (record {
-        few = few;
-        decodes = λ operands. record {
-          plain = plain operands;
-          is = ap (λ (n : ℕ). call_of_code n h.a h.b h.high h.low operands) e ∙ line operands;
-          same = same operands;
-        };
-      })
+-- ---- the first of a header's four numbers
+module _ (ns : List ℕ) where
+  abbrev pub a : ℕ
+  a = get_or ns 0 0
+
+  abbrev pub b : ℕ
+  b = get_or ns 1 0
+
+  abbrev pub c : ℕ
+  c = get_or ns 2 0
+
+  abbrev pub d : ℕ
+  d = get_or ns 3 0
+
+pub first_one : (ns : List ℕ) → length ns ≡ 4 → take 1 ns ≡ a ns ∷ []
+first_one [] e = absurd (omega arith)
+first_one (x ∷ ns) e = refl
+
+pub first_two : (ns : List ℕ) → length ns ≡ 4 → take 2 ns ≡ a ns ∷ b ns ∷ []
+first_two [] e = absurd (omega arith)
+first_two (x ∷ []) e = absurd (omega arith)
+first_two (x ∷ y ∷ ns) e = refl
+
+pub first_three : (ns : List ℕ) → length ns ≡ 4 → take 3 ns ≡ a ns ∷ b ns ∷ c ns ∷ []
+first_three [] e = absurd (omega arith)
+first_three (x ∷ []) e = absurd (omega arith)
+first_three (x ∷ y ∷ []) e = absurd (omega arith)
+first_three (x ∷ y ∷ z ∷ ns) e = refl
+
+pub all_four : (ns : List ℕ) → length ns ≡ 4 → ns ≡ a ns ∷ b ns ∷ c ns ∷ d ns ∷ []
+all_four [] e = absurd (omega arith)
+all_four (x ∷ []) e = absurd (omega arith)
+all_four (x ∷ y ∷ []) e = absurd (omega arith)
+all_four (x ∷ y ∷ z ∷ []) e = absurd (omega arith)
+all_four (x ∷ y ∷ z ∷ w ∷ []) e = refl
+all_four (x ∷ y ∷ z ∷ w ∷ v ∷ ns) e = absurd (omega arith)
+
+-- ---- a line of the codes' table
+module _ (h : Header) (operands : List ℕ) (code : CallCode) (e : h.code ≡ code) (call : Call) where
+  decodes : (plain : M.Call) → call_of_code (code_of code) (a h.numbers) (b h.numbers) (c h.numbers) (d h.numbers) operands ≡ some (asked plain) → SameCall (call_of call) plain
+      → DecodesTo (header_call h operands) call
+  decodes plain line same = record { plain = plain; is = ap (λ k. call_of_code (code_of k) (a h.numbers) (b h.numbers) (c h.numbers) (d h.numbers) operands) e ∙ line; same = same }
 
   -- a call that is the code's own
-  pub decodes_call : ((operands : List ℕ) → call_of_code k h.a h.b h.high h.low operands ≡ some (asked (call_of call (operands_of h place operands)))) → DecodesHeader h r
-  decodes_call line = decodes (λ operands. call_of call (operands_of h place operands)) line (λ operands. same_equal _ _ refl)
+  pub decodes_call : call_of_code (code_of code) (a h.numbers) (b h.numbers) (c h.numbers) (d h.numbers) operands ≡ some (asked (call_of call)) → DecodesTo (header_call h operands) call
+  decodes_call line = decodes (call_of call) line (same_equal _ _ refl)
 
   -- a store call that wants the same node
-  pub decodes_node : (c d : M.Store) → ((operands : List ℕ) → call_of_code k h.a h.b h.high h.low operands ≡ some (asked (M.store c)))
-      → ((operands : List ℕ) → call_of call (operands_of h place operands) ≡ M.store d) → M.requested d ≡ M.requested c → DecodesHeader h r
-  decodes_node c d line wants same =
-      decodes (λ _. M.store c) line (λ operands. subst (λ (x : M.Call). SameCall x (M.store c)) (sym (wants operands)) (same_request d c same))
-
--- ---- the last code of those below a bound
-
-above : (code k : ℕ) → k ≤ code → (code ≡ k → ⊥) → k < code
-above code k h n = omega arith
-
-zero_least : (n : ℕ) → 0 ≤ n
-zero_least n = omega arith
-
-exactly : (code k : ℕ) → k ≤ code → code < suc k → code ≡ k
-exactly code k h l = omega arith
-
-pub last_small : (code : ℕ) → code < first_with_operands → (code ≡ 0 → ⊥) → (code ≡ 1 → ⊥) → (code ≡ 2 → ⊥) → (code ≡ 3 → ⊥) → (code ≡ 4 → ⊥) → (code ≡ 5 → ⊥) → (code ≡ 6 → ⊥) → (code ≡ 7 → ⊥) → code ≡ 8
-last_small code l n0 n1 n2 n3 n4 n5 n6 n7 =
-    exactly code 8
-    (above code 7 (above code 6 (above code 5 (above code 4 (above code 3 (above code 2 (above code 1 (above code 0 (zero_least code) n0) n1) n2) n3) n4) n5) n6) n7)
-    l
-
-pub last_rewriting : (code : ℕ) → first_rewriting ≤ code → code < first_naming → (code ≡ 15 → ⊥) → (code ≡ 16 → ⊥) → (code ≡ 17 → ⊥) → code ≡ 18
-last_rewriting code h l n15 n16 n17 = exactly code 18 (above code 17 (above code 16 (above code 15 h n15) n16) n17) l
+  pub decodes_node : (plain same : M.Store) → call_of_code (code_of code) (a h.numbers) (b h.numbers) (c h.numbers) (d h.numbers) operands ≡ some (asked (M.store plain))
+      → call_of call ≡ M.store same → M.requested same ≡ M.requested plain → DecodesTo (header_call h operands) call
+  decodes_node plain same line is wants = decodes (M.store plain) line (subst (λ (x : M.Call). SameCall x (M.store plain)) (sym is) (same_request same plain wants))

@@ -1,12 +1,12 @@
 -- Bytes spelled by operands, up to some number of them.
-use Prim.Native.Nat.{ℕ, suc, ◌+◌, ◌≤◌, ◌<◌}
+use Prim.Native.Nat.{ℕ, suc, ◌+◌, ◌≤◌, ◌<◌, min}
 use mathlib.Core.Path.{◌≡◌, sym, ap, ◌∙◌, subst}
-use mathlib.Core.Logic.{◌⊎◌, ⊎_elim}
 use mathlib.Core.List.{List, [], ◌∷◌, ◌++◌}
 use lib.ListN.{length, get_or, take, set, length-set, length-map, get_or-map}
 use lib.Seq.{take_all, take-suc, take-suc-set}
 use native.Mathlib.Numerals.{add-one}
 use native.Mathlib.Omega.{arith}
+use native.Mathlib.Decide.{dec_le}
 use Rattle.encoding.specs.Encoding.{lowest_byte, bytes_of}
 use Rattle.encoding.specs.Spelling.{SpellsUpTo}
 
@@ -34,13 +34,18 @@ spell_more most operands bytes i byte h few there e = record {
         ∙ ap (λ (x : ℕ). take i (bytes_of operands) ++ x ∷ []) (sym (get_or-map lowest_byte operands i 0))
         ∙ sym (take-suc (bytes_of operands) i (lowest_byte 0) (omega (arith, length-map operands lowest_byte)))
 
-pub spelled_whole : (most : ℕ) (operands bytes : List ℕ) (long : ℕ) → SpelledTo most operands bytes long → (most ≤ long) ⊎ (length operands ≤ long) → SpellsUpTo most operands bytes long
-spelled_whole most operands bytes long h end = record { few = h.few; size = h.size; is = h.is ∙ whole }
+pub spelled_whole : (most : ℕ) (operands bytes : List ℕ) (i long : ℕ) → SpelledTo most operands bytes i → i ≤ long → long ≤ i → long ≡ min (length operands) most
+    → SpellsUpTo most operands bytes long
+spelled_whole most operands bytes i long h k l end = record { few = omega arith; size = h.size; is = ap (λ (n : ℕ). take n bytes) e ∙ h.is ∙ ap (λ (n : ℕ). take n (bytes_of operands)) (sym e) ∙ whole }
   where
+    e : long ≡ i
+    e = omega arith
+
     whole : take long (bytes_of operands) ≡ take most (bytes_of operands)
-    whole =
-        let few = h.few in
-        ⊎_elim
-        (λ k. let e : long ≡ most = omega arith in ap (λ (n : ℕ). take n (bytes_of operands)) e)
-        (λ k. take_all long (bytes_of operands) (omega (arith, length-map operands lowest_byte)) ∙ sym (take_all most (bytes_of operands) (omega (arith, length-map operands lowest_byte))))
-        end
+    whole = by (dec_le most (length operands))
+      where
+        by : Dec (most ≤ length operands) → take long (bytes_of operands) ≡ take most (bytes_of operands)
+        by (yes m) = let f : long ≡ most = omega arith in ap (λ (n : ℕ). take n (bytes_of operands)) f
+        by (no m) =
+            take_all long (bytes_of operands) (omega (arith, length-map operands lowest_byte))
+            ∙ sym (take_all most (bytes_of operands) (omega (arith, length-map operands lowest_byte)))

@@ -2,8 +2,6 @@
 use Rattle.std.specs.Prelude.{ℕ, suc, ◌≤◌, ◌≡◌, List, length, take}
 use Rattle.definitions.specs.Names.{longest_name}
 use Rattle.text_language.specs.Reading.{most_bytes}
-use Rattle.encoding.specs.declared.spelling.NameArgument.{NameArgument}
-use Rattle.encoding.specs.declared.spelling.TextBytes.{TextBytes}
 use Rattle.encoding.specs.Encoding.{bytes_of}
 
 -- how many bytes of a name are looked at, and of a text: one more than there are at most
@@ -18,11 +16,3 @@ pub record SpellsUpTo (most : ℕ) (operands bytes : List ℕ) (long : ℕ) : Ty
   pub few : long ≤ most
   pub size : length bytes ≡ most
   pub is : take long bytes ≡ take most (bytes_of operands)
-
--- a name
-abbrev pub IsName : List ℕ → NameArgument → Type 0
-IsName operands r = SpellsUpTo most_name_bytes operands r.bytes r.length
-
--- a text
-abbrev pub IsText : List ℕ → TextBytes → Type 0
-IsText operands r = SpellsUpTo most_text_bytes operands r.bytes r.length

@@ -1,47 +1,40 @@
-// Where the next call of a list stands.
-ghost use Rattle.std.specs.Prelude.{◌≡◌, ◌≤◌, length};
-ghost use Rattle.encoding.specs.Encoding.{known};
+// The first call of a list of words.
+ghost use Rattle.std.specs.Prelude.{};
 ghost use Rattle.encoding.specs.Finding.{FindsCall};
 
-use crate::codes::READ;
+use crate::codes::CallCode;
+use crate::headers::Header;
 
-// Code, a, b, high, low, number of operands.
-pub const HEADER_WORDS: usize = 6;
-
-const LAST_CODE: u32 = READ;
-
+/// A call as it stands in a list of words.
 #[derive(Clone, Copy)]
-pub enum Next {
-    // The place after the call.
-    Call { end: usize },
-    // No whole call with a known code.
-    Stop,
+pub struct NextCall<'a> {
+    pub header: Header,
+    pub operands: &'a [u32],
+    /// The words behind the call.
+    pub rest: &'a [u32],
 }
 
-// Whether a call has this code.
-fn is_known(code: u32) -> bool
-    ensures { result ≡ known code }
+/// The first call of the words; `None` where they begin with no whole call with a known code.
+pub fn next_call(words: &[u32]) -> Option<NextCall>
+    ensures { FindsCall words.now result }
 {
-    code <= LAST_CODE
-}
-
-// Whether a whole call with a known code stands at a place.
-pub fn next_call(calls: &[u32], at: usize) -> Next
-    requires { at ≤ length calls.now }
-    ensures { FindsCall calls.now at result }
-{
-    let left = calls.len() - at;
-    if left < HEADER_WORDS {
-        return Next::Stop;
+    let [code, a, b, high, low, many, behind @ ..] = words else {
+        return None;
+    };
+    let many = *many as usize;
+    if behind.len() < many {
+        return None;
     }
-    let many = calls[at + 5] as usize;
-    if left - HEADER_WORDS < many {
-        return Next::Stop;
-    }
-    if !is_known(calls[at]) {
-        return Next::Stop;
-    }
-    Next::Call {
-        end: at + HEADER_WORDS + many,
-    }
+    let Ok(code) = CallCode::try_from(*code) else {
+        return None;
+    };
+    let (operands, rest) = behind.split_at(many);
+    Some(NextCall {
+        header: Header {
+            code,
+            numbers: [*a, *b, *high, *low],
+        },
+        operands,
+        rest,
+    })
 }

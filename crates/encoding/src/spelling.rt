@@ -1,10 +1,11 @@
 // The name or the text that operands spell: its bytes are the lowest bytes of the operands.
-ghost use Rattle.std.specs.Prelude.{◌≡◌, length};
+ghost use Rattle.std.specs.Prelude.{◌≡◌};
 ghost use Rattle.encoding.specs.Encoding.{lowest_byte};
-ghost use Rattle.encoding.specs.Spelling.{SpellsUpTo, IsName, IsText};
+ghost use Rattle.encoding.specs.Spelling.{most_name_bytes, most_text_bytes, SpellsUpTo};
 
 use text_language::MOST_BYTES;
 
+/// The bytes of the longest name.
 pub const LONGEST_NAME: usize = 32;
 
 // One byte more than a name has, so that a longer one is refused.
@@ -15,17 +16,10 @@ const MOST_TEXT_BYTES: usize = MOST_BYTES + 1;
 
 const BYTE_VALUES: u32 = 256;
 
-// The first bytes of a name.
+/// The first bytes of a name or a text, at most `N`: those before `length` are spelled, and the others are 0.
 #[derive(Clone, Copy)]
-pub struct NameArgument {
-    pub bytes: [u8; MOST_NAME_BYTES],
-    pub length: usize,
-}
-
-// The first bytes of a text.
-#[derive(Drop)]
-pub struct TextBytes {
-    pub bytes: [u8; MOST_TEXT_BYTES],
+pub struct Spelled<const N: usize> {
+    pub bytes: [u8; N],
     pub length: usize,
 }
 
@@ -35,35 +29,28 @@ fn lowest_byte(word: u32) -> u8
     (word % BYTE_VALUES) as u8
 }
 
-// The bytes that operands spell, as many as there is room for, and their number.
-fn spell(operands: &[u32], bytes: &mut [u8]) -> usize
-    ensures { SpellsUpTo (length bytes.old) operands.now bytes.new result }
+// The bytes that operands spell, as many as there is room for.
+fn spell<const N: usize>(operands: &[u32]) -> Spelled<N>
+    ensures { SpellsUpTo N operands.now result.bytes result.length }
 {
-    let mut i: usize = 0;
-    while i < bytes.len() {
-        if operands.len() <= i {
-            return i;
-        }
+    let mut bytes = [0u8; N];
+    let length = operands.len().min(N);
+    for i in 0..length {
         bytes[i] = lowest_byte(operands[i]);
-        i += 1;
     }
-    i
+    Spelled { bytes, length }
 }
 
-// The name that operands spell.
-pub fn spell_name(operands: &[u32]) -> NameArgument
-    ensures { IsName operands.now result }
+/// The name that operands spell.
+pub fn spell_name(operands: &[u32]) -> Spelled<MOST_NAME_BYTES>
+    ensures { SpellsUpTo most_name_bytes operands.now result.bytes result.length }
 {
-    let mut bytes = [0u8; MOST_NAME_BYTES];
-    let length = spell(operands, &mut bytes);
-    NameArgument { bytes, length }
+    spell(operands)
 }
 
-// The text that operands spell.
-pub fn spell_text(operands: &[u32]) -> TextBytes
-    ensures { IsText operands.now result }
+/// The text that operands spell.
+pub fn spell_text(operands: &[u32]) -> Spelled<MOST_TEXT_BYTES>
+    ensures { SpellsUpTo most_text_bytes operands.now result.bytes result.length }
 {
-    let mut bytes = [0u8; MOST_TEXT_BYTES];
-    let length = spell(operands, &mut bytes);
-    TextBytes { bytes, length }
+    spell(operands)
 }

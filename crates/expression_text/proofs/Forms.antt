@@ -1,8 +1,8 @@
 -- The expressions of texts are the proper ones.
-use Prim.Native.Nat.{ℕ, ◌+◌, ◌^◌, ◌<◌}
-use mathlib.Core.Path.{◌≡◌, refl, sym, ap, ap₂, ◌∙◌}
+use Prim.Native.Nat.{ℕ, ◌^◌, ◌<◌}
+use mathlib.Core.Path.{◌≡◌, refl, ap, ap₂}
 use mathlib.Core.Bool.{Bool, true, false, ◌&&◌, not, false≢true}
-use mathlib.Core.List.{List, [], ◌∷◌, ◌++◌}
+use mathlib.Core.List.{List, [], ◌∷◌}
 use lib.ListN.{length}
 use lib.Dec.{leb, ltb}
 use lib.IntN.{pos}
@@ -14,7 +14,7 @@ use borrow.Author.Tests.{leb-true, le-leb, lt-ltb, ltb-true}
 use Rattle.text_language.specs.Grammar.{Expr, constant, variable, negated, linked, raised, is_letter, is_word, is_hex, hex_digit, hexadecimal, whole_bits, Run, Atom, Level, Reads}
 use Rattle.text_language.specs.Program.{Token, number, name, negate, join, Join, join_of, postfix}
 use Rattle.text_language.specs.Program as Program
-use Rattle.text_language.specs.Reading.{nan_token, any_nan}
+use Rattle.text_language.specs.Reading.{any_nan}
 use Rattle.text_language.proofs.Sound.{and_both}
 use Rattle.text_language.proofs.Constants.{any_first, any_parts, any_append, any_both, both_numbers}
 use Rattle.expression_text.specs.Proper.{all_words, is_name, number_bits, Proper}

@@ -1,5 +1,4 @@
--- How a constant is printed (02 d): "Whole constants 0 to 999,999,999 (not -0.0) are printed in fewest digits, others as # and hex in
--- capitals."
+-- How a constant is printed: whole constants 0 to 999,999,999 (not -0.0) in fewest digits, others as # and hex in capitals.
 use Rattle.std.specs.Prelude.{ℕ, zero, suc, ◌+◌, ◌/◌, ◌%◌, ◌≡◌, refl, Bool, true, false, ◌&&◌, cond, List, [], ◌∷◌, leb, eqb}
 use Rattle.std.specs.Float.{binary64}
 use Rattle.std.specs.Float.Ieee.{of_bits, to_unsigned}
@@ -8,7 +7,7 @@ use Rattle.text_language.specs.Grammar.{whole_bits}
 abbrev pub most_whole : ℕ
 most_whole = 999999999
 
--- "A number is 1 to 9 digits, or # and 16 hex digits of binary64 bits" (02 c)
+-- a number is 1 to 9 digits, or # and 16 hex digits of binary64 bits
 abbrev pub most_digits : ℕ
 most_digits = 9
 

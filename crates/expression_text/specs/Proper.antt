@@ -8,13 +8,13 @@ unfoldable pub all_words : List ℕ → Bool
 all_words [] = true
 all_words (c ∷ w) = is_word c && all_words w
 
--- "Names are a letter, then letters or digits, 32 at most." (02 c)
+-- a name is a letter and then letters or digits, 32 at most
 unfoldable pub is_name : List ℕ → Bool
 unfolding all_words
 is_name [] = false
 is_name (c ∷ w) = is_letter c && (all_words w && leb (length w) 31)
 
--- bits of a binary64 number, of which a NaN is none (10 of 02 b and c)
+-- bits of a binary64 number, of which a NaN is none
 unfoldable pub number_bits : ℕ → Bool
 unfolding nan_bits
 number_bits b = ltb b (2 ^ 64) && not (nan_bits binary64 b)

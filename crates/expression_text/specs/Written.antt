@@ -1,4 +1,4 @@
--- The text of an expression (02 d): "without blanks; no text that reads to that node has fewer bracket pairs".
+-- The text of an expression: without blanks, and no text that reads to it has fewer bracket pairs.
 use Rattle.std.specs.Prelude.{ℕ, suc, ◌+◌, max, ◌≡◌, refl, Bool, true, false, cond, List, [], ◌∷◌, ◌++◌, leb, eqb}
 use Rattle.text_language.specs.Grammar.{sums, products, Expr, constant, variable, negated, linked, raised, Level, chain, power, factor, under, sign}
 use Rattle.text_language.specs.Reader.{rank}
@@ -39,7 +39,7 @@ abbrev pub deeper : Bool → ℕ → ℕ
 deeper true d = d
 deeper false d = suc d
 
--- how deep it nests: "brackets, minus factors and powers, counted together", "where a ^ nests what stands after it" (02 c)
+-- how deep it nests: brackets, minus factors and powers, counted together, where a ^ nests what stands after it
 unfoldable pub depth_of : Expr → ℕ
 depth_of (constant b) = 0
 depth_of (variable w) = 0
@@ -58,7 +58,7 @@ count k (c ∷ s) = cond (eqb c k) 1 0 + count k s
 abbrev pub bracket_pairs : List ℕ → ℕ
 bracket_pairs s = count 40 s
 
--- "Blanks (byte 20 hex)" (02 c)
+-- blanks are the byte 20 hex
 abbrev pub blanks : List ℕ → ℕ
 blanks s = count 32 s
 

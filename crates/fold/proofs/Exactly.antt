@@ -3,6 +3,7 @@ use Prim.Native.Nat.{ℕ}
 use mathlib.Core.Path.{◌≡◌, refl, sym, ap, ◌∙◌, subst}
 use mathlib.Core.Bool.{Bool, true, false, not, ◌&&◌, cond}
 use mathlib.Core.Option.{Option, none, some}
+use Rattle.std.specs.Prelude as Std
 use mathlib.Core.List.{[], ◌∷◌}
 use mathlib.Core.Logic.{inl, inr}
 use lib.Dec.{T, eqb}
@@ -18,7 +19,6 @@ use Rattle.definitions.proofs.Floats.{laws}
 use Rattle.definitions.proofs.NoNaN.{folds_to_numbers}
 use Rattle.fold.specs.Fold.{value_of, pattern_of, stored, finite}
 use Rattle.fold.specs.Exactness.{exact_result, Small, Exactly, ExactAnswer, NumberAnswer, Folds}
-use Rattle.fold.specs.declared.Folded.{Folded}
 
 module _ (a b : ℕ) where
   abbrev x : Float
@@ -113,5 +113,5 @@ module _ (a b : ℕ) where
   numbered k (some z) e = let f = folds_to_numbers k x y z e in number_of k z f.1 f.0
 
   -- an answer that is the definition's is a number, and exact where it can be
-  pub folds : (k : ℕ) (r : Folded) → r ≡ stored (fold k x y) → Folds k a b r
+  pub folds : (k : ℕ) (r : Std.Option ℕ) → r ≡ stored (fold k x y) → Folds k a b r
   folds k r e = record { is = e; number = subst NumberAnswer (sym e) (numbered k (fold k x y) refl); exact = λ s. subst (ExactAnswer k a b) (sym e) (exactly k s) }

@@ -1,7 +1,7 @@
 -- Laws on patterns and values that the proofs beside this file cite. Assumes nothing.
 use mathlib.Core.Path.{◌≡◌, refl, sym}
 use mathlib.Core.Bool.{Bool, true, false, not, cond}
-use Prim.Native.Nat.{ℕ, zero, suc, ◌%◌, ◌/◌, ◌+◌, ◌<◌}
+use Prim.Native.Nat.{ℕ, zero, suc, ◌%◌, ◌/◌, ◌+◌}
 use native.Mathlib.Nat.{mod-lt, mod-mod, mod-mod_of_dvd, dvd-mul_right}
 use borrow.Author.Tests.{lt-leb}
 use lib.Dec.{T, leb, eqb, lit<}

@@ -1,5 +1,5 @@
--- Where folding is exact (01, "The shape of some places": "with exact results proved under the W·2^P condition").
-use Rattle.std.specs.Prelude.{ℕ, ◌≡◌, false, cond, [], ◌∷◌, ◌⊎◌, T, eqb}
+-- Where folding is exact: the result is, where the condition W·2^P ≤ 2^53 holds of the two constants and the operator.
+use Rattle.std.specs.Prelude.{ℕ, ◌≡◌, false, cond, [], ◌∷◌, ◌⊎◌, T, eqb, Option, Some, None}
 use Rattle.std.specs.Float.{binary64}
 use Rattle.std.specs.Float.Ieee.{nan_bits}
 use Rattle.definitions.specs.Node.{add_kind, sub_kind, mul_kind}
@@ -8,8 +8,6 @@ use Rattle.definitions.specs.Dyadic.{Dyadic, plus, times, opposite}
 use Rattle.definitions.specs.Value.{number}
 use Rattle.definitions.specs.Exact.{constant_bound, node_bound, Within}
 use Rattle.fold.specs.Fold.{value_of, stored, finite}
-use Rattle.fold.specs.declared.Folded.{Folded}
-use Rattle.fold.specs.declared.Folded.TheVariants.{Bits, Declined}
 
 -- "Add is the sum, Sub the first minus the second, Mul the product"
 abbrev pub exact_result : ℕ → Dyadic → Dyadic → Dyadic
@@ -28,17 +26,17 @@ pub record Exactly (k a b r : ℕ) : Type 0 where
   pub finite : T (finite (value_of r))
   pub within : Within (constant_bound (value_of r))
 
-abbrev pub ExactAnswer : ℕ → ℕ → ℕ → Folded → Type 0
-ExactAnswer k a b (Bits r) = Exactly k a b r
-ExactAnswer k a b Declined = ⊥
+abbrev pub ExactAnswer : ℕ → ℕ → ℕ → Option ℕ → Type 0
+ExactAnswer k a b (Some r) = Exactly k a b r
+ExactAnswer k a b None = ⊥
 
--- 02 (b): what folding answers is never a NaN
-abbrev pub NumberAnswer : Folded → Type 0
-NumberAnswer (Bits r) = nan_bits binary64 r ≡ false
-NumberAnswer Declined = Unit {0}
+-- what folding answers is never a NaN
+abbrev pub NumberAnswer : Option ℕ → Type 0
+NumberAnswer (Some r) = nan_bits binary64 r ≡ false
+NumberAnswer None = Unit {0}
 
 -- the answer of folding two patterns under a kind
-pub record Folds (k a b : ℕ) (r : Folded) : Type 0 where
+pub record Folds (k a b : ℕ) (r : Option ℕ) : Type 0 where
   pub is : r ≡ stored (Patterns.fold k (value_of a) (value_of b))
   pub number : NumberAnswer r
   pub exact : Small k a b → ExactAnswer k a b r

@@ -1,12 +1,10 @@
 -- What folding means on the bit patterns of binary64.
-use Rattle.std.specs.Prelude.{ℕ, Bool, Float}
-use Rattle.std.proofs.Math.Option.{Option, none, some}
+use Rattle.std.specs.Prelude.{ℕ, Bool, Float, Option, Some, None}
+use Rattle.std.proofs.Math.Option as Math
 use Rattle.std.specs.Float.{binary64}
 use Rattle.std.specs.Float.Ieee.{of_bits, to_bits}
 use Rattle.definitions.specs.Patterns as Patterns
 use Rattle.definitions.specs.Prune as Prune
-use Rattle.fold.specs.declared.Folded.{Folded}
-use Rattle.fold.specs.declared.Folded.TheVariants.{Bits, Declined}
 
 -- the value of a pattern: every NaN pattern is the one `nan`
 abbrev pub value_of : ℕ → Float
@@ -17,9 +15,9 @@ abbrev pub pattern_of : Float → ℕ
 pattern_of x = to_bits binary64 x
 
 -- the answer that stands for a result of folding
-abbrev pub stored : Option Float → Folded
-stored none = Declined
-stored (some z) = Bits (pattern_of z)
+abbrev pub stored : Math.Option Float → Option ℕ
+stored Math.none = None
+stored (Math.some z) = Some (pattern_of z)
 
 abbrev pub finite : Float → Bool
 finite = Patterns.finite

@@ -6,18 +6,15 @@
 
 mod threshold;
 
-ghost use Rattle.std.specs.Prelude.{◌≡◌, ◌≤◌, length};
-
 use arena::NODE_WORDS;
-use builder::FreshStore;
 use definitions::refusals::{BAD_SETTING, NO_NAME_PLACE, NO_TEXT, TEXT_TOO_LONG, TOO_MANY_TERMS};
 use std::env::{Env, FillError};
-use std::io::Read;
+use std::str;
 use text_language::{BAD_TEXT, MOST_BYTES, NESTED_TOO_DEEP, NOT_A_NUMBER, OUTSIDE_LANGUAGE};
-use threshold::say_dropped;
-use write_back::{DEPTH, FormulaOutcome, Pruning};
+use threshold::print_dropped;
+use write_back::{DEPTH, Written};
 
-// One byte more than the longest text, and a newline after it.
+// One byte more than the longest text, and a line feed after it.
 const INPUT_BYTES: usize = MOST_BYTES + 2;
 
 // The program's store and name list.
@@ -27,141 +24,92 @@ const SLOTS: usize = 32_768;
 
 const ENTRIES: usize = 4_096 * 33;
 
-// No setting, and a number that a digit more leaves below it.
-const NO_SETTING: u32 = 4_294_967_295;
+// The formulas of which it is proved how far their value may have moved: those of the exact kind.
+const EXACT_KIND: &str =
+    "if the text has no / and no ^ and its numbers keep to the limits of the exact kind (docs/REFERENCE.md), its value has";
 
-const MOST_BEFORE_DIGIT: u32 = 400_000_000;
-
-const NEWLINE: u8 = 10;
-
-fn say(out: &impl Print, text: &[u8]) {
-    let _ = out.write_all(text);
-}
-
-fn say_number(out: &impl Print, n: u64) {
-    let _ = out.print(n);
-}
+// A setting that there is not: a prune by it is refused in its turn, after what is wrong with the text.
+const NO_SUCH_SETTING: u32 = u32::MAX;
 
 // What a refusal's number says.
-fn words_of(out: &impl Print, number: u64) {
+fn words_of(number: u64) -> &'static str {
     match number {
-        BAD_TEXT => say(out, b"there is no text, or it has over 8,192 bytes"),
-        BAD_SETTING => say(out, b"there is no such setting"),
-        NOT_A_NUMBER => say(out, b"a constant is not a number"),
-        OUTSIDE_LANGUAGE => say(
-            out,
-            b"this is not a formula: look for a sign, a name or a bracket that is missing or too much",
-        ),
-        NESTED_TOO_DEEP => say(
-            out,
-            b"brackets, minus signs and powers are nested over 64 deep",
-        ),
-        NO_TEXT => say(out, b"the formula that came out has no text"),
-        TEXT_TOO_LONG => say(
-            out,
-            b"the formula that came out is too long or too deep for a text",
-        ),
-        TOO_MANY_TERMS => say(out, b"the sum has over 4,096 terms"),
-        NO_NAME_PLACE => say(out, b"there are over 4,096 names"),
-        _ => say(out, b"the formula is too large for this program"),
+        BAD_TEXT => "there is no text, or it has over 8,192 bytes",
+        BAD_SETTING => "there is no such setting",
+        NOT_A_NUMBER => "a constant is not a number",
+        OUTSIDE_LANGUAGE => {
+            "this is not a formula: look for a sign, a name or a bracket that is missing or too much"
+        }
+        NESTED_TOO_DEEP => "brackets, minus signs and powers are nested over 64 deep",
+        NO_TEXT => "the formula that came out has no text",
+        TEXT_TOO_LONG => "the formula that came out is too long or too deep for a text",
+        TOO_MANY_TERMS => "the sum has over 4,096 terms",
+        NO_NAME_PLACE => "there are over 4,096 names",
+        _ => "the formula is too large for this program",
     }
 }
 
-fn refuse(out: &impl Print, number: u64) {
-    say(out, b"refused ");
-    say_number(out, number);
-    say(out, b": ");
-    words_of(out, number);
-    say(out, b"\n");
-}
-
-// The first bytes of a list.
-fn say_first(out: &impl Print, bytes: &[u8], count: usize) {
-    if count <= bytes.len() {
-        say(out, &bytes[..count]);
-    }
-}
-
-// The walk's steps, and what may have stayed as it was typed.
-fn say_steps(out: &impl Print, steps: u64, spent: bool, deep: bool) {
-    say(out, b"\nsteps ");
-    say_number(out, steps);
-    if spent {
-        say(out, b", the budget is used up: not simplified");
-    }
-    if deep {
-        say(out, b", ");
-        say_number(out, DEPTH as u64);
-        say(out, b" levels deep: parts of it may have stayed as typed");
-    }
-    say(out, b"\n");
-}
-
-// The formulas of which it is proved how far their value may have moved; 01 calls them the exact kind.
-fn say_if_exact(out: &impl Print) {
-    say(
-        out,
-        b"if the text has no / and no ^ and its numbers keep to the limits of the exact kind (docs/REFERENCE.md), its value has ",
-    );
+// What the output does not take is lost, here and below; the rest is printed all the same.
+fn print_refusal(out: &impl Print, number: u64) {
+    let _ = println!(out; "refused {number}: {}", words_of(number));
 }
 
 // Without a threshold, and where nothing was dropped, the value is what it was.
-fn say_unmoved(out: &impl Print) {
-    say_if_exact(out);
-    say(out, b"not moved\n");
+fn print_unmoved(out: &impl Print) {
+    let _ = println!(out; "{} not moved", EXACT_KIND);
+}
+
+// The walk's steps, and what may have stayed as it was typed.
+fn print_steps(out: &impl Print, written: Written) {
+    let _ = print!(out; "\nsteps {}", written.steps);
+    if written.spent {
+        let _ = print!(out; ", the budget is used up: not simplified");
+    }
+    if written.deep {
+        let _ = print!(out;
+            ", {} levels deep: parts of it may have stayed as typed",
+            DEPTH
+        );
+    }
+    let _ = println!(out);
 }
 
 // The terms kept and dropped, a bound on what was dropped, and how far the value may have moved.
-fn say_pruned(out: &impl Print, setting: u32, kept: u64, dropped: u64) {
-    say(out, b"kept ");
-    say_number(out, kept);
-    say(out, b", dropped ");
-    say_number(out, dropped);
-    say(out, b"\n");
+fn print_pruned(out: &impl Print, setting: u32, kept: u64, dropped: u64) {
+    let _ = println!(out; "kept {kept}, dropped {dropped}");
     if dropped == 0 {
-        say(out, b"no term was dropped\n");
-        say_unmoved(out);
-        return;
+        let _ = println!(out; "no term was dropped");
+        print_unmoved(out);
+    } else {
+        print_dropped(out, setting, dropped);
     }
-    say_dropped(out, setting, dropped);
 }
 
-fn show(out: &impl Print, outcome: FormulaOutcome, pruning: Pruning, text: &[u8]) {
-    match outcome {
-        FormulaOutcome::Written {
-            length,
-            steps,
-            spent,
-            deep,
-            kept,
-            dropped,
-        } => {
-            say_first(out, text, length);
-            say_steps(out, steps, spent, deep);
-            match pruning {
-                Pruning::Skipped => {
-                    say(out, b"not pruned\n");
-                    say_unmoved(out);
-                }
-                Pruning::BySetting(setting) => say_pruned(out, setting, kept, dropped),
-            }
+fn print_written(out: &impl Print, written: Written, setting: Option<u32>, text: &[u8]) {
+    if let Some(formula) = text.get(..written.length) {
+        let _ = out.write_all(formula);
+    }
+    print_steps(out, written);
+    match setting {
+        Some(setting) => print_pruned(out, setting, written.kept, written.dropped),
+        None => {
+            let _ = println!(out; "not pruned");
+            print_unmoved(out);
         }
-        FormulaOutcome::Refused(number) => refuse(out, number),
     }
 }
 
 // A text, on a store and a name list of the program's own.
-fn run(out: &impl Print, typed: &[u8], pruning: Pruning) {
+fn run(out: &impl Print, typed: &[u8], setting: Option<u32>) {
     let mut nodes = [0; WORDS];
     let mut slots = [0; SLOTS];
     let mut entries = [0; ENTRIES];
     let mut text = [0; MOST_BYTES];
-    let fresh = builder::fresh(&nodes, &mut slots);
-    match fresh {
-        FreshStore::Store(arena) => {
+    match builder::fresh(&nodes, &mut slots) {
+        Ok(arena) => {
             let answered = write_back::answer(
                 typed,
-                pruning,
+                setting,
                 &mut nodes,
                 &mut slots,
                 arena,
@@ -169,104 +117,45 @@ fn run(out: &impl Print, typed: &[u8], pruning: Pruning) {
                 0,
                 &mut text,
             );
-            let outcome = answered.outcome;
-            show(out, outcome, pruning, &text);
+            match answered.outcome {
+                Ok(written) => print_written(out, written, setting, &text),
+                Err(number) => print_refusal(out, number),
+            }
         }
-        FreshStore::Refused(number) => refuse(out, number),
+        Err(refusal) => print_refusal(out, refusal.number()),
     }
 }
 
-// The setting that digits say; another word is a setting that there is not.
-fn setting_of(word: &[u8]) -> u32 {
-    if word.len() == 0 {
-        return NO_SETTING;
+// The setting that a word spells, in digits alone: `parse` would take a plus sign too.
+fn setting_of(word: &[u8]) -> Option<u32> {
+    if word.starts_with(b"+") {
+        return None;
     }
-    let mut value: u32 = 0;
-    let mut i: usize = 0;
-    while i < word.len() {
-        let c = word[i];
-        if c < b'0' {
-            return NO_SETTING;
-        }
-        if b'9' < c {
-            return NO_SETTING;
-        }
-        if MOST_BEFORE_DIGIT < value {
-            return NO_SETTING;
-        }
-        value = value * 10 + wide(c - b'0');
-        i += 1;
-    }
-    value
+    str::from_utf8(word).ok()?.parse().ok()
 }
 
-fn wide(byte: u8) -> u32
-    ensures { result ≡ byte }
-{
-    byte as u32
-}
-
-// The program's argument; more than one is a setting that there is not.
-fn pruning_of(rt: &impl Env) -> Pruning {
+// The setting that is the program's argument, if there is one. A word that spells none, and more words than one, are a setting that there is
+// not.
+fn setting_given(rt: &impl Env) -> Option<u32> {
     let mut word = [0; 64];
-    let first = rt.arg(1, &mut word);
-    if let Err(FillError::NotPresent) = first {
-        return Pruning::Skipped;
-    }
-    if has_more(rt) {
-        return Pruning::BySetting(NO_SETTING);
-    }
-    match first {
-        Ok(length) => Pruning::BySetting(setting_of(&word[..length])),
-        Err(_) => Pruning::BySetting(NO_SETTING),
-    }
-}
-
-// Whether there is a second argument.
-fn has_more(rt: &impl Env) -> bool {
+    let setting = match rt.arg(1, &mut word) {
+        Err(FillError::NotPresent) => return None,
+        Ok(length) => setting_of(&word[..length]),
+        Err(_) => None,
+    };
     match rt.arg(2, &mut [0; 1]) {
-        Err(FillError::NotPresent) => false,
-        _ => true,
+        Err(FillError::NotPresent) => Some(setting.unwrap_or(NO_SUCH_SETTING)),
+        _ => Some(NO_SUCH_SETTING),
     }
-}
-
-// The length of what was typed, without the newline at its end.
-fn typed_length(input: &[u8], read: usize) -> usize
-    ensures { result ≤ length input.now }
-{
-    if read == 0 {
-        return 0;
-    }
-    if input.len() < read {
-        return 0;
-    }
-    if input[read - 1] == NEWLINE {
-        return read - 1;
-    }
-    read
-}
-
-// Whether so many bytes are the whole input: a read answers 0 at its end alone.
-fn is_whole<R: Read>(input: &mut R, length: usize) -> bool {
-    if INPUT_BYTES <= length {
-        return true;
-    }
-    let mut next = [0; 1];
-    matches!(input.read(&mut next), Ok(0))
 }
 
 fn main(rt: HostRuntime) {
-    let mut stdin = rt.stdin();
     let mut input = [0; INPUT_BYTES];
-    let read = whole_input::fill(&mut stdin, &mut input);
-    let (length, whole) = match read {
-        Ok(length) => (length, is_whole(&mut stdin, length)),
-        Err(_) => (0, false),
-    };
-    if !whole {
-        let _ = rt.eprint("formula: the text could not be read to its end\n");
+    let Some(length) = whole_input::read_whole(&mut rt.stdin(), &mut input) else {
+        let _ = eprintln!(rt; "formula: the text could not be read to its end");
         return;
-    }
-    let size = typed_length(&input, length);
-    run(&rt, &input[..size], pruning_of(&rt));
+    };
+    let typed = &input[..length];
+    let text = typed.strip_suffix(b"\n").unwrap_or(typed);
+    run(&rt, text, setting_given(&rt));
 }

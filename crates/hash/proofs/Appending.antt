@@ -1,5 +1,6 @@
 -- The hash of one list of bytes after another.
-use Rattle.std.proofs.Common.{◌≡◌, ℕ, ◌+◌, ◌<◌, List, [], ◌∷◌, ◌++◌, length, get_or, take, sym, refl, ap, ◌∙◌, add-one, take-suc}
+use Rattle.std.proofs.Common.{◌≡◌, ℕ, zero, suc, ◌+◌, ◌<◌, ◌≤◌, List, [], ◌∷◌, ◌++◌, length, get_or, take, map, sym, refl, ap, ◌∙◌, add-one, take-suc, take_all, arith}
+use Rattle.std.proofs.lemmas.List.{length-map}
 use lib.Bits.{bit_xor}
 use Rattle.hash.specs.Fnv.{fnv_from, times_prime, children_bytes, bytes32}
 
@@ -16,6 +17,18 @@ child_append h (x ∷ a) k =
     ∙ child_append (fnv_from h (bytes32 x)) a k
     ∙ ap (λ (n : ℕ). fnv_from n (bytes32 k)) (sym (fnv_append h (bytes32 x) (children_bytes a)))
 
--- one child more
-pub child_more : (h : ℕ) (a : List ℕ) (i : ℕ) → i < length a → fnv_from h (children_bytes (take (i + 1) a)) ≡ fnv_from (fnv_from h (children_bytes (take i a))) (bytes32 (get_or a i 0))
-child_more h a i l = rw (add-one, take-suc a i 0) (child_append h (take i a) (get_or a i 0))
+-- ---- children of any type that has numbers
+module _ {X : Type 0} (value : X → ℕ) where
+  -- an item of the children's numbers
+  item_value : (xs : List X) (i : ℕ) (x : X) → i < length xs → get_or xs i x ≡ x → get_or (map value xs) i 0 ≡ value x
+  item_value [] i x l e = absurd (omega arith)
+  item_value (y ∷ xs) zero x l e = ap value e
+  item_value (y ∷ xs) (suc i) x l e = item_value xs i x (omega arith) e
+
+  -- one child more
+  pub child_more : (h : ℕ) (xs : List X) (i : ℕ) (x : X) → i < length xs → get_or xs i x ≡ x → fnv_from (fnv_from h (children_bytes (take i (map value xs)))) (bytes32 (value x)) ≡ fnv_from h (children_bytes (take (i + 1) (map value xs)))
+  child_more h xs i x l e = rw (← item_value xs i x l e, add-one, take-suc (map value xs) i 0 (rw (length-map xs value) l)) (sym (child_append h (take i (map value xs)) (get_or (map value xs) i 0)))
+
+  -- all of them
+  pub all_children : (xs : List X) (i : ℕ) → length xs ≤ i → take i (map value xs) ≡ map value xs
+  all_children xs i l = take_all i (map value xs) (rw (length-map xs value) l)

@@ -1,5 +1,4 @@
--- 01: "FNV-1a, 64 bits, modulo 2^64 (offset 14695981039346656037, prime 1099511628211), over the kind byte, payload (8 bytes) and each
--- child (4 bytes), big-endian."
+-- FNV-1a, 64 bits, modulo 2^64: over the kind byte, the payload (8 bytes) and each child (4 bytes), big-endian.
 use Rattle.std.specs.Prelude.{◌≡◌, ℕ, ◌+◌, ◌*◌, ◌/◌, ◌%◌, ◌^◌, List, [], ◌∷◌, ◌++◌, bit_xor}
 
 abbrev pub offset_basis : ℕ
@@ -12,7 +11,7 @@ prime = 1099511628211
 unfoldable pub times_prime : ℕ → ℕ
 times_prime h = h * prime % 2 ^ 64
 
--- 02 (f): the FNV text "builds the prime as 2^40 + 2^8 + 179. The multiplication should add just these three products, in that order"
+-- the FNV text builds the prime as 2^40 + 2^8 + 179: just these three products are added, in that order
 unfoldable pub printed : ℕ → ℕ
 printed h =
     let first = h * 2 ^ 40 % 2 ^ 64 in
@@ -20,7 +19,7 @@ printed h =
     let third = h * 179 % 2 ^ 64 in
     ((first + second) % 2 ^ 64 + third) % 2 ^ 64
 
--- "proved equal modulo 2^64 to the prime's product for every 64-bit number": for every number
+-- modulo 2^64 that is the prime's product, for every number
 abbrev pub PrintedIsPrime : Type 0
 PrintedIsPrime = (h : ℕ) → printed h ≡ times_prime h
 

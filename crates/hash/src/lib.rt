@@ -1,8 +1,8 @@
-// FNV-1a, 64 bits, modulo 2^64 (01: it stands in for the Rust's rapidhash): over the kind byte, the payload
-// (8 bytes) and each child (4 bytes), big-endian.
+// FNV-1a, 64 bits, modulo 2^64, in place of the Rust's rapidhash: over the kind byte, the payload (8 bytes) and each child
+// (4 bytes), big-endian.
 #![tactic(auto)]
 
-ghost use Rattle.std.specs.Prelude.{◌≡◌, ◌*◌, ◌%◌, ◌^◌, [], ◌∷◌};
+ghost use Rattle.std.specs.Prelude.{◌≡◌, ◌*◌, ◌%◌, ◌^◌, ℕ, [], ◌∷◌, map};
 ghost use Rattle.hash.specs.Fnv.{offset_basis, printed, fnv_from, bytes32, bytes64, children_bytes, node_hash_of};
 
 use std::num::wrapping_add_u64;
@@ -29,7 +29,8 @@ fn wrapping_mul_179(h: u64) -> u64
     wrapping_add_u64(product, h)
 }
 
-// h times the prime 1,099,511,628,211, modulo 2^64, as the FNV text builds it: 2^40 + 2^8 + 179 (02 f).
+/// h times the prime 1,099,511,628,211, modulo 2^64, by three products that are added in the order of the FNV text, which builds the
+/// prime as 2^40 + 2^8 + 179 (`printed` of specs/Fnv keeps this order).
 pub fn wrapping_mul_prime(h: u64) -> u64
     ensures { result ≡ printed h }
 {
@@ -77,15 +78,38 @@ fn add_u64(h: u64, x: u64) -> u64
     add_u32(add_u32(h, x / TWO_TO_32), x % TWO_TO_32)
 }
 
+/// A whole number that names a child: an id as it is lent or as it stands in a word.
+pub trait Child: Copy {
+    ghost value: { Self → ℕ };
+
+    /// The number, as a word.
+    fn value(self) -> u64
+        ensures { result ≡ value self };
+}
+
+impl Child for u64 {
+    ghost value = { λ x. x };
+
+    fn value(self) -> u64 {
+        self
+    }
+}
+
+impl Child for u32 {
+    ghost value = { λ x. x };
+
+    fn value(self) -> u64 {
+        u64::from(self)
+    }
+}
+
 // The children, each as four bytes.
-fn add_children(h: u64, children: &[u64]) -> u64
-    ensures { result ≡ fnv_from h (children_bytes children.now) }
+fn add_children<T: Child>(h: u64, children: &[T]) -> u64
+    ensures { result ≡ fnv_from h (children_bytes (map T.value children.now)) }
 {
     let mut sum = h;
-    let mut i: usize = 0;
-    while i < children.len() {
-        sum = add_u32(sum, children[i]);
-        i += 1;
+    for child in children {
+        sum = add_u32(sum, child.value());
     }
     sum
 }
@@ -98,29 +122,9 @@ fn start(kind: u64, payload: u64) -> u64
     add_u64(with_kind, payload)
 }
 
-// The hash of a node.
-pub fn node_hash(kind: u64, payload: u64, children: &[u64]) -> u64
-    ensures { result ≡ node_hash_of kind payload children.now }
+/// The hash of a node with this kind, payload and children.
+pub fn node_hash<T: Child>(kind: u64, payload: u64, children: &[T]) -> u64
+    ensures { result ≡ node_hash_of kind payload (map T.value children.now) }
 {
     add_children(start(kind, payload), children)
-}
-
-// The children, each as four bytes, lent as ids.
-fn add_ids(h: u64, children: &[u32]) -> u64
-    ensures { result ≡ fnv_from h (children_bytes children.now) }
-{
-    let mut sum = h;
-    let mut i: usize = 0;
-    while i < children.len() {
-        sum = add_u32(sum, children[i] as u64);
-        i += 1;
-    }
-    sum
-}
-
-// The hash of a node whose children are lent as ids.
-pub fn key_hash(kind: u64, payload: u64, children: &[u32]) -> u64
-    ensures { result ≡ node_hash_of kind payload children.now }
-{
-    add_ids(start(kind, payload), children)
 }

@@ -1,4 +1,4 @@
--- The public calls keep the promise: each contract, lifted to the whole memory, is what demand 3 takes.
+-- The public calls keep the promise: each contract, lifted to the whole memory, is what the promise of a list of calls takes.
 use mathlib.Core.List.{List}
 use Rattle.definitions.specs.Controller.{ControllerCall, ControllerAnswer}
 use Rattle.definitions.specs.Promise as Promise

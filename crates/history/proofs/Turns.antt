@@ -1,5 +1,4 @@
 -- Calls in turn: they go on by one call more, and leave store and names as each of them does.
-use Prim.Native.Nat.{ℕ}
 use mathlib.Core.Path.{◌≡◌, refl, ap}
 use mathlib.Core.Option.{some}
 use mathlib.Core.List.{List, [], ◌∷◌, ◌++◌}

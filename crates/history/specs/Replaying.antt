@@ -1,24 +1,20 @@
--- What a list of calls that is run leaves: demand 3's promise.
-use Rattle.std.specs.Prelude.{ℕ, ◌≡◌, true, false, List, [], ◌∷◌, map, length, drop, replicate}
+-- What a list of calls that is run leaves, and the promise that it keeps.
+use Rattle.std.specs.Prelude.{ℕ, ◌≡◌, true, false, List, [], ◌∷◌, map, length, drop, Result, Ok, Err}
 use Rattle.std.proofs.Math.Option.{Option, none, some}
-use Rattle.definitions.specs.Refusals.{no_slot_place}
+use Rattle.refusal.specs.declared.Refusal.{Refusal}
+use Rattle.refusal.specs.declared.Refusal.TheVariants.{NoSlotPlace}
 use Rattle.definitions.specs.Machine as M
-use Rattle.definitions.specs.Names.{longest_name}
 use Rattle.definitions.specs.Listing.{last_of}
 use Rattle.definitions.specs.Controller.{LentLists, ControllerCall, ControllerAnswer, empty_controller, controllers, Part}
 use Rattle.definitions.specs.Promise.{FreshController, Promise, All}
 use Rattle.store.specs.View.{lent}
 use Rattle.name_entries.specs.Sound.{lent_entries}
 use Rattle.calls.specs.declared.handing.CallResult.{CallResult}
-use Rattle.calls.specs.declared.handing.LastReply.TheVariants as Last
 use Rattle.history.specs.declared.Run.{Run}
-use Rattle.history.specs.declared.Replayed.{Replayed}
-use Rattle.history.specs.declared.Opening.TheVariants.{Opened, Refused}
 use Rattle.text.specs.Memory.{ControllerMemory, controller_memory, lent_controller, controller_after}
 use Rattle.calls.specs.Memory.{fresh_controller_memory, LeavesInTurn}
 use Rattle.encoding.specs.Encoding.{first_call, decode, read_words}
-use Rattle.encoding.specs.Finding.{call_between}
-use Rattle.calls.specs.Calling.{last_reply_of, NameBeside, RunsCall}
+use Rattle.calls.specs.Calling.{last_reply_of, NameBeside}
 
 -- the last of a list, if there is one
 abbrev pub last : {A : Type 0} → List A → Option A
@@ -28,9 +24,6 @@ last (x ∷ xs) = some (last_of x xs)
 -- the memory that was lent, after a call
 abbrev pub after : List ℕ → List ℕ → List ℕ → CallResult → ControllerMemory
 after words slots bytes r = controller_memory words slots r.arena bytes r.names
-
-abbrev pub RunsCallAt : List ℕ → ℕ → ℕ → ControllerMemory → CallResult → ControllerMemory → Type 0
-RunsCallAt calls at end m r m' = RunsCall (call_between calls at end) m r m'
 
 -- Calls on any memory: the answers, the memory after each, and the last of both.
 pub record Continues (m : ControllerMemory) (cs : List ControllerCall) (r : CallResult) (m' : ControllerMemory) : Type 0 where
@@ -57,7 +50,7 @@ pub record RunsAll (m : ControllerMemory) (calls : List ℕ) (r : Run) (m' : Con
 abbrev pub lent_in : List ℕ → List ℕ → List ℕ → LentLists
 lent_in words slots bytes = record { store = lent words slots; names = lent_entries bytes }
 
--- "the first gets a fresh store", and the names are "empty at first": the calls were run from there, and keep the promise of demand 3, with
+-- "the first gets a fresh store", and the names are "empty at first": the calls were run from there, and keep the promise, with
 -- store and names sound on the way.
 pub record Promised (words slots bytes : List ℕ) (cs : List ControllerCall) (r : CallResult) (words' slots' bytes' : List ℕ)
     : Type 0 where
@@ -69,18 +62,9 @@ pub record Promised (words slots bytes : List ℕ) (cs : List ControllerCall) (r
   pub memory : after words' slots' bytes' r ≡ controller_after (fresh_controller_memory words slots bytes)
       (last_of empty_controller (controllers (lent_in words slots bytes) empty_controller cs))
 
--- no call was run: there is no reply, no store and no name
-pub record NothingRun (r : Run) : Type 0 where
-  pub reply : r.last.reply ≡ Last.Nothing
-  pub name : r.last.name ≡ replicate longest_name 0
-  pub arena : r.last.arena ≡ record { count = 0; size = 0 }
-  pub names : r.last.names ≡ 0
-  pub calls : r.calls ≡ 0
-  pub words : r.words ≡ 0
-
--- 22, nothing run and nothing changed where a fresh store is refused, else the promise
-pub record Replays (words slots bytes calls : List ℕ) (r : Replayed) (words' slots' bytes' : List ℕ) : Type 0 where
+-- the reason NoSlotPlace and nothing changed where a fresh store is refused, so that no call was run; else the promise
+pub record Replays (words slots bytes calls : List ℕ) (r : Result Run Refusal) (words' slots' bytes' : List ℕ) : Type 0 where
   pub refused : M.fresh_refused (lent words slots) ≡ true
-      → (r.opening ≡ Refused no_slot_place) × NothingRun r.run × (words' ≡ words) × (slots' ≡ slots) × (bytes' ≡ bytes)
+      → (r ≡ Err NoSlotPlace) × (words' ≡ words) × (slots' ≡ slots) × (bytes' ≡ bytes)
   pub promised : M.fresh_refused (lent words slots) ≡ false
-      → (r.opening ≡ Opened) × Promised words slots bytes (decode calls) r.run.last words' slots' bytes' × Counts calls r.run
+      → (run : Run) × (r ≡ Ok run) × Promised words slots bytes (decode calls) run.last words' slots' bytes' × Counts calls run

@@ -1,3 +1,3 @@
-pub mod IdentityLaws
+pub mod Constants
 pub mod Negation
 pub mod KindLaws

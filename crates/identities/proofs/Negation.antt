@@ -11,14 +11,9 @@ use Rattle.definitions.specs.Patterns.{only_child, neg_double}
 use Rattle.store.specs.View.{nodes_in}
 use Rattle.store.specs.Lookup.{Lookup}
 use Rattle.decisions.specs.Deciding.{Decides}
-use Rattle.decisions.specs.declared.PatternResult.TheVariants.{Fits, Declined}
+use Rattle.std.specs.Prelude.{Some}
 use Rattle.decisions.specs.declared.Replacement.TheVariants.{Id}
-use Rattle.decisions.proofs.Children.{this_kind, other_kind, child_below}
-
-not_one : (ns : List Node) (c : List ℕ) → (length c ≡ 1 → ⊥) → none ≡ only_child ns c
-not_one ns [] h = refl
-not_one ns (a ∷ []) h = absurd (h refl)
-not_one ns (a ∷ b ∷ c) h = refl
+use Rattle.decisions.proofs.Children.{this_kind, child_below}
 
 one : (ns : List Node) (c : List ℕ) → length c ≡ 1 → some (built ns (get_or c 0 0)) ≡ only_child ns c
 one ns [] h = absurd (omega arith)
@@ -33,18 +28,8 @@ module _ {w : List ℕ} {count a : ℕ} (h : Lookup w count a) where
     abbrev double : Lent → List Node → Option Built
     double l ns = neg_double ns a
 
-    pub no_neg : (j ≡ neg_kind → ⊥) → Decides w count double Declined
-    no_neg e = record { is = λ l. other_kind n.kind neg_kind j (only_child (nodes_in w count) n.children) none k e; low = tt }
-
     module _ {m : ℕ} (long : m ≡ length (at (nodes_in w count) a).children) where
-      pub no_operand : j ≡ neg_kind → (m ≡ 1 → ⊥) → Decides w count double Declined
-      no_operand e f = record {
-        is = λ l.
-            not_one (nodes_in w count) n.children (λ g. f (long ∙ g)) ∙ this_kind n.kind neg_kind j (only_child (nodes_in w count) n.children) none k e;
-        low = tt;
-      }
-
-      pub operand : {p : ℕ} → j ≡ neg_kind → m ≡ 1 → p ≡ get_or n.children 0 0 → Decides w count double (Fits (Id p))
+      pub operand : {p : ℕ} → j ≡ neg_kind → m ≡ 1 → p ≡ get_or n.children 0 0 → Decides w count double (Some (Id p))
       operand e f g = record {
         is = λ l.
             ap (λ (i : ℕ). some (built (nodes_in w count) i)) g ∙ one (nodes_in w count) n.children (sym long ∙ f)

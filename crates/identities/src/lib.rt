@@ -6,123 +6,118 @@ ghost use Rattle.store.specs.Lookup.{Lookup};
 ghost use Rattle.decisions.specs.Deciding.{Both, Decides};
 
 use arena::node::BITS_OF_ONE;
-use decisions::constants::{Constant, constant_value, is_one, is_positive, is_zero, vanishes};
-use decisions::{PatternResult, Replacement};
-use fold::BITS_OF_ZERO;
+use decisions::Replacement;
+use decisions::constants::{constant_value, vanishes};
+use fold::{BITS_OF_ZERO, is_one, is_positive, is_zero};
 use kinds::{ADD, DIV, MUL, NEG, POW, SUB};
 
 // `x + 0 -> x` and `0 + x -> x`.
-fn add_zero(nodes: &[u64], count: u64, lhs: u64, rhs: u64) -> PatternResult
+#[tactic(auto, unfolding(definitions::specs::Patterns::add_zero))]
+fn add_zero(nodes: &[u64], count: u64, lhs: u64, rhs: u64) -> Option<Replacement>
     requires { Both nodes.now count lhs rhs }
     ensures { Decides nodes.now count (λ l ns. P.add_zero l ns lhs rhs) result }
 {
-    if is_zero(constant_value(nodes, count, lhs)) {
-        return PatternResult::Fits(Replacement::Id(rhs));
+    if constant_value(nodes, count, lhs).is_some_and(is_zero) {
+        return Some(Replacement::Id(rhs));
     }
-    if is_zero(constant_value(nodes, count, rhs)) {
-        return PatternResult::Fits(Replacement::Id(lhs));
+    if constant_value(nodes, count, rhs).is_some_and(is_zero) {
+        return Some(Replacement::Id(lhs));
     }
-    PatternResult::Declined
+    None
 }
 
 // `x - 0 -> x` and `x - x -> 0`.
-fn sub_identity(nodes: &[u64], count: u64, lhs: u64, rhs: u64) -> PatternResult
+#[tactic(auto, unfolding(definitions::specs::Patterns::sub_identity), using(crate::proofs::Constants::constants))]
+fn sub_identity(nodes: &[u64], count: u64, lhs: u64, rhs: u64) -> Option<Replacement>
     requires { Both nodes.now count lhs rhs }
     ensures { Decides nodes.now count (λ l ns. P.sub_identity l ns lhs rhs) result }
 {
-    if is_zero(constant_value(nodes, count, rhs)) {
-        return PatternResult::Fits(Replacement::Id(lhs));
+    if constant_value(nodes, count, rhs).is_some_and(is_zero) {
+        return Some(Replacement::Id(lhs));
     }
     if lhs == rhs {
-        return PatternResult::Fits(Replacement::Constant(BITS_OF_ZERO));
+        return Some(Replacement::Constant(BITS_OF_ZERO));
     }
-    PatternResult::Declined
+    None
 }
 
 // `x * 0 -> 0` and `0 * x -> 0` where x is a finite constant, `1 * x -> x` and `x * 1 -> x`.
-fn mul_identity(nodes: &[u64], count: u64, lhs: u64, rhs: u64) -> PatternResult
+#[tactic(auto, unfolding(definitions::specs::Patterns::mul_identity), using(crate::proofs::Constants::constants))]
+fn mul_identity(nodes: &[u64], count: u64, lhs: u64, rhs: u64) -> Option<Replacement>
     requires { Both nodes.now count lhs rhs }
     ensures { Decides nodes.now count (λ l ns. P.mul_identity l ns lhs rhs) result }
 {
     let x = constant_value(nodes, count, lhs);
     let y = constant_value(nodes, count, rhs);
-    if vanishes(x, y) {
-        return PatternResult::Fits(Replacement::Constant(BITS_OF_ZERO));
+    if vanishes(x, y) || vanishes(y, x) {
+        return Some(Replacement::Constant(BITS_OF_ZERO));
     }
-    if vanishes(y, x) {
-        return PatternResult::Fits(Replacement::Constant(BITS_OF_ZERO));
+    if x.is_some_and(is_one) {
+        return Some(Replacement::Id(rhs));
     }
-    if is_one(x) {
-        return PatternResult::Fits(Replacement::Id(rhs));
+    if y.is_some_and(is_one) {
+        return Some(Replacement::Id(lhs));
     }
-    if is_one(y) {
-        return PatternResult::Fits(Replacement::Id(lhs));
-    }
-    PatternResult::Declined
+    None
 }
 
 // `x / 1 -> x`, `0 / x -> 0`, and `x / x -> 1` where x is a constant other than zero.
-fn div_identity(nodes: &[u64], count: u64, lhs: u64, rhs: u64) -> PatternResult
+#[tactic(auto, unfolding(definitions::specs::Patterns::div_identity), using(crate::proofs::Constants::constants))]
+fn div_identity(nodes: &[u64], count: u64, lhs: u64, rhs: u64) -> Option<Replacement>
     requires { Both nodes.now count lhs rhs }
     ensures { Decides nodes.now count (λ l ns. P.div_identity l ns lhs rhs) result }
 {
-    if is_one(constant_value(nodes, count, rhs)) {
-        return PatternResult::Fits(Replacement::Id(lhs));
+    if constant_value(nodes, count, rhs).is_some_and(is_one) {
+        return Some(Replacement::Id(lhs));
     }
     let x = constant_value(nodes, count, lhs);
-    if is_zero(x) {
-        return PatternResult::Fits(Replacement::Constant(BITS_OF_ZERO));
+    if x.is_some_and(is_zero) {
+        return Some(Replacement::Constant(BITS_OF_ZERO));
     }
-    if lhs != rhs {
-        return PatternResult::Declined;
+    if lhs == rhs && x.is_some() {
+        return Some(Replacement::Constant(BITS_OF_ONE));
     }
-    match x {
-        Constant::Bits(_) => PatternResult::Fits(Replacement::Constant(BITS_OF_ONE)),
-        Constant::Missing => PatternResult::Declined,
-    }
+    None
 }
 
 // `x ^ 0 -> 1`, `x ^ 1 -> x`, `1 ^ x -> 1`, and `0 ^ x -> 0` where x is a constant above zero.
-fn pow_identity(nodes: &[u64], count: u64, lhs: u64, rhs: u64) -> PatternResult
+#[tactic(auto, unfolding(definitions::specs::Patterns::pow_identity), using(crate::proofs::Constants::constants))]
+fn pow_identity(nodes: &[u64], count: u64, lhs: u64, rhs: u64) -> Option<Replacement>
     requires { Both nodes.now count lhs rhs }
     ensures { Decides nodes.now count (λ l ns. P.pow_identity l ns lhs rhs) result }
 {
     let x = constant_value(nodes, count, lhs);
     let y = constant_value(nodes, count, rhs);
-    if is_zero(y) {
-        return PatternResult::Fits(Replacement::Constant(BITS_OF_ONE));
+    if y.is_some_and(is_zero) {
+        return Some(Replacement::Constant(BITS_OF_ONE));
     }
-    if is_one(y) {
-        return PatternResult::Fits(Replacement::Id(lhs));
+    if y.is_some_and(is_one) {
+        return Some(Replacement::Id(lhs));
     }
-    if is_one(x) {
-        return PatternResult::Fits(Replacement::Constant(BITS_OF_ONE));
+    if x.is_some_and(is_one) {
+        return Some(Replacement::Constant(BITS_OF_ONE));
     }
-    if !is_zero(x) {
-        return PatternResult::Declined;
+    if x.is_some_and(is_zero) && y.is_some_and(is_positive) {
+        return Some(Replacement::Constant(BITS_OF_ZERO));
     }
-    if is_positive(y) {
-        return PatternResult::Fits(Replacement::Constant(BITS_OF_ZERO));
-    }
-    PatternResult::Declined
+    None
 }
 
-// `--x -> x`: the operand of a Neg that is a Neg itself.
-pub fn neg_double(nodes: &[u64], count: u64, operand: u64) -> PatternResult
+/// `--x -> x`: the operand of a Neg that is a Neg itself.
+#[tactic(auto, using(crate::proofs::Negation::operand))]
+pub fn neg_double(nodes: &[u64], count: u64, operand: u64) -> Option<Replacement>
     requires { Lookup nodes.now count operand }
     ensures { Decides nodes.now count (λ l ns. P.neg_double ns operand) result }
 {
-    if store::kind(nodes, count, operand) != NEG {
-        return PatternResult::Declined;
+    if store::kind(nodes, count, operand) == NEG && store::arity(nodes, count, operand) == 1 {
+        return Some(Replacement::Id(store::child(nodes, count, operand, 0)));
     }
-    if store::arity(nodes, count, operand) != 1 {
-        return PatternResult::Declined;
-    }
-    PatternResult::Fits(Replacement::Id(store::child(nodes, count, operand, 0)))
+    None
 }
 
-// The identity of an operator of two operands.
-pub fn identity(nodes: &[u64], count: u64, kind: u64, lhs: u64, rhs: u64) -> PatternResult
+/// The identity of an operator of two operands.
+#[tactic(auto, unfolding(definitions::specs::Patterns::identities))]
+pub fn identity(nodes: &[u64], count: u64, kind: u64, lhs: u64, rhs: u64) -> Option<Replacement>
     requires { Both nodes.now count lhs rhs }
     ensures { Decides nodes.now count (λ l ns. P.identities l ns kind lhs rhs) result }
 {
@@ -132,6 +127,6 @@ pub fn identity(nodes: &[u64], count: u64, kind: u64, lhs: u64, rhs: u64) -> Pat
         MUL => mul_identity(nodes, count, lhs, rhs),
         DIV => div_identity(nodes, count, lhs, rhs),
         POW => pow_identity(nodes, count, lhs, rhs),
-        _ => PatternResult::Declined,
+        _ => None,
     }
 }

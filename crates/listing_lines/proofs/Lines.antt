@@ -1,14 +1,16 @@
 -- Lines that grow, and the listing by lines.
-use Prim.Native.Nat.{ℕ, zero, suc, ◌+◌, ◌*◌, ◌-◌, ◌≤◌, ◌<◌}
+use Prim.Native.Nat.{ℕ, suc, ◌+◌, ◌*◌, ◌-◌, ◌≤◌, ◌<◌}
 use mathlib.Core.Path.{◌≡◌, refl, sym, ap, ap₂, ◌∙◌, subst}
-use mathlib.Core.Bool.{Bool, true, false}
+use mathlib.Core.Bool.{true, false}
 use mathlib.Core.Option.{Option, none, some}
 use mathlib.Core.List.{List, [], ◌∷◌, ◌++◌, append_assoc, append-nil}
-use lib.ListN.{length, get_or, take, drop, set, length-drop, length-append, length-set}
-use lib.Seq.{take-suc, take-suc-set, take_all, take-length, drop-set-lt, drop-drop, get_or_at}
+use lib.ListN.{length, get_or, take, drop, length-drop, length-append}
+use lib.Seq.{take-suc, take_all, take-length, drop-drop, get_or_at}
 use lib.Dec.{lit≤}
 use native.Mathlib.Omega.{arith}
 use native.Mathlib.Numerals.{add-one}
+use Rattle.std.proofs.lemmas.Slice.{take-put_mid, drop-put_mid}
+use borrow.Rule.Slice.PartMut.{put_mid}
 use Rattle.definitions.specs.Limits.{most_children}
 use Rattle.definitions.specs.Node.{Node, at, blank}
 use Rattle.definitions.specs.Machine.{Answer, stored, simplified, pruned, refused}
@@ -22,19 +24,7 @@ use Rattle.listing_lines.specs.declared.SheetOutcome.TheVariants.{Ok, Spent, Ref
 use Rattle.listing_lines.specs.Line.{line_bytes, most_digits, number_bytes, children_bytes, text, EmptyLine, ExtendsLine, Holds}
 use Rattle.listing_lines.specs.Outcome.{answered_as, outcome_of, first_line_of, line_of, joined, all_lines}
 
--- ---- one byte more
-
--- so many bytes of a text copied into an array of a given length, from a place on; the bytes past them are as they were
-pub record Copied (room : ℕ) (before more bytes : List ℕ) (start i : ℕ) : Type 0 where
-  pub within : i ≤ length more
-  pub long : length bytes ≡ room
-  pub is : take (start + i) bytes ≡ take start before ++ take i more
-  pub rest : drop (start + i) bytes ≡ drop (start + i) before
-
-pub copied_none : (room : ℕ) (more bytes : List ℕ) (start : ℕ) → length bytes ≡ room → Copied room bytes more bytes start 0
-copied_none room more bytes start l =
-    let e : start + 0 ≡ start = omega arith in
-    record { within = omega arith; long = l; is = ap (λ (k : ℕ). take k bytes) e ∙ sym (append-nil (take start bytes)); rest = refl }
+-- ---- a text copied into an array
 
 -- what stays from a place on stays from every later one
 pub later_rest : (m n : ℕ) (a b : List ℕ) → m ≤ n → drop m a ≡ drop m b → drop n a ≡ drop n b
@@ -42,27 +32,12 @@ later_rest m n a b h e =
     let s : m + (n - m) ≡ n = omega arith in
     sym (ap (λ (k : ℕ). drop k a) s) ∙ sym (drop-drop (n - m) m a) ∙ ap (drop (n - m)) e ∙ drop-drop (n - m) m b ∙ ap (λ (k : ℕ). drop k b) s
 
-module _ (room : ℕ) (before more bytes : List ℕ) (start i : ℕ) (c : Copied room before more bytes start i) where
-  pub copied_more : i < length more → start + length more ≤ room → Copied room before more (set bytes (start + i) (get_or more i 0)) start (i + 1)
-  copied_more l h =
-      let s : start + (i + 1) ≡ suc (start + i) = omega arith in
-      let long : length bytes ≡ room = c.long in
-      record {
-        within = omega arith;
-        long = length-set bytes (start + i) (get_or more i 0) ∙ long;
-        is =
-            ap (λ (k : ℕ). take k (set bytes (start + i) (get_or more i 0))) s
-            ∙ take-suc-set bytes (start + i) (get_or more i 0) (omega arith)
-            ∙ ap (λ (x : List ℕ). x ++ (get_or more i 0 ∷ [])) c.is
-            ∙ append_assoc (take start before) (take i more) (get_or more i 0 ∷ [])
-            ∙ ap (λ (x : List ℕ). take start before ++ x) (sym (ap (λ (k : ℕ). take k more) (add-one i) ∙ take-suc more i 0 l));
-        rest =
-            drop-set-lt (start + (i + 1)) bytes (start + i) (get_or more i 0) (omega arith)
-            ∙ later_rest (start + i) (start + (i + 1)) bytes before (omega arith) c.rest;
-      }
+module _ (before more : List ℕ) (start n : ℕ) (bytes : List ℕ) (e : bytes ≡ more) (k : n ≡ length more) (fits : start + length more ≤ length before) where
+  pub copied_text : take (start + length more) (put_mid start n before bytes) ≡ take start before ++ more
+  copied_text = take-put_mid start n before bytes (start + length more) (rw e refl) (omega arith) ∙ ap (λ (x : List ℕ). take start before ++ x) e
 
-  pub copied_all : i ≡ length more → take (start + i) bytes ≡ take start before ++ more
-  copied_all l = c.is ∙ ap (λ (x : List ℕ). take start before ++ x) (ap (λ (k : ℕ). take k more) l ∙ take-length more)
+  pub copied_rest : drop (start + length more) (put_mid start n before bytes) ≡ drop (start + length more) before
+  copied_rest = drop-put_mid start n before bytes (start + length more) (omega arith) (omega arith) (ap length e ∙ sym k)
 
 -- ---- text after text
 pub extends_trans : {a b c : Line} {x y : List ℕ} {m n : ℕ} → ExtendsLine a x m b → ExtendsLine b y n c → ExtendsLine a (x ++ y) (m + n) c

@@ -1,5 +1,5 @@
 -- What a sheet's result says in its first line, and the listing by lines.
-use Rattle.std.specs.Prelude.{ℕ, zero, suc, Bool, true, false, List, [], ◌∷◌, ◌++◌}
+use Rattle.std.specs.Prelude.{ℕ, zero, suc, true, false, List, [], ◌∷◌, ◌++◌}
 use Rattle.std.proofs.Math.Option.{Option, none, some}
 use Rattle.definitions.specs.Machine.{Answer, stored, simplified, pruned, refused}
 use Rattle.definitions.specs.Node.{Node, at}

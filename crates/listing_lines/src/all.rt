@@ -14,15 +14,12 @@ fn put(out: &mut [u8], at: usize, more: &[u8]) -> usize
     requires { at + length more.now ≤ length out.old }
     ensures { PutsLine more.now at out.old result out.new }
 {
-    let mut i: usize = 0;
-    while i < more.len() {
-        out[at + i] = more[i];
-        i += 1;
-    }
-    at + i
+    let end = at + more.len();
+    out[at..end].copy_from_slice(more);
+    end
 }
 
-// Puts a line into an array from a place on, and gives the place after it.
+/// Puts a line into an array from a place on, and gives the place after it.
 pub fn put_line(out: &mut [u8], at: usize, line: Line) -> usize
     requires { (line.length ≤ line_bytes) × (at + line_bytes ≤ length out.old) }
     ensures { PutsLine (text line) at out.old result out.new }
@@ -32,18 +29,16 @@ pub fn put_line(out: &mut [u8], at: usize, line: Line) -> usize
     put(out, at, &bytes[..length])
 }
 
-// The first line and the line of each id by rising id, at the start of an array with room for so many of the longest lines; the number
-// of bytes that they take. The bytes past them stay.
+/// The first line and the line of each id by rising id, at the start of an array with room for so many of the longest lines; the number
+/// of bytes that they take. The bytes past them stay.
 pub fn all_lines(outcome: SheetOutcome, nodes: &[u64], count: u64, out: &mut [u8]) -> usize
     requires { Nodes nodes.now count × ((count + 1) * line_bytes ≤ length out.old) }
     ensures fills { Fills (all_lines outcome nodes.now count) result out.old out.new }
-    ensures upper_bound { result ≤ (count + 1) * line_bytes }
+    ensures at_most_full { result ≤ (count + 1) * line_bytes }
 {
     let mut at = put_line(out, 0, first_line(outcome));
-    let mut id: u64 = 0;
-    while id < count {
+    for id in 0..count {
         at = put_line(out, at, node_line_sound(nodes, count, id));
-        id += 1;
     }
     at
 }

@@ -14,7 +14,7 @@ pub const DECIMAL_BASE: u64 = 10;
 
 pub const HEX_BASE: u64 = 16;
 // The bytes of the digit 0 and, less ten, of the digit A.
-pub const ZERO: u8 = 48;
+pub const ZERO: u8 = b'0';
 
 pub const BEFORE_LETTERS: u8 = 55;
 
@@ -37,7 +37,7 @@ fn digit(value: u64) -> u8
     }
 }
 
-// The decimal digits of a number, as few as hold it.
+// The decimal digits of a number, as few as hold it. The loop runs from the last digit to the first: no counter that a `for` would take.
 fn decimal_digits(n: u64) -> Digits
     ensures { SpellsNumber (decimal n) result }
 {
@@ -87,7 +87,7 @@ pub(crate) fn with_decimal(line: Line, n: u64) -> Line
     with_digits(line, decimal_digits(n))
 }
 
-// The line with a space and a number.
+/// The line with a space and a number.
 pub fn with_number(line: Line, n: u64) -> Line
     requires { line.length + number_bytes ≤ line_bytes }
     ensures { ExtendsLine line (space ∷ decimal n) number_bytes result }
@@ -103,7 +103,7 @@ pub(crate) fn with_payload(line: Line, n: u64) -> Line
     with_digits(with_bytes(line, b" "), hex_digits(n))
 }
 
-// A line that is one number in 16 capital hex digits.
+/// A line that is one number in 16 capital hex digits.
 pub fn hex_line(n: u64) -> Line
     ensures { Holds (hex n ++ (line_feed ∷ [])) result }
 {

@@ -1,4 +1,4 @@
-// The listing of a sheet's result (01, "sheets and the listing"), a line at a time.
+// The listing of a sheet's result, a line at a time.
 #![tactic(auto)]
 
 mod all;
@@ -11,18 +11,18 @@ ghost use Rattle.definitions.specs.Listing.{line_feed};
 ghost use Rattle.store.specs.Memory.{memory};
 ghost use Rattle.listing_lines.specs.Line.{Holds};
 ghost use Rattle.listing_lines.specs.Outcome.{first_line_of};
-ghost use Rattle.listing_lines.specs.Answers.{Lists, RefusesLine};
+ghost use Rattle.listing_lines.specs.Answers.{Lists};
 
 pub use all::{all_lines, put_line};
 use arena::DagArena;
-use definitions::refusals::{BAD_OPERAND, NOT_SOUND};
 pub use digits::{BEFORE_LETTERS, DECIMAL_BASE, HEX_BASE, HEX_DIGITS, ZERO, hex_line, with_number};
 pub use line::{LINE_BYTES, Line, new, with_bytes};
 use node::node_line_sound;
+use refusal::Refusal;
 
-// What a sheet's first line says: the last answer's id, no records, the id of a last record that ran out, or a refusal and
-// its record.
-#[derive(Clone, Copy)]
+/// What a sheet's first line says: the last answer's id, no records, the id of a last record that ran out, or a refusal and its record.
+/// A refusal is a number here, since a listing that is read back may have any.
+#[derive(Clone, Copy, Debug, PartialEq, Eq)]
 pub enum SheetOutcome {
     Ok(u64),
     Empty,
@@ -30,8 +30,8 @@ pub enum SheetOutcome {
     Refused { number: u64, at: u64 },
 }
 
-// "`ok` and the last answer's id (`-` without records), or `spent` and the id if the last record ran out, or `refused` number
-// `at` record".
+/// `ok` and the last answer's id (`-` without records), or `spent` and the id if the last record ran out, or `refused`, its number, `at` and
+/// the record.
 pub fn first_line(outcome: SheetOutcome) -> Line
     ensures { Holds (first_line_of outcome ++ (line_feed ∷ [])) result }
 {
@@ -46,43 +46,16 @@ pub fn first_line(outcome: SheetOutcome) -> Line
     }
 }
 
-// The line of an id, or the number of a refusal.
-#[derive(Clone, Copy)]
-pub enum LineFound {
-    Line,
-    Refused(u64),
-}
-
-// The answer, with the line beside it: an enum holds no arrays. Beside a refusal the line is empty.
-#[derive(Clone, Copy)]
-pub struct NodeLine {
-    pub answer: LineFound,
-    pub line: Line,
-}
-
-fn refused(number: u64) -> NodeLine
-    ensures { RefusesLine number result }
-{
-    let line = new();
-    NodeLine {
-        answer: LineFound::Refused(number),
-        line,
-    }
-}
-
-// The line of an id of any store, which is audited.
-pub fn node_line(nodes: &[u64], slots: &[u32], arena: DagArena, id: u32) -> NodeLine
+/// The line of an id of any store, which is audited.
+pub fn node_line(nodes: &[u64], slots: &[u32], arena: DagArena, id: u32) -> Result<Line, Refusal>
     ensures { Lists (memory nodes.now slots.now arena) id result }
 {
     if !store::audit(nodes, slots, arena) {
-        return refused(NOT_SOUND);
+        return Err(Refusal::NotSound);
     }
-    if arena.count <= id as u64 {
-        return refused(BAD_OPERAND);
+    let place = u64::from(id);
+    if arena.count <= place {
+        return Err(Refusal::BadOperand);
     }
-    let line = node_line_sound(nodes, arena.count, id as u64);
-    NodeLine {
-        answer: LineFound::Line,
-        line,
-    }
+    Ok(node_line_sound(nodes, arena.count, place))
 }

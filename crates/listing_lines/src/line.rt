@@ -6,13 +6,14 @@ ghost use Rattle.listing_lines.specs.Line.{line_bytes, ExtendsLine, EmptyLine};
 // each: 416 bytes.
 pub const LINE_BYTES: usize = 448;
 
+/// Text at the start of an array, and its length.
 #[derive(Clone, Copy)]
 pub struct Line {
     pub bytes: [u8; LINE_BYTES],
     pub length: usize,
 }
 
-// A line without text.
+/// A line without text.
 pub fn new() -> Line
     ensures { EmptyLine result }
 {
@@ -22,20 +23,13 @@ pub fn new() -> Line
     }
 }
 
-// The line with more text.
+/// The line with more text.
 pub fn with_bytes(line: Line, more: &[u8]) -> Line
     requires { line.length + length more.now ≤ line_bytes }
     ensures { ExtendsLine line more.now (length more.now) result }
 {
     let mut bytes = line.bytes;
-    let start = line.length;
-    let mut i: usize = 0;
-    while i < more.len() {
-        bytes[start + i] = more[i];
-        i += 1;
-    }
-    Line {
-        bytes,
-        length: start + i,
-    }
+    let length = line.length + more.len();
+    bytes[line.length..length].copy_from_slice(more);
+    Line { bytes, length }
 }

@@ -26,16 +26,14 @@ fn with_children(line: Line, nodes: &[u64], count: u64, id: u64) -> Line
 {
     let arity = store::arity(nodes, count, id) as usize;
     let mut longer = line;
-    let mut place: usize = 0;
-    while place < arity {
+    for place in 0..arity {
         longer = with_number(longer, store::child(nodes, count, id, place));
-        place += 1;
     }
     longer
 }
 
-// The line of an id in a store whose nodes are known to be sound: "id, kind, payload in 16 capital hex digits, flags, children; one
-// space between, the rest decimal".
+// The line of an id in a store whose nodes are known to be sound: id, kind, payload in 16 capital hex digits, flags and children, one
+// space between, the rest decimal.
 pub(crate) fn node_line_sound(nodes: &[u64], count: u64, id: u64) -> Line
     requires { Lookup nodes.now count id }
     ensures { Holds (line_of (nodes_in nodes.now count) id) result }

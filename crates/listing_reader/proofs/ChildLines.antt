@@ -12,11 +12,13 @@ use borrow.Author.Tests.{eqb-true, eqb-false}
 use Rattle.definitions.specs.Listing.{space, line_feed, decimal, children_part}
 use Rattle.arena.specs.Layout.{most_children}
 use Rattle.store.proofs.Fitting.{no_children}
-use Rattle.listing_reader.specs.declared.number.NumberRead as N
-use Rattle.listing_reader.specs.declared.number.NumberRead.TheVariants as NV
+use Rattle.std.specs.Prelude.{Option, Some, None}
+use Rattle.listing_reader.specs.declared.number.NumberRead.{NumberRead}
+use Rattle.listing_reader.specs.Numbers.{number_read}
 use Rattle.listing_reader.specs.declared.node.Children.{Children}
 use Rattle.listing_reader.specs.Numbers.{word_end, EndsDigits, Spelled, ReadsNumber}
 use Rattle.listing_reader.specs.Line.{ReadsEnd, PlacedChildren, ReadsChildren}
+use Rattle.listing_reader.proofs.Bytes.{byte_then, first_byte}
 use Rattle.listing_reader.proofs.Found.{only}
 use Rattle.listing_reader.proofs.FirstLines.{spaced_unique}
 
@@ -80,11 +82,32 @@ none_read bytes at = record {
   first = λ cs rest h e. record { more = cs; is = refl; text = e };
 }
 
+-- the line's end, or another byte
+module _ {bytes : List ℕ} {at count : ℕ} {places : List ℕ} {b : ℕ} (e : b ≡ get_or bytes at 0) where
+  pub no_end : (b ≡ line_feed → ⊥) → ReadsEnd bytes at count places None
+  no_end h = record {
+    text = λ x q. absurd (let z : ◌≡◌ {A = ℕ} 0 1 = cc in omega arith);
+    counted = λ x q. absurd (let z : ◌≡◌ {A = ℕ} 0 1 = cc in omega arith);
+    placed = λ x q. absurd (let z : ◌≡◌ {A = ℕ} 0 1 = cc in omega arith);
+    nothing = λ q rest p. h (e ∙ first_byte bytes at line_feed rest p);
+  }
+
+  pub end_found : b ≡ line_feed → ReadsEnd bytes at count places (Some (record { count = count; places = places; next = at + 1 }))
+  end_found h = record {
+    text = λ x q. byte_then bytes at line_feed (omega arith) (sym e ∙ h) ∙ ap (λ (y : Children). line_feed ∷ drop y.next bytes) (same x q);
+    counted = λ x q. sym (ap (λ (y : Children). y.count) (same x q));
+    placed = λ x q. sym (ap (λ (y : Children). y.places) (same x q));
+    nothing = λ q. absurd (let z : ◌≡◌ {A = ℕ} 0 1 = cc in omega arith);
+  }
+    where
+      same : (x : Children) → Some (record { count = count; places = places; next = at + 1 }) ≡ Some x → record { count = count; places = places; next = at + 1 } ≡ x
+      same x q = cc
+
 module _ {bytes : List ℕ} {at : ℕ} {places : List ℕ} {count next : ℕ} (c : ChildrenRead bytes at places count next) where
   done_long : length (take count places) ≡ count
   done_long = let f = c.placed.four in let l = c.placed.few in length-take-le count places (omega arith)
 
-  module _ {r : N.NumberRead} (d : ReadsNumber (λ n rest. space ∷ (decimal n ++ rest)) EndsDigits bytes next r) {v to : ℕ} (e : r ≡ NV.Found v to) (l : count < most_children) where
+  module _ {r : Option NumberRead} (d : ReadsNumber (λ n rest. space ∷ (decimal n ++ rest)) EndsDigits bytes next r) {v to : ℕ} (e : r ≡ Some (number_read v to)) (l : count < most_children) where
     s : Spelled (λ n rest. space ∷ (decimal n ++ rest)) EndsDigits bytes next v to
     s = d.found v to e
 
@@ -132,23 +155,23 @@ module _ {bytes : List ℕ} {at : ℕ} {places : List ℕ} {count next : ℕ} (c
 
   -- ---- the line's end
 
-  module _ {r : Children} (d : ReadsEnd bytes next count places r) where
+  module _ {r : Option Children} (d : ReadsEnd bytes next count places r) where
     ending : ((m : ℕ) (more cs rest : List ℕ) → length cs ≤ most_children → ((j : ℕ) → get_or cs j 0 < word_end) → cs ≡ take count places ++ m ∷ more → drop next bytes ≡ children_part (m ∷ more) ++ line_feed ∷ rest → ⊥) → ReadsChildren bytes at r
     ending stop = record {
-      text = λ e.
+      text = λ x e.
           c.text
-          ∙ ap (λ (x : List ℕ). children_part (take count places) ++ x) (d.text e)
-          ∙ ap₂ (λ (k : ℕ) (p : List ℕ). children_part (take k p) ++ line_feed ∷ drop r.next bytes) (sym (d.counted e)) (sym (d.placed e));
-      placed = λ e. subst (λ (k : ℕ). PlacedChildren r.places k) (sym (d.counted e)) (subst (λ (p : List ℕ). PlacedChildren p count) (sym (d.placed e)) c.placed);
+          ∙ ap (λ (x : List ℕ). children_part (take count places) ++ x) (d.text x e)
+          ∙ ap₂ (λ (k : ℕ) (p : List ℕ). children_part (take k p) ++ line_feed ∷ drop x.next bytes) (sym (d.counted x e)) (sym (d.placed x e));
+      placed = λ x e. subst (λ (k : ℕ). PlacedChildren x.places k) (sym (d.counted x e)) (subst (λ (p : List ℕ). PlacedChildren p count) (sym (d.placed x e)) c.placed);
       nothing = λ e cs rest few small q. let g = c.first cs rest small q in go e cs rest few small g.more g.is g.text;
     }
       where
-        go : r.found ≡ false → (cs rest : List ℕ) → length cs ≤ most_children → ((j : ℕ) → get_or cs j 0 < word_end) → (more : List ℕ) → cs ≡ take count places ++ more → drop next bytes ≡ children_part more ++ line_feed ∷ rest → ⊥
+        go : r ≡ None → (cs rest : List ℕ) → length cs ≤ most_children → ((j : ℕ) → get_or cs j 0 < word_end) → (more : List ℕ) → cs ≡ take count places ++ more → drop next bytes ≡ children_part more ++ line_feed ∷ rest → ⊥
         go e cs rest few small [] p q = d.nothing e rest (q ∙ children_none (line_feed ∷ rest))
         go e cs rest few small (m ∷ more) p q = stop m more cs rest few small p q
 
     -- no further child
-    pub children_stop : {a : N.NumberRead} → ReadsNumber (λ n rest. space ∷ (decimal n ++ rest)) EndsDigits bytes next a → a ≡ NV.Nothing → ReadsChildren bytes at r
+    pub children_stop : {a : Option NumberRead} → ReadsNumber (λ n rest. space ∷ (decimal n ++ rest)) EndsDigits bytes next a → a ≡ None → ReadsChildren bytes at r
     children_stop da ea = ending (λ m more cs rest few small p q.
         let low : m < word_end = subst (λ (x : ℕ). x < word_end) (ap (λ (x : List ℕ). get_or x count 0) p ∙ get_or_at (take count places) m more 0 count done_long) (small count) in
         da.nothing ea m (children_part more ++ line_feed ∷ rest) low (children_end_digits more rest) (q ∙ children_cons m more (line_feed ∷ rest)))

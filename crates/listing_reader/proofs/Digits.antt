@@ -12,8 +12,8 @@ use native.Mathlib.Numerals.{add-one}
 use native.Mathlib.Nat.{pow-suc, pow-le-pow_right}
 use Rattle.definitions.specs.Listing.{decimal, hex, hex_from, hex_digit, space}
 use Rattle.listing_reader.specs.declared.number.NumberRead.{NumberRead}
-use Rattle.listing_reader.specs.declared.number.NumberRead.TheVariants.{Found, Nothing}
-use Rattle.listing_reader.specs.Numbers.{word_end, is_digit, EndsDigits, Anything, HexValue, ReadsNumber}
+use Rattle.std.specs.Prelude.{Option, Some, None}
+use Rattle.listing_reader.specs.Numbers.{number_read, AfterSpace, word_end, is_digit, EndsDigits, Anything, HexValue, ReadsNumber}
 use Rattle.listing_reader.proofs.Bytes.{here, byte_then, at_start, first_byte, digit_range, range_digit}
 use Rattle.listing_reader.proofs.Found.{reads_found, reads_nothing}
 use Rattle.listing_reader.proofs.Decimal.{decimal_one, decimal_more, first_digit, starts_with_digit, too_large}
@@ -76,13 +76,13 @@ module _ {bytes : List ℕ} {at value next : ℕ} (d : Digits bytes at value nex
         small = s;
       }
 
-  pub digits_over : is_digit (get_or bytes next 0) ≡ true → word_end ≤ value * 10 + (b - 48) → ReadsNumber (λ n rest. decimal n ++ rest) EndsDigits bytes at Nothing
+  pub digits_over : is_digit (get_or bytes next 0) ≡ true → word_end ≤ value * 10 + (b - 48) → ReadsNumber (λ n rest. decimal n ++ rest) EndsDigits bytes at None
   digits_over t s = reads_nothing (λ n rest l f p.
       let r = digit_range (get_or bytes next 0) t in
       let high = r.1 in
       too_large value (b - 48) (drop (next + 1) bytes) d.small (omega arith) s n rest l f (sym (d.text ∙ ap (λ (x : List ℕ). decimal value ++ x) (digit_then t)) ∙ p))
 
-pub digits_end : {bytes : List ℕ} {at value next : ℕ} → Digits bytes at value next → is_digit (get_or bytes next 0) ≡ false → ReadsNumber (λ n rest. decimal n ++ rest) EndsDigits bytes at (Found value next)
+pub digits_end : {bytes : List ℕ} {at value next : ℕ} → Digits bytes at value next → is_digit (get_or bytes next 0) ≡ false → ReadsNumber (λ n rest. decimal n ++ rest) EndsDigits bytes at (Some (number_read value next))
 digits_end {bytes} {at} {value} {next} d t = reads_found value next (record {
   text = d.text;
   follows = record { ends = ap is_digit (at_start bytes next) ∙ t };
@@ -90,7 +90,7 @@ digits_end {bytes} {at} {value} {next} d t = reads_found value next (record {
 })
 
 -- no digit, no number
-pub no_digit : (bytes : List ℕ) (at : ℕ) → is_digit (get_or bytes at 0) ≡ false → ReadsNumber (λ n rest. decimal n ++ rest) EndsDigits bytes at Nothing
+pub no_digit : (bytes : List ℕ) (at : ℕ) → is_digit (get_or bytes at 0) ≡ false → ReadsNumber (λ n rest. decimal n ++ rest) EndsDigits bytes at None
 no_digit bytes at t = reads_nothing (λ n rest l f p.
     false≢true (sym t ∙ sym (ap is_digit (at_start bytes at)) ∙ ap (λ (x : List ℕ). is_digit (get_or x 0 0)) p ∙ starts_with_digit n rest l))
 
@@ -99,7 +99,7 @@ module _ (bytes : List ℕ) (at : ℕ) (is : get_or bytes at 0 ≡ 48) where
   zero_then = byte_then bytes at 48 (omega arith) is ∙ decimal_one 0 (drop (at + 1) bytes) (omega arith)
 
   -- 0 alone
-  pub zero_alone : is_digit (get_or bytes (at + 1) 0) ≡ false → ReadsNumber (λ n rest. decimal n ++ rest) EndsDigits bytes at (Found 0 (at + 1))
+  pub zero_alone : is_digit (get_or bytes (at + 1) 0) ≡ false → ReadsNumber (λ n rest. decimal n ++ rest) EndsDigits bytes at (Some (number_read 0 (at + 1)))
   zero_alone t =
       reads_found 0 (at + 1) (record {
         text = zero_then;
@@ -108,7 +108,7 @@ module _ (bytes : List ℕ) (at : ℕ) (is : get_or bytes at 0 ≡ 48) where
       })
 
   -- no number in fewest digits starts with 0 and goes on
-  pub leading_zero : is_digit (get_or bytes (at + 1) 0) ≡ true → ReadsNumber (λ n rest. decimal n ++ rest) EndsDigits bytes at Nothing
+  pub leading_zero : is_digit (get_or bytes (at + 1) 0) ≡ true → ReadsNumber (λ n rest. decimal n ++ rest) EndsDigits bytes at None
   leading_zero t = reads_nothing (λ n rest l f p. go n rest l f p)
     where
       go : (n : ℕ) (rest : List ℕ) → n < word_end → EndsDigits rest → drop at bytes ≡ decimal n ++ rest → ⊥
@@ -171,7 +171,7 @@ module _ {bytes : List ℕ} {at value next read : ℕ} (h : HexDigits bytes at v
       }
 
   -- no digit, no number
-  pub no_hex : d ≡ 16 → read < 16 → ReadsNumber (λ n rest. hex n ++ rest) Anything bytes at Nothing
+  pub no_hex : d ≡ 16 → read < 16 → ReadsNumber (λ n rest. hex n ++ rest) Anything bytes at None
   no_hex l r = reads_nothing (λ n rest s f p.
       let g = digit_at 16 n rest read r in
       let i = h.here in
@@ -188,7 +188,7 @@ fits_more {value = value} {read = read} h l =
     let p : 16 ^ read ≤ 16 ^ 15 = pow-le-pow_right {n = 16} (omega arith) {i = read} {j = 15} (omega arith) in
     omega arith
 
-pub hex_end : {bytes : List ℕ} {at value next read : ℕ} → HexDigits bytes at value next read → 16 ≤ read → ReadsNumber (λ n rest. hex n ++ rest) Anything bytes at (Found value next)
+pub hex_end : {bytes : List ℕ} {at value next read : ℕ} → HexDigits bytes at value next read → 16 ≤ read → ReadsNumber (λ n rest. hex n ++ rest) Anything bytes at (Some (number_read value next))
 hex_end {bytes} {at} {value} {next} {read} h l =
     let f : read ≤ 16 = h.few in
     let z : read ≡ 16 = omega arith in
@@ -200,18 +200,27 @@ hex_end {bytes} {at} {value} {next} {read} h l =
 
 -- ---- after a space
 
-module _ (spell : ℕ → List ℕ → List ℕ) (Follows : List ℕ → Type 0) (bytes : List ℕ) (at b : ℕ) (e : b ≡ get_or bytes at 0) where
-  pub no_space : (b ≡ space → ⊥) → ReadsNumber (λ n rest. space ∷ spell n rest) Follows bytes at Nothing
-  no_space h = reads_nothing (λ n rest l f p. h (e ∙ first_byte bytes at space (spell n rest) p))
+pub no_space : (bytes : List ℕ) (at b : ℕ) → b ≡ get_or bytes at 0 → (b ≡ space → ⊥) → AfterSpace bytes at None
+no_space bytes at b e h = record { found = λ next q. absurd (let z : ◌≡◌ {A = ℕ} 0 1 = cc in omega arith); nothing = λ q rest p. h (e ∙ first_byte bytes at space rest p) }
 
-  pub after_space : (r : NumberRead) → b ≡ space → ReadsNumber spell Follows bytes (at + 1) r → ReadsNumber (λ n rest. space ∷ spell n rest) Follows bytes at r
-  after_space r h d = record {
-    found = λ n next q. let s = d.found n next q in record { text = here_then ∙ ap (λ (x : List ℕ). space ∷ x) s.text; follows = s.follows; small = s.small };
+pub one_space : (bytes : List ℕ) (at b : ℕ) → b ≡ get_or bytes at 0 → b ≡ space → AfterSpace bytes at (Some (at + 1))
+one_space bytes at b e h = record {
+  found = λ next q. let n : at + 1 ≡ next = cc in byte_then bytes at space (omega arith) (sym e ∙ h) ∙ ap (λ (j : ℕ). space ∷ drop j bytes) n;
+  nothing = λ q. absurd (let z : ◌≡◌ {A = ℕ} 0 1 = cc in omega arith);
+}
+
+module _ (spell : ℕ → List ℕ → List ℕ) (Follows : List ℕ → Type 0) (bytes : List ℕ) (at : ℕ) where
+  pub spaced_not : AfterSpace bytes at None → ReadsNumber (λ n rest. space ∷ spell n rest) Follows bytes at None
+  spaced_not s = reads_nothing (λ n rest l f p. s.nothing refl (spell n rest) p)
+
+  pub spaced_number : (next : ℕ) → AfterSpace bytes at (Some next) → (r : Option NumberRead) → ReadsNumber spell Follows bytes next r → ReadsNumber (λ n rest. space ∷ spell n rest) Follows bytes at r
+  spaced_number next s r d = record {
+    found = λ n after q. let t = d.found n after q in record { text = here_then ∙ ap (λ (x : List ℕ). space ∷ x) t.text; follows = t.follows; small = t.small };
     nothing = λ q n rest l f p. d.nothing q n rest l f (ap (drop 1) (sym here_then ∙ p));
   }
     where
-      here_then : drop at bytes ≡ space ∷ drop (at + 1) bytes
-      here_then = byte_then bytes at space (omega arith) (sym e ∙ h)
+      here_then : drop at bytes ≡ space ∷ drop next bytes
+      here_then = s.found next refl
 
 -- ---- the value of a hex digit
 

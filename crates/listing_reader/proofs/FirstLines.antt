@@ -9,13 +9,12 @@ use Rattle.definitions.specs.Listing.{space, line_feed, decimal, ok_word, spent_
 use Rattle.listing_lines.specs.declared.SheetOutcome.{SheetOutcome}
 use Rattle.listing_lines.specs.declared.SheetOutcome.TheVariants.{Ok, Empty, Spent, Refused}
 use Rattle.listing_lines.specs.Outcome.{first_line_of}
-use Rattle.listing_reader.specs.declared.number.NumberRead as N
-use Rattle.listing_reader.specs.declared.number.NumberRead.TheVariants as NV
-use Rattle.listing_reader.specs.declared.first.First.{First}
-use Rattle.listing_reader.specs.declared.first.First.TheVariants.{Found, Nothing}
-use Rattle.listing_reader.specs.Numbers.{EndsDigits, Anything, ReadsNumber}
+use Rattle.std.specs.Prelude.{Option, Some, None}
+use Rattle.listing_reader.specs.declared.number.NumberRead.{NumberRead}
+use Rattle.listing_reader.specs.declared.first.FirstLine.{FirstLine}
+use Rattle.listing_reader.specs.Numbers.{number_read, EndsDigits, Anything, ReadsNumber}
 use Rattle.listing_reader.specs.Words.{StartsWith}
-use Rattle.listing_reader.specs.First.{SmallOutcome, FirstAt, NoFirst, ReadsFirst, ReadsRefused}
+use Rattle.listing_reader.specs.First.{first_read, SmallOutcome, FirstAt, NoFirst, ReadsFirst, ReadsRefused}
 use Rattle.listing_reader.proofs.Found.{Unique, only, behind}
 use Rattle.listing_reader.proofs.Decimal.{decimal_unique}
 use Rattle.listing_reader.proofs.Words.{behind_word}
@@ -56,27 +55,27 @@ refused_text_lem number at rest = ap (λ (x : List ℕ). refused_word ++ (space 
 
 -- ---- found, or not
 
-pub first_found : {bytes : List ℕ} (o : SheetOutcome) (next : ℕ) → FirstAt bytes o next → ReadsFirst bytes (Found o next)
+pub first_found : {bytes : List ℕ} (o : SheetOutcome) (next : ℕ) → FirstAt bytes o next → ReadsFirst bytes (Some (first_read o next))
 first_found {bytes} o next f = record {
-  found = λ p to e. let a : o ≡ p = cc in let b : next ≡ to = cc in subst (λ (t : ℕ). FirstAt bytes p t) b (subst (λ (q : SheetOutcome). FirstAt bytes q next) a f);
+  found = λ p to e. let a : first_read o next ≡ first_read p to = cc in subst (λ (x : FirstLine). FirstAt bytes x.outcome x.next) a f;
   nothing = λ e. absurd (let z : ◌≡◌ {A = ℕ} 0 1 = cc in omega arith);
 }
 
-pub empty_first : {bytes : List ℕ} {t : Bool} → StartsWith bytes 0 (ok_word ++ space ∷ dash ++ line_feed ∷ []) t → t ≡ true → ReadsFirst bytes (Found Empty 5)
+pub empty_first : {bytes : List ℕ} {t : Bool} → StartsWith bytes 0 (ok_word ++ space ∷ dash ++ line_feed ∷ []) t → t ≡ true → ReadsFirst bytes (Some (first_read Empty 5))
 empty_first {bytes} s e = first_found Empty 5 (record { text = s.text e ∙ sym (empty_text (drop 5 bytes)); small = tt })
 
-module _ {bytes : List ℕ} {r : N.NumberRead} {v next : ℕ} (e : r ≡ NV.Found v next) where
-  pub ok_first : ReadsNumber (line_behind ok_word) Anything bytes 0 r → ReadsFirst bytes (Found (Ok v) next)
+module _ {bytes : List ℕ} {r : Option NumberRead} {v next : ℕ} (e : r ≡ Some (number_read v next)) where
+  pub ok_first : ReadsNumber (line_behind ok_word) Anything bytes 0 r → ReadsFirst bytes (Some (first_read (Ok v) next))
   ok_first d = let s = d.found v next e in first_found (Ok v) next (record { text = s.text ∙ sym (ok_text v (drop next bytes)); small = s.small })
 
-  pub spent_first : ReadsNumber (line_behind spent_word) Anything bytes 0 r → ReadsFirst bytes (Found (Spent v) next)
+  pub spent_first : ReadsNumber (line_behind spent_word) Anything bytes 0 r → ReadsFirst bytes (Some (first_read (Spent v) next))
   spent_first d = let s = d.found v next e in first_found (Spent v) next (record { text = s.text ∙ sym (spent_text v (drop next bytes)); small = s.small })
 
 -- none of the other first lines: it is a refusal's, or none
-pub last_first : {bytes : List ℕ} {t : Bool} {a b : N.NumberRead} {r : First} → StartsWith bytes 0 (ok_word ++ space ∷ dash ++ line_feed ∷ []) t → t ≡ false → ReadsNumber (line_behind ok_word) Anything bytes 0 a → a ≡ NV.Nothing → ReadsNumber (line_behind spent_word) Anything bytes 0 b → b ≡ NV.Nothing → ReadsRefused bytes r → ReadsFirst bytes r
+pub last_first : {bytes : List ℕ} {t : Bool} {a b : Option NumberRead} {r : Option FirstLine} → StartsWith bytes 0 (ok_word ++ space ∷ dash ++ line_feed ∷ []) t → t ≡ false → ReadsNumber (line_behind ok_word) Anything bytes 0 a → a ≡ None → ReadsNumber (line_behind spent_word) Anything bytes 0 b → b ≡ None → ReadsRefused bytes r → ReadsFirst bytes r
 last_first {bytes} {r = r} s e da ea db eb d = record { found = d.found; nothing = none }
   where
-    none : r ≡ Nothing → NoFirst bytes
+    none : r ≡ None → NoFirst bytes
     none n (Ok i) rest l p = da.nothing ea i rest l (record {}) (p ∙ ok_text i rest)
     none n Empty rest l p = s.nothing e rest (p ∙ empty_text rest)
     none n (Spent i) rest l p = db.nothing eb i rest l (record {}) (p ∙ spent_text i rest)
@@ -84,20 +83,20 @@ last_first {bytes} {r = r} s e da ea db eb d = record { found = d.found; nothing
 
 -- ---- a refusal's line
 
-module _ {bytes : List ℕ} {a : N.NumberRead} (da : ReadsNumber (λ n rest. refused_word ++ (space ∷ (decimal n ++ rest))) EndsDigits bytes 0 a) where
-  none_refused : ((number at : ℕ) (rest : List ℕ) → SmallOutcome (Refused number at) → bytes ≡ first_line_of (Refused number at) ++ line_feed ∷ rest → ⊥) → ReadsRefused bytes Nothing
+module _ {bytes : List ℕ} {a : Option NumberRead} (da : ReadsNumber (λ n rest. refused_word ++ (space ∷ (decimal n ++ rest))) EndsDigits bytes 0 a) where
+  none_refused : ((number at : ℕ) (rest : List ℕ) → SmallOutcome (Refused number at) → bytes ≡ first_line_of (Refused number at) ++ line_feed ∷ rest → ⊥) → ReadsRefused bytes None
   none_refused h = record { found = λ o next e. absurd (let z : ◌≡◌ {A = ℕ} 0 1 = cc in omega arith); nothing = λ e. h }
 
-  pub no_refusal : a ≡ NV.Nothing → ReadsRefused bytes Nothing
+  pub no_refusal : a ≡ None → ReadsRefused bytes None
   no_refusal e = none_refused (λ number at rest l p. da.nothing e number (line_behind (space ∷ at_word) at rest) l.0 (record { ends = refl }) (p ∙ refused_text_lem number at rest))
 
-  module _ {v next : ℕ} (ea : a ≡ NV.Found v next) {b : N.NumberRead} (db : ReadsNumber (line_behind (space ∷ at_word)) Anything bytes next b) where
-    pub no_record : b ≡ NV.Nothing → ReadsRefused bytes Nothing
+  module _ {v next : ℕ} (ea : a ≡ Some (number_read v next)) {b : Option NumberRead} (db : ReadsNumber (line_behind (space ∷ at_word)) Anything bytes next b) where
+    pub no_record : b ≡ None → ReadsRefused bytes None
     no_record e = none_refused (λ number at rest l p.
         let o = only (word_unique refused_word) (da.found v next ea) number (line_behind (space ∷ at_word) at rest) l.0 (record { ends = refl }) (p ∙ refused_text_lem number at rest) in
         db.nothing e at rest l.1 (record {}) o.1)
 
-    pub refusal_found : {w to : ℕ} → b ≡ NV.Found w to → ReadsRefused bytes (Found (Refused v w) to)
+    pub refusal_found : {w to : ℕ} → b ≡ Some (number_read w to) → ReadsRefused bytes (Some (first_read (Refused v w) to))
     refusal_found {w} {to} e =
         let s = da.found v next ea in
         let t = db.found w to e in

@@ -5,11 +5,11 @@ use mathlib.Core.List.{List, ◌∷◌, ◌++◌}
 use lib.ListN.{drop}
 use native.Mathlib.Omega.{arith}
 use Rattle.definitions.specs.Listing.{space, decimal, hex}
-use Rattle.listing_reader.specs.declared.number.NumberRead as N
-use Rattle.listing_reader.specs.declared.number.NumberRead.TheVariants as NV
-use Rattle.listing_reader.specs.declared.node.Heading.TheVariants.{Found, Nothing}
-use Rattle.listing_reader.specs.Numbers.{EndsDigits, Anything, Spelled, ReadsNumber}
-use Rattle.listing_reader.specs.Line.{headed, SmallHeading, HeadingAt, ReadsHeading}
+use Rattle.std.specs.Prelude.{Option, Some, None}
+use Rattle.listing_reader.specs.declared.number.NumberRead.{NumberRead}
+use Rattle.listing_reader.specs.declared.node.Heading.{Heading}
+use Rattle.listing_reader.specs.Numbers.{number_read, EndsDigits, Anything, Spelled, ReadsNumber}
+use Rattle.listing_reader.specs.Line.{heading, headed, SmallHeading, HeadingAt, ReadsHeading}
 use Rattle.listing_reader.proofs.Found.{Unique, only, behind}
 use Rattle.listing_reader.proofs.Decimal.{decimal_unique}
 use Rattle.listing_reader.proofs.Hex.{hex_unique}
@@ -51,43 +51,37 @@ headed_unique {id} {kind} {payload} {flags} {id'} {kind'} {payload'} {flags'} {r
 
 -- ---- read number by number
 
-no_heading : {bytes : List ℕ} {at : ℕ} → ((id kind payload flags : ℕ) (rest : List ℕ) → SmallHeading id kind payload flags → EndsDigits rest → drop at bytes ≡ headed id kind payload flags rest → ⊥) → ReadsHeading bytes at Nothing
+no_heading : {bytes : List ℕ} {at : ℕ} → ((id kind payload flags : ℕ) (rest : List ℕ) → SmallHeading id kind payload flags → EndsDigits rest → drop at bytes ≡ headed id kind payload flags rest → ⊥) → ReadsHeading bytes at None
 no_heading h = record { found = λ i k p f n e. absurd (let z : ◌≡◌ {A = ℕ} 0 1 = cc in omega arith); nothing = λ e. h }
 
-module _ {bytes : List ℕ} {at : ℕ} {r1 : N.NumberRead} (d1 : ReadsNumber (λ n rest. decimal n ++ rest) EndsDigits bytes at r1) where
-  pub no_id : r1 ≡ NV.Nothing → ReadsHeading bytes at Nothing
+module _ {bytes : List ℕ} {at : ℕ} {r1 : Option NumberRead} (d1 : ReadsNumber (λ n rest. decimal n ++ rest) EndsDigits bytes at r1) where
+  pub no_id : r1 ≡ None → ReadsHeading bytes at None
   no_id e = no_heading (λ i k p f rest s g t. d1.nothing e i (after_id k p f rest) s.id_small (space_ends _) t)
 
-  module _ {v1 n1 : ℕ} (e1 : r1 ≡ NV.Found v1 n1) {r2 : N.NumberRead} (d2 : ReadsNumber (λ n rest. space ∷ (decimal n ++ rest)) EndsDigits bytes n1 r2) where
+  module _ {v1 n1 : ℕ} (e1 : r1 ≡ Some (number_read v1 n1)) {r2 : Option NumberRead} (d2 : ReadsNumber (λ n rest. space ∷ (decimal n ++ rest)) EndsDigits bytes n1 r2) where
     after_id_lem : (i k p f : ℕ) (rest : List ℕ) → SmallHeading i k p f → drop at bytes ≡ headed i k p f rest → drop n1 bytes ≡ after_id k p f rest
     after_id_lem i k p f rest s t = (only decimal_unique (d1.found v1 n1 e1) i (after_id k p f rest) s.id_small (space_ends _) t).1
 
-    pub no_kind : r2 ≡ NV.Nothing → ReadsHeading bytes at Nothing
+    pub no_kind : r2 ≡ None → ReadsHeading bytes at None
     no_kind e = no_heading (λ i k p f rest s g t. d2.nothing e k (after_kind p f rest) s.kind_small (space_ends _) (after_id_lem i k p f rest s t))
 
-    module _ {v2 n2 : ℕ} (e2 : r2 ≡ NV.Found v2 n2) {r3 : N.NumberRead} (d3 : ReadsNumber (λ n rest. space ∷ (hex n ++ rest)) Anything bytes n2 r3) where
+    module _ {v2 n2 : ℕ} (e2 : r2 ≡ Some (number_read v2 n2)) {r3 : Option NumberRead} (d3 : ReadsNumber (λ n rest. space ∷ (hex n ++ rest)) Anything bytes n2 r3) where
       after_kind_lem : (i k p f : ℕ) (rest : List ℕ) → SmallHeading i k p f → drop at bytes ≡ headed i k p f rest → drop n2 bytes ≡ after_kind p f rest
       after_kind_lem i k p f rest s t = (only spaced_unique (d2.found v2 n2 e2) k (after_kind p f rest) s.kind_small (space_ends _) (after_id_lem i k p f rest s t)).1
 
-      pub no_payload : r3 ≡ NV.Nothing → ReadsHeading bytes at Nothing
+      pub no_payload : r3 ≡ None → ReadsHeading bytes at None
       no_payload e = no_heading (λ i k p f rest s g t. d3.nothing e p (after_payload f rest) s.payload_small (record {}) (after_kind_lem i k p f rest s t))
 
-      module _ {v3 n3 : ℕ} (e3 : r3 ≡ NV.Found v3 n3) {r4 : N.NumberRead} (d4 : ReadsNumber (λ n rest. space ∷ (decimal n ++ rest)) EndsDigits bytes n3 r4) where
+      module _ {v3 n3 : ℕ} (e3 : r3 ≡ Some (number_read v3 n3)) {r4 : Option NumberRead} (d4 : ReadsNumber (λ n rest. space ∷ (decimal n ++ rest)) EndsDigits bytes n3 r4) where
         after_payload_lem : (i k p f : ℕ) (rest : List ℕ) → SmallHeading i k p f → drop at bytes ≡ headed i k p f rest → drop n3 bytes ≡ after_payload f rest
         after_payload_lem i k p f rest s t = (only hex_spaced_unique (d3.found v3 n3 e3) p (after_payload f rest) s.payload_small (record {}) (after_kind_lem i k p f rest s t)).1
 
-        pub no_flags : r4 ≡ NV.Nothing → ReadsHeading bytes at Nothing
+        pub no_flags : r4 ≡ None → ReadsHeading bytes at None
         no_flags e = no_heading (λ i k p f rest s g t. d4.nothing e f rest s.flags_small g (after_payload_lem i k p f rest s t))
 
-        pub heading_found : {v4 n4 : ℕ} → r4 ≡ NV.Found v4 n4 → ReadsHeading bytes at (Found v1 v2 v3 v4 n4)
+        pub heading_found : {v4 n4 : ℕ} → r4 ≡ Some (number_read v4 n4) → ReadsHeading bytes at (Some (heading v1 v2 v3 v4 n4))
         heading_found {v4} {n4} e4 = record {
-          found = λ i k p f n e.
-              let a : v1 ≡ i = cc in
-              let b : v2 ≡ k = cc in
-              let c : v3 ≡ p = cc in
-              let d : v4 ≡ f = cc in
-              let g : n4 ≡ n = cc in
-              subst (λ (x : ℕ). HeadingAt bytes at i k p f x) g (subst (λ (x : ℕ). HeadingAt bytes at i k p x n4) d (subst (λ (x : ℕ). HeadingAt bytes at i k x v4 n4) c (subst (λ (x : ℕ). HeadingAt bytes at i x v3 v4 n4) b (subst (λ (x : ℕ). HeadingAt bytes at x v2 v3 v4 n4) a whole))));
+          found = λ i k p f n e. let h : heading v1 v2 v3 v4 n4 ≡ heading i k p f n = cc in subst (λ (x : Heading). HeadingAt bytes at x.id x.kind x.payload x.flags x.next) h whole;
           nothing = λ e. absurd (let z : ◌≡◌ {A = ℕ} 0 1 = cc in omega arith);
         }
           where

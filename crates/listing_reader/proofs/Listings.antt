@@ -21,6 +21,7 @@ use Rattle.listing_lines.specs.declared.SheetOutcome.TheVariants as O
 use Rattle.listing_lines.specs.Outcome.{first_line_of}
 use Rattle.listing_reader.specs.declared.ListingAnswer.TheVariants.{Read, Refused, Full}
 use Rattle.listing_reader.specs.declared.node.ListedNode.{ListedNode}
+use Rattle.std.specs.Prelude.{Option, Some, None}
 use Rattle.listing_reader.specs.Numbers.{word_end, is_digit}
 use Rattle.listing_reader.specs.First.{SmallOutcome, FirstAt, NoFirst}
 use Rattle.listing_reader.specs.Line.{LineOf, NoLine, ReadsLine}
@@ -227,26 +228,26 @@ module _ {bytes : List ℕ} {o : SheetOutcome} {before after : List ℕ} {at cou
     pub too_many : count ≡ most_nodes → ListingReading bytes before (Refused (count + 2)) after
     too_many e = wrong (λ m. absurd (omega arith))
 
-    module _ {q : ListedNode} (r : ReadsLine bytes at count q) where
-      pub wrong_line : q.found ≡ false → ListingReading bytes before (Refused (count + 2)) after
-      wrong_line e = wrong (λ m. r.nothing e (omega arith))
+    pub wrong_line : {q : Option ListedNode} → ReadsLine bytes at count q → q ≡ None → ListingReading bytes before (Refused (count + 2)) after
+    wrong_line r e = wrong (λ m. r.nothing e (omega arith))
 
-      pub no_place : q.found ≡ true → (count ≡ most_nodes → ⊥) → length after / node_words ≤ count → ListingReading bytes before Full after
-      no_place e n m =
+    module _ {q : ListedNode} (r : ReadsLine bytes at count (Some q)) where
+      pub no_place : (count ≡ most_nodes → ⊥) → length after / node_words ≤ count → ListingReading bytes before Full after
+      no_place n m =
           let f : count * node_words ≤ length after = d.begins.formed.fits in
           let g : length after ≡ length before = d.long in
           let z : count ≡ length before / node_words = omega arith in
           let few = d.begins.formed.many in
           reading_full bytes before after g
-          (subst (λ (k : ℕ). OneMore bytes after k) z (record { many = omega arith; outcome = o; rest = drop at bytes; node = q.node; after = drop q.next bytes; begins = d.begins; line = r.found e }))
+          (subst (λ (k : ℕ). OneMore bytes after k) z (record { many = omega arith; outcome = o; rest = drop at bytes; node = q.node; after = drop q.next bytes; begins = d.begins; line = r.found q refl }))
           (subst (λ (k : ℕ). drop (k * node_words) after ≡ drop (k * node_words) before) z d.past)
 
-  lines_one : {q : ListedNode} → ReadsLine bytes at count q → q.found ≡ true → (count ≡ most_nodes → ⊥) → count < length after / node_words → LinesRead bytes o before (put after count q.node) q.next (count + 1)
-  lines_one {q} r e n m =
+  lines_one : {q : ListedNode} → ReadsLine bytes at count (Some q) → (count ≡ most_nodes → ⊥) → count < length after / node_words → LinesRead bytes o before (put after count q.node) q.next (count + 1)
+  lines_one {q} r n m =
       let k = d.begins.formed.many in
       let many : count < most_nodes = omega arith in
       let fits : count * node_words + node_words ≤ length after = omega arith in
-      let t : LineOf (drop at bytes) count q.node (drop q.next bytes) = r.found e in
+      let t : LineOf (drop at bytes) count q.node (drop q.next bytes) = r.found q refl in
       record {
         begins = record {
           text =
@@ -274,8 +275,8 @@ module _ {bytes : List ℕ} {o : SheetOutcome} {before after : List ℕ} {at cou
           ∙ drop-drop node_words (count * node_words) before
           ∙ sym (ap (λ (j : ℕ). drop j before) z)
 
-  pub lines_next : {q : ListedNode} {w : List ℕ} → ReadsLine bytes at count q → q.found ≡ true → (count ≡ most_nodes → ⊥) → count < length after / node_words → w ≡ put after count q.node → LinesRead bytes o before w q.next (count + 1)
-  lines_next {q} r e n m p = subst (λ (x : List ℕ). LinesRead bytes o before x q.next (count + 1)) (sym p) (lines_one r e n m)
+  pub lines_next : {q : ListedNode} {w : List ℕ} → ReadsLine bytes at count (Some q) → (count ≡ most_nodes → ⊥) → count < length after / node_words → w ≡ put after count q.node → LinesRead bytes o before w q.next (count + 1)
+  lines_next {q} r n m p = subst (λ (x : List ℕ). LinesRead bytes o before x q.next (count + 1)) (sym p) (lines_one r n m)
 
 -- no first line
 pub no_first : (bytes before : List ℕ) → NoFirst bytes → ListingReading bytes before (Refused 1) before

@@ -20,12 +20,12 @@ use Rattle.child_places.specs.Places.{LowerChildren}
 use Rattle.arena.specs.Nodes.{WellFormed}
 use Rattle.kinds.proofs.Listing.{listed_few, no_kind}
 use Rattle.store.specs.View.{plain_node}
-use Rattle.listing_reader.specs.declared.node.Heading as H
-use Rattle.listing_reader.specs.declared.node.Heading.TheVariants as HV
+use Rattle.std.specs.Prelude.{Option, Some, None}
+use Rattle.listing_reader.specs.declared.node.Heading.{Heading}
 use Rattle.listing_reader.specs.declared.node.Children.{Children}
 use Rattle.listing_reader.specs.declared.node.ListedNode.{ListedNode}
 use Rattle.listing_reader.specs.Numbers.{word_end}
-use Rattle.listing_reader.specs.Line.{headed, SmallHeading, HeadingAt, ReadsHeading, PlacedChildren, ReadsChildren, LineOf, NoLine, ReadsLine}
+use Rattle.listing_reader.specs.Line.{heading, headed, SmallHeading, HeadingAt, ReadsHeading, PlacedChildren, ReadsChildren, LineOf, NoLine, ReadsLine}
 use Rattle.listing_reader.proofs.Headings.{SameHeading, headed_unique}
 use Rattle.listing_reader.proofs.ChildLines.{children_end_digits, children_unique}
 
@@ -115,90 +115,92 @@ same_places places count children arity pf pc pu cf ca cu e = (same, ext_get_or 
 
 -- ---- the line of a node, or none
 
-not_found : {bytes : List ℕ} {at id : ℕ} {q : ListedNode} → q.found ≡ false → (id < word_end → NoLine (drop at bytes) id) → ReadsLine bytes at id q
-not_found e h = record { found = λ t. absurd (false≢true (sym e ∙ t)); nothing = λ t. h }
+not_found : {bytes : List ℕ} {at id : ℕ} → (id < word_end → NoLine (drop at bytes) id) → ReadsLine bytes at id None
+not_found h = record { found = λ n t. absurd (let z : ◌≡◌ {A = ℕ} 0 1 = cc in omega arith); nothing = λ t. h }
 
-pub no_heading_line : {bytes : List ℕ} {at id : ℕ} {q : ListedNode} {r : H.Heading} → ReadsHeading bytes at r → r ≡ HV.Nothing → q.found ≡ false → ReadsLine bytes at id q
-no_heading_line {id = id} d e z = not_found z (λ low n rest l. d.nothing e id n.kind n.payload n.flags (children_part (children_of n) ++ line_feed ∷ rest) (small_heading l low) (children_end_digits (children_of n) rest) (in_order_is l))
+pub no_heading_line : {bytes : List ℕ} {at id : ℕ} {r : Option Heading} → ReadsHeading bytes at r → r ≡ None → ReadsLine bytes at id None
+no_heading_line {id = id} d e = not_found (λ low n rest l. d.nothing e id n.kind n.payload n.flags (children_part (children_of n) ++ line_feed ∷ rest) (small_heading l low) (children_end_digits (children_of n) rest) (in_order_is l))
 
-module _ {bytes : List ℕ} {at : ℕ} {r : H.Heading} (d : ReadsHeading bytes at r) {i k p f next : ℕ} (e : r ≡ HV.Found i k p f next) where
-  heading : HeadingAt bytes at i k p f next
-  heading = d.found i k p f next e
+module _ {bytes : List ℕ} {at : ℕ} {r : Option Heading} (d : ReadsHeading bytes at r) {i k p f next : ℕ} (e : r ≡ Some (heading i k p f next)) where
+  headed_here : HeadingAt bytes at i k p f next
+  headed_here = d.found i k p f next e
 
-  pub other_id : {id : ℕ} {q : ListedNode} → (i ≡ id → ⊥) → q.found ≡ false → ReadsLine bytes at id q
-  other_id h z = not_found z (λ low n rest l. h (agrees l low refl heading).ids)
+  pub other_id : {id : ℕ} → (i ≡ id → ⊥) → ReadsLine bytes at id None
+  other_id h = not_found (λ low n rest l. h (agrees l low refl headed_here).ids)
 
-  pub other_flags : {id : ℕ} {q : ListedNode} → flags_end ≤ f → q.found ≡ false → ReadsLine bytes at id q
-  other_flags h z = not_found z (λ low n rest l.
+  pub other_flags : {id : ℕ} → flags_end ≤ f → ReadsLine bytes at id None
+  other_flags h = not_found (λ low n rest l.
       let m : n.flags < flags_end = l.formed.marks in
-      let s : f ≡ n.flags = (agrees l low refl heading).flag in
+      let s : f ≡ n.flags = (agrees l low refl headed_here).flag in
       omega arith)
 
-  module _ {cr : Children} (dc : ReadsChildren bytes next cr) where
-    pub other_children : {id : ℕ} {q : ListedNode} → cr.found ≡ false → q.found ≡ false → ReadsLine bytes at id q
-    other_children h z = not_found z (λ low n rest l.
-        dc.nothing h (children_of n) rest (let a = children_long l in let b = few_children l in omega arith) (small_children l low) (agrees l low refl heading).rests)
+  pub other_children : {id : ℕ} {cr : Option Children} → ReadsChildren bytes next cr → cr ≡ None → ReadsLine bytes at id None
+  other_children dc h = not_found (λ low n rest l.
+      dc.nothing h (children_of n) rest (let a = children_long l in let b = few_children l in omega arith) (small_children l low) (agrees l low refl headed_here).rests)
 
-    module _ (hc : cr.found ≡ true) where
-      placed : PlacedChildren cr.places cr.count
-      placed = dc.placed hc
+  module _ {cr : Children} (dc : ReadsChildren bytes next (Some cr)) where
+    placed : PlacedChildren cr.places cr.count
+    placed = dc.placed cr refl
 
-      read_small : (j : ℕ) → get_or (take cr.count cr.places) j 0 < word_end
-      read_small j = go (dec_lt j cr.count)
+    read_small : (j : ℕ) → get_or (take cr.count cr.places) j 0 < word_end
+    read_small j = go (dec_lt j cr.count)
+      where
+        go : Dec (j < cr.count) → get_or (take cr.count cr.places) j 0 < word_end
+        go (yes k) = subst (λ (x : ℕ). x < word_end) (sym (get_or-take cr.count cr.places j 0 k)) (placed.small j)
+        go (no k) =
+            let a : length (take cr.count cr.places) ≡ cr.count = length-take-le cr.count cr.places (let f = placed.four in let g = placed.few in omega arith) in
+            let m : length (take cr.count cr.places) ≤ j = omega arith in
+            let e : get_or (take cr.count cr.places) j 0 ≡ 0 = get_or-eq_default (take cr.count cr.places) 0 m in
+            omega arith
+
+    same_node : {id : ℕ} (n : DagNode) (rest : List ℕ) → id < word_end → LineOf (drop at bytes) id n rest → (cr.count ≡ n.arity) × (cr.places ≡ n.children)
+    same_node {id} n rest low l =
+        let u = children_unique (take cr.count cr.places) (children_of n) (drop cr.next bytes) rest read_small (small_children l low) (sym (dc.text cr refl) ∙ (agrees l low refl headed_here).rests) in
+        same_places cr.places cr.count n.children n.arity placed.four placed.few placed.unused l.four (few_children l) l.formed.places.unused u.0
+
+    pub other_kind : {id : ℕ} {t : Bool} → t ≡ listed k p cr.count → t ≡ false → ReadsLine bytes at id None
+    other_kind {t = t} h g = not_found (λ low n rest l.
+        let a = agrees l low refl headed_here in
+        let c : cr.count ≡ n.arity = (same_node n rest low l).0 in
+        let m : k ≡ n.kind = a.kinds in
+        let o : p ≡ n.payload = a.payloads in
+        let s : listed k p cr.count ≡ true = ap (λ (x : ℕ). listed x p cr.count) m ∙ ap₂ (λ (x y : ℕ). listed n.kind x y) o c ∙ l.formed.kinds in
+        false≢true (sym g ∙ h ∙ s))
+
+    pub other_places : {id : ℕ} {t : Bool} → i ≡ id → Says t (LowerChildren i cr.count cr.places) → t ≡ false → ReadsLine bytes at id None
+    other_places {id} {t = t} w h g = not_found (λ low n rest l.
+        let s = same_node n rest low l in
+        h.no g (subst (λ (x : ℕ). LowerChildren x cr.count cr.places) (sym w)
+        (subst (λ (x : ℕ). LowerChildren id x cr.places) (sym s.0) (subst (λ (x : List ℕ). LowerChildren id n.arity x) (sym s.1) l.formed.places))))
+
+    module _ {id : ℕ} (w : i ≡ id) (few : f < flags_end) {t u : Bool} (h : t ≡ listed k p cr.count) (ht : t ≡ true) (g : Says u (LowerChildren i cr.count cr.places)) (gt : u ≡ true) where
+      formed : WellFormed id (new_node k p f cr.count cr.places)
+      unfolding new_node node_hash
+      formed = record {
+        kinds = sym h ∙ ht;
+        places = subst (λ (x : ℕ). LowerChildren x cr.count cr.places) w (g.yes gt);
+        marks = few;
+        hashed = refl;
+        weighed = refl;
+      }
+
+      line : (rest : List ℕ) → drop next bytes ≡ children_part (take cr.count cr.places) ++ line_feed ∷ rest → LineOf (drop at bytes) id (new_node k p f cr.count cr.places) rest
+      unfolding new_node
+      line rest e = record {
+        is = headed_here.text ∙ ap₂ (λ (x : ℕ) (y : List ℕ). headed x k p f y) w e ∙ sym (node_text id (new_node k p f cr.count cr.places) rest few);
+        formed = formed;
+        four = placed.four;
+        wide = headed_here.small.payload_small;
+      }
+
+      pub line_found : {q : ListedNode} → q.node ≡ new_node k p f cr.count cr.places → q.next ≡ cr.next → ReadsLine bytes at id (Some q)
+      line_found {q} m o = record {
+        found = λ n e. let s : q ≡ n = cc in subst (λ (x : ListedNode). LineOf (drop at bytes) id x.node (drop x.next bytes)) s here;
+        nothing = λ e. absurd (let z : ◌≡◌ {A = ℕ} 0 1 = cc in omega arith);
+      }
         where
-          go : Dec (j < cr.count) → get_or (take cr.count cr.places) j 0 < word_end
-          go (yes k) = subst (λ (x : ℕ). x < word_end) (sym (get_or-take cr.count cr.places j 0 k)) (placed.small j)
-          go (no k) =
-              let a : length (take cr.count cr.places) ≡ cr.count = length-take-le cr.count cr.places (let f = placed.four in let g = placed.few in omega arith) in
-              let m : length (take cr.count cr.places) ≤ j = omega arith in
-              let e : get_or (take cr.count cr.places) j 0 ≡ 0 = get_or-eq_default (take cr.count cr.places) 0 m in
-              omega arith
-
-      same_node : {id : ℕ} (n : DagNode) (rest : List ℕ) → id < word_end → LineOf (drop at bytes) id n rest → (cr.count ≡ n.arity) × (cr.places ≡ n.children)
-      same_node {id} n rest low l =
-          let u = children_unique (take cr.count cr.places) (children_of n) (drop cr.next bytes) rest read_small (small_children l low) (sym (dc.text hc) ∙ (agrees l low refl heading).rests) in
-          same_places cr.places cr.count n.children n.arity placed.four placed.few placed.unused l.four (few_children l) l.formed.places.unused u.0
-
-      pub other_kind : {id : ℕ} {q : ListedNode} {t : Bool} → t ≡ listed k p cr.count → t ≡ false → q.found ≡ false → ReadsLine bytes at id q
-      other_kind {t = t} h g z = not_found z (λ low n rest l.
-          let a = agrees l low refl heading in
-          let c : cr.count ≡ n.arity = (same_node n rest low l).0 in
-          let m : k ≡ n.kind = a.kinds in
-          let o : p ≡ n.payload = a.payloads in
-          let s : listed k p cr.count ≡ true = ap (λ (x : ℕ). listed x p cr.count) m ∙ ap₂ (λ (x y : ℕ). listed n.kind x y) o c ∙ l.formed.kinds in
-          false≢true (sym g ∙ h ∙ s))
-
-      pub other_places : {id : ℕ} {q : ListedNode} {t : Bool} → i ≡ id → Says t (LowerChildren i cr.count cr.places) → t ≡ false → q.found ≡ false → ReadsLine bytes at id q
-      other_places {id} {t = t} w h g z = not_found z (λ low n rest l.
-          let s = same_node n rest low l in
-          h.no g (subst (λ (x : ℕ). LowerChildren x cr.count cr.places) (sym w)
-          (subst (λ (x : ℕ). LowerChildren id x cr.places) (sym s.0) (subst (λ (x : List ℕ). LowerChildren id n.arity x) (sym s.1) l.formed.places))))
-
-      module _ {id : ℕ} (w : i ≡ id) (few : f < flags_end) {t u : Bool} (h : t ≡ listed k p cr.count) (ht : t ≡ true) (g : Says u (LowerChildren i cr.count cr.places)) (gt : u ≡ true) where
-        formed : WellFormed id (new_node k p f cr.count cr.places)
-        unfolding new_node node_hash
-        formed = record {
-          kinds = sym h ∙ ht;
-          places = subst (λ (x : ℕ). LowerChildren x cr.count cr.places) w (g.yes gt);
-          marks = few;
-          hashed = refl;
-          weighed = refl;
-        }
-
-        line : (rest : List ℕ) → drop next bytes ≡ children_part (take cr.count cr.places) ++ line_feed ∷ rest → LineOf (drop at bytes) id (new_node k p f cr.count cr.places) rest
-        unfolding new_node
-        line rest e = record {
-          is = heading.text ∙ ap₂ (λ (x : ℕ) (y : List ℕ). headed x k p f y) w e ∙ sym (node_text id (new_node k p f cr.count cr.places) rest few);
-          formed = formed;
-          four = placed.four;
-          wide = heading.small.payload_small;
-        }
-
-        pub line_found : {q : ListedNode} → q.node ≡ new_node k p f cr.count cr.places → q.next ≡ cr.next → q.found ≡ true → ReadsLine bytes at id q
-        line_found {q} m o z = record {
-          found = λ e. subst (λ (x : DagNode). LineOf (drop at bytes) id x (drop q.next bytes)) (sym m) (line (drop q.next bytes) (dc.text hc ∙ ap (λ (x : ℕ). children_part (take cr.count cr.places) ++ line_feed ∷ drop x bytes) (sym o)));
-          nothing = λ e. absurd (false≢true (sym e ∙ z));
-        }
+          here : LineOf (drop at bytes) id q.node (drop q.next bytes)
+          here = subst (λ (x : DagNode). LineOf (drop at bytes) id x (drop q.next bytes)) (sym m) (line (drop q.next bytes) (dc.text cr refl ∙ ap (λ (x : ℕ). children_part (take cr.count cr.places) ++ line_feed ∷ drop x bytes) (sym o)))
 
 -- ---- two nodes of one line are one
 

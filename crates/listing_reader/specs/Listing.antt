@@ -15,7 +15,7 @@ use Rattle.listing_reader.specs.Numbers.{word_end}
 use Rattle.listing_reader.specs.First.{SmallOutcome, NoFirst}
 use Rattle.listing_reader.specs.Line.{LineOf, NoLine}
 
--- Bytes that begin with the first line of an outcome and the lines of so many nodes in memory, each of them as 01 lists it.
+-- Bytes that begin with the first line of an outcome and the lines of so many nodes in memory, each of them as a listing has it.
 pub record Begins (bytes : List ℕ) (o : SheetOutcome) (words : List ℕ) (count : ℕ) (rest : List ℕ) : Type 0 where
   pub text : bytes ≡ first_line_of o ++ line_feed ∷ (node_lines 0 (nodes_in words count) ++ rest)
   pub small : SmallOutcome o
@@ -36,7 +36,7 @@ pub record IsListing (bytes : List ℕ) (o : SheetOutcome) (words : List ℕ) (c
   pub answer : AnswerListed o count
 
 -- The number of the first line that is wrong: 1, where no first line stands; else that of a line that is there, after the lines of so many
--- nodes, and is not the line of the next node as 01 lists it, or comes after the 65,536 nodes that a store may have; or that of the line of
+-- nodes, and is not the line of the next node as a listing has it, or comes after the 65,536 nodes that a store may have; or that of the line of
 -- the next node, where the bytes end before it and the first line's id is none of the nodes before.
 pub data Wrong (bytes words : List ℕ) : ℕ → Type 0 where
   first : NoFirst bytes → Wrong bytes words 1

@@ -1,8 +1,7 @@
 -- What reading a number at a place of the bytes finds.
-use Rattle.std.specs.Prelude.{ℕ, ◌^◌, ◌≤◌, ◌<◌, ◌≡◌, Bool, false, ◌&&◌, List, get_or, drop, leb}
-use Rattle.definitions.specs.Listing.{hex_digit}
+use Rattle.std.specs.Prelude.{ℕ, ◌^◌, ◌≤◌, ◌<◌, ◌≡◌, Bool, false, ◌&&◌, List, ◌∷◌, get_or, drop, leb, Option, Some, None}
+use Rattle.definitions.specs.Listing.{hex_digit, space}
 use Rattle.listing_reader.specs.declared.number.NumberRead.{NumberRead}
-use Rattle.listing_reader.specs.declared.number.NumberRead.TheVariants.{Found, Nothing}
 
 -- a word of 64 bits is below this
 abbrev pub word_end : ℕ
@@ -37,7 +36,16 @@ pub record Spelled (spell : ℕ → List ℕ → List ℕ) (Follows : List ℕ �
   pub follows : Follows (drop next bytes)
   pub small : n < word_end
 
+-- a number, and the place after it
+abbrev pub number_read : ℕ → ℕ → NumberRead
+number_read n next = record { value = n; next = next }
+
 -- A number is found where its text stands; where nothing is found, no number's text stands there.
-pub record ReadsNumber (spell : ℕ → List ℕ → List ℕ) (Follows : List ℕ → Type 0) (bytes : List ℕ) (at : ℕ) (r : NumberRead) : Type 0 where
-  pub found : (n next : ℕ) → r ≡ Found n next → Spelled spell Follows bytes at n next
-  pub nothing : r ≡ Nothing → (n : ℕ) (rest : List ℕ) → n < word_end → Follows rest → drop at bytes ≡ spell n rest → ⊥
+pub record ReadsNumber (spell : ℕ → List ℕ → List ℕ) (Follows : List ℕ → Type 0) (bytes : List ℕ) (at : ℕ) (r : Option NumberRead) : Type 0 where
+  pub found : (n next : ℕ) → r ≡ Some (number_read n next) → Spelled spell Follows bytes at n next
+  pub nothing : r ≡ None → (n : ℕ) (rest : List ℕ) → n < word_end → Follows rest → drop at bytes ≡ spell n rest → ⊥
+
+-- a space stands at a place, and ends at the next one; or there is none
+pub record AfterSpace (bytes : List ℕ) (at : ℕ) (r : Option ℕ) : Type 0 where
+  pub found : (next : ℕ) → r ≡ Some next → drop at bytes ≡ space ∷ drop next bytes
+  pub nothing : r ≡ None → (rest : List ℕ) → drop at bytes ≡ space ∷ rest → ⊥

@@ -1,5 +1,4 @@
-// Reading a listing's bytes back into nodes (01, "sheets and the listing"). Nodes are written as a store keeps
-// them, with their hashes and coefficients.
+// Reading a listing's bytes back into nodes. Nodes are written as a store keeps them, with their hashes and coefficients.
 #![tactic(auto)]
 
 mod first;
@@ -12,7 +11,7 @@ ghost use Rattle.listing_reader.specs.Listing.{AnswerListed, ListingReading};
 ghost use Rattle.listing_reader.specs.First.{FirstAt};
 
 use arena::{MOST_NODES, NODE_WORDS, store_node};
-use first::{First, first_line};
+use first::first_line;
 use listing_lines::SheetOutcome;
 use node::node_line;
 
@@ -21,9 +20,9 @@ const FIRST_LINE: u64 = 1;
 
 const FIRST_NODE_LINE: u64 = 2;
 
-// What reading a listing answers: its first line and how many nodes follow it, the number of the first line that is wrong,
-// or that the lent words are too few for the nodes.
-#[derive(Clone, Copy)]
+/// What reading a listing answers: its first line and how many nodes follow it, the number of the first line that is wrong, or that the lent
+/// words are too few for the nodes.
+#[derive(Clone, Copy, Debug, PartialEq, Eq)]
 pub enum ListingAnswer {
     Read { outcome: SheetOutcome, count: u64 },
     Refused(u64),
@@ -43,7 +42,8 @@ fn is_answer_listed(outcome: SheetOutcome, count: u64) -> bool
     }
 }
 
-// The lines of nodes from a place on, written into the lent words.
+// The lines of nodes from a place on, written into the lent words. The loop goes by the place of the next line: no counter that a `for` would
+// take.
 fn node_lines(bytes: &[u8], start: usize, outcome: SheetOutcome, nodes: &mut [u64]) -> ListingAnswer
     requires { FirstAt bytes.now outcome start }
     ensures { ListingReading bytes.now nodes.old result nodes.new }
@@ -54,15 +54,13 @@ fn node_lines(bytes: &[u8], start: usize, outcome: SheetOutcome, nodes: &mut [u6
         if count == MOST_NODES {
             return ListingAnswer::Refused(count + FIRST_NODE_LINE);
         }
-        let line = node_line(bytes, at, count);
-        if !line.found {
+        let Some(line) = node_line(bytes, at, count) else {
             return ListingAnswer::Refused(count + FIRST_NODE_LINE);
-        }
+        };
         if nodes.len() / NODE_WORDS <= count as usize {
             return ListingAnswer::Full;
         }
-        let node = line.node;
-        store_node(nodes, count, node);
+        store_node(nodes, count, line.node);
         at = line.next;
         count += 1;
     }
@@ -72,13 +70,12 @@ fn node_lines(bytes: &[u8], start: usize, outcome: SheetOutcome, nodes: &mut [u6
     ListingAnswer::Read { outcome, count }
 }
 
-// Reads a listing into the lent words.
+/// Reads a listing into the lent words.
 pub fn read(bytes: &[u8], nodes: &mut [u64]) -> ListingAnswer
     ensures { ListingReading bytes.now nodes.old result nodes.new }
 {
-    let first = first_line(bytes);
-    let First::Found { outcome, next } = first else {
+    let Some(first) = first_line(bytes) else {
         return ListingAnswer::Refused(FIRST_LINE);
     };
-    node_lines(bytes, next, outcome, nodes)
+    node_lines(bytes, first.next, first.outcome, nodes)
 }

@@ -1,171 +1,107 @@
 // The line of a node.
-ghost use Rattle.std.specs.Prelude.{◌≡◌, false};
 ghost use Rattle.listing_reader.specs.Line.{ReadsHeading, ReadsEnd, ReadsChildren, ReadsLine};
 
-use crate::number::{NumberRead, byte_at, decimal_at, spaced_decimal_at, spaced_hex_at};
+use crate::number::{byte_at, decimal_at, spaced_decimal_at, spaced_hex_at};
 use crate::word::LINE_FEED;
 use arena::{DagNode, FLAGS_END};
 use child_places::lower_children;
 use definitions::MOST_CHILDREN;
 use kinds::is_listed;
 
-// What stands before a node's children, and the place after it, or nothing.
+// What stands before a node's children, and the place after it.
 #[derive(Clone, Copy)]
-enum Heading {
-    Found {
-        id: u64,
-        kind: u64,
-        payload: u64,
-        flags: u64,
-        next: usize,
-    },
-    Nothing,
+struct Heading {
+    pub id: u64,
+    pub kind: u64,
+    pub payload: u64,
+    pub flags: u64,
+    pub next: usize,
 }
 
-// Children up to the line's end, if they are there, and the place after it.
+// Children up to the line's end, and the place after it.
 #[derive(Clone, Copy)]
 struct Children {
-    pub found: bool,
     pub count: u64,
     pub places: [u64; MOST_CHILDREN],
     pub next: usize,
 }
 
-// A node as listed, if its line is there, and the place after it.
+// A node as listed, and the place after its line.
 #[derive(Clone, Copy)]
 pub(crate) struct ListedNode {
-    pub found: bool,
     pub node: DagNode,
     pub next: usize,
 }
 
-// "id, kind, payload in 16 capital hex digits, flags".
-fn heading_at(bytes: &[u8], at: usize) -> Heading
+// Id, kind, payload in 16 capital hex digits and flags.
+fn heading_at(bytes: &[u8], at: usize) -> Option<Heading>
     ensures { ReadsHeading bytes.now at result }
 {
-    let first = decimal_at(bytes, at);
-    let NumberRead::Found { value: id, next } = first else {
-        return Heading::Nothing;
-    };
-    let second = spaced_decimal_at(bytes, next);
-    let NumberRead::Found { value: kind, next } = second else {
-        return Heading::Nothing;
-    };
-    let third = spaced_hex_at(bytes, next);
-    let NumberRead::Found {
-        value: payload,
-        next,
-    } = third
-    else {
-        return Heading::Nothing;
-    };
-    let fourth = spaced_decimal_at(bytes, next);
-    let NumberRead::Found { value: flags, next } = fourth else {
-        return Heading::Nothing;
-    };
-    Heading::Found {
-        id,
-        kind,
-        payload,
-        flags,
-        next,
-    }
+    let id = decimal_at(bytes, at)?;
+    let kind = spaced_decimal_at(bytes, id.next)?;
+    let payload = spaced_hex_at(bytes, kind.next)?;
+    let flags = spaced_decimal_at(bytes, payload.next)?;
+    Some(Heading {
+        id: id.value,
+        kind: kind.value,
+        payload: payload.value,
+        flags: flags.value,
+        next: flags.next,
+    })
 }
 
 // Children that end at a place, if the line ends there.
-fn ended(bytes: &[u8], at: usize, count: usize, places: [u64; MOST_CHILDREN]) -> Children
+fn ended(bytes: &[u8], at: usize, count: usize, places: [u64; MOST_CHILDREN]) -> Option<Children>
     ensures { ReadsEnd bytes.now at count places result }
 {
-    if byte_at(bytes, at) == LINE_FEED {
-        return Children {
-            found: true,
-            count: count as u64,
-            places,
-            next: at + 1,
-        };
+    if byte_at(bytes, at) != LINE_FEED {
+        return None;
     }
-    Children {
-        found: false,
-        count: 0,
+    Some(Children {
+        count: count as u64,
         places,
-        next: at,
-    }
+        next: at + 1,
+    })
 }
 
 // The children at a place, each after a space, up to the line's end.
-fn children_at(bytes: &[u8], at: usize) -> Children
+fn children_at(bytes: &[u8], at: usize) -> Option<Children>
     ensures { ReadsChildren bytes.now at result }
 {
     let mut places = [0; MOST_CHILDREN];
-    let mut count: usize = 0;
     let mut next = at;
-    while count < MOST_CHILDREN {
-        let child = spaced_decimal_at(bytes, next);
-        let NumberRead::Found { value, next: after } = child else {
+    for count in 0..MOST_CHILDREN {
+        let Some(child) = spaced_decimal_at(bytes, next) else {
             return ended(bytes, next, count, places);
         };
-        places[count] = value;
-        count += 1;
-        next = after;
+        places[count] = child.value;
+        next = child.next;
     }
-    ended(bytes, next, count, places)
-}
-
-// No line of a node.
-fn no_line(at: usize) -> ListedNode
-    ensures { result.found ≡ false }
-{
-    ListedNode {
-        found: false,
-        node: DagNode {
-            kind: 0,
-            payload: 0,
-            hash: 0,
-            coefficient: 0,
-            flags: 0,
-            arity: 0,
-            children: [0; MOST_CHILDREN],
-        },
-        next: at,
-    }
+    ended(bytes, next, MOST_CHILDREN, places)
 }
 
 // The line of the node of an id, with its line feed.
-pub(crate) fn node_line(bytes: &[u8], at: usize, wanted: u64) -> ListedNode
+pub(crate) fn node_line(bytes: &[u8], at: usize, wanted: u64) -> Option<ListedNode>
     ensures { ReadsLine bytes.now at wanted result }
 {
-    let start = heading_at(bytes, at);
-    let Heading::Found {
-        id,
-        kind,
-        payload,
-        flags,
-        next,
-    } = start
-    else {
-        return no_line(at);
-    };
-    if id != wanted {
-        return no_line(at);
+    let start = heading_at(bytes, at)?;
+    if start.id != wanted {
+        return None;
     }
-    if FLAGS_END <= flags {
-        return no_line(at);
+    if FLAGS_END <= start.flags {
+        return None;
     }
-    let rest = children_at(bytes, next);
-    if !rest.found {
-        return no_line(at);
-    }
+    let rest = children_at(bytes, start.next)?;
     let places = rest.places;
     let arity = rest.count;
-    if !is_listed(kind, payload, arity) {
-        return no_line(at);
+    if !is_listed(start.kind, start.payload, arity) {
+        return None;
     }
-    if !lower_children(&places[..], arity, id) {
-        return no_line(at);
+    if !lower_children(&places[..], arity, start.id) {
+        return None;
     }
-    ListedNode {
-        found: true,
-        node: DagNode::new(kind, payload, flags, arity, places),
+    Some(ListedNode {
+        node: DagNode::new(start.kind, start.payload, start.flags, arity, places),
         next: rest.next,
-    }
+    })
 }

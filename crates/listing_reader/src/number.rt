@@ -1,26 +1,27 @@
 // Numbers in ASCII digits, read at a place of the bytes.
 ghost use Rattle.std.specs.Prelude.{◌≡◌, ◌∷◌, ◌++◌, ◌≤◌, ◌<◌, get_or};
 ghost use Rattle.definitions.specs.Listing.{decimal, hex, space};
-ghost use Rattle.listing_reader.specs.Numbers.{zero_digit, nine_digit, is_digit, EndsDigits, Anything, HexValue, ReadsNumber};
+ghost use Rattle.listing_reader.specs.Numbers.{zero_digit, nine_digit, is_digit, EndsDigits, Anything, HexValue, ReadsNumber, AfterSpace};
 
 use listing_lines::{BEFORE_LETTERS, DECIMAL_BASE, HEX_BASE, HEX_DIGITS, ZERO};
 
 // The bytes of the space and of the digits 9, A and F.
-const SPACE: u8 = 32;
+const SPACE: u8 = b' ';
 
-const NINE: u8 = 57;
+const NINE: u8 = b'9';
 
-const LETTER_A: u8 = 65;
+const LETTER_A: u8 = b'A';
 
-const LETTER_F: u8 = 70;
+const LETTER_F: u8 = b'F';
+
 // The value of a byte that is no hex digit.
 const NO_DIGIT: u64 = 16;
 
-// What reading a number finds: the number and the place after it, or nothing.
+// A number, and the place after it.
 #[derive(Clone, Copy)]
-pub(crate) enum NumberRead {
-    Found { value: u64, next: usize },
-    Nothing,
+pub(crate) struct NumberRead {
+    pub value: u64,
+    pub next: usize,
 }
 
 // The byte at a place, 0 past the end.
@@ -33,48 +34,45 @@ pub(crate) fn byte_at(bytes: &[u8], at: usize) -> u8
 fn is_digit(byte: u8) -> bool
     ensures { result ≡ is_digit byte }
 {
-    if byte < ZERO {
-        return false;
-    }
-    byte <= NINE
+    ZERO <= byte && byte <= NINE
 }
 
 // A decimal number whose first digit is not 0.
-fn digits_at(bytes: &[u8], at: usize) -> NumberRead
+fn digits_at(bytes: &[u8], at: usize) -> Option<NumberRead>
     requires { (zero_digit < get_or bytes.now at 0) × (get_or bytes.now at 0 ≤ nine_digit) }
     ensures { ReadsNumber (λ n rest. decimal n ++ rest) EndsDigits bytes.now at result }
 {
-    let mut value = (byte_at(bytes, at) - ZERO) as u64;
+    let mut value = u64::from(byte_at(bytes, at) - ZERO);
     let mut next = at + 1;
     while is_digit(byte_at(bytes, next)) {
-        let digit = (byte_at(bytes, next) - ZERO) as u64;
+        let digit = u64::from(byte_at(bytes, next) - ZERO);
         if (u64::MAX - digit) / DECIMAL_BASE < value {
-            return NumberRead::Nothing;
+            return None;
         }
         value = value * DECIMAL_BASE + digit;
         next += 1;
     }
-    NumberRead::Found { value, next }
+    Some(NumberRead { value, next })
 }
 
 // A decimal number in fewest digits.
-pub(crate) fn decimal_at(bytes: &[u8], at: usize) -> NumberRead
+pub(crate) fn decimal_at(bytes: &[u8], at: usize) -> Option<NumberRead>
     ensures { ReadsNumber (λ n rest. decimal n ++ rest) EndsDigits bytes.now at result }
 {
     let first = byte_at(bytes, at);
     if !is_digit(first) {
-        return NumberRead::Nothing;
+        return None;
     }
     if first != ZERO {
         return digits_at(bytes, at);
     }
     if is_digit(byte_at(bytes, at + 1)) {
-        return NumberRead::Nothing;
+        return None;
     }
-    NumberRead::Found {
+    Some(NumberRead {
         value: 0,
         next: at + 1,
-    }
+    })
 }
 
 // The value of a capital hex digit.
@@ -82,7 +80,7 @@ fn hex_value(byte: u8) -> u64
     ensures { HexValue byte result }
 {
     if is_digit(byte) {
-        return (byte - ZERO) as u64;
+        return u64::from(byte - ZERO);
     }
     if byte < LETTER_A {
         return NO_DIGIT;
@@ -90,44 +88,48 @@ fn hex_value(byte: u8) -> u64
     if LETTER_F < byte {
         return NO_DIGIT;
     }
-    (byte - BEFORE_LETTERS) as u64
+    u64::from(byte - BEFORE_LETTERS)
 }
 
 // A number in 16 capital hex digits.
-fn hex_at(bytes: &[u8], at: usize) -> NumberRead
+fn hex_at(bytes: &[u8], at: usize) -> Option<NumberRead>
     ensures { ReadsNumber (λ n rest. hex n ++ rest) Anything bytes.now at result }
 {
     let mut value: u64 = 0;
     let mut next = at;
-    let mut read: usize = 0;
-    while read < HEX_DIGITS {
+    for read in 0..HEX_DIGITS {
         let digit = hex_value(byte_at(bytes, next));
         if digit == NO_DIGIT {
-            return NumberRead::Nothing;
+            return None;
         }
         value = value * HEX_BASE + digit;
         next += 1;
-        read += 1;
     }
-    NumberRead::Found { value, next }
+    Some(NumberRead { value, next })
+}
+
+// The place after a space.
+fn after_space(bytes: &[u8], at: usize) -> Option<usize>
+    ensures { AfterSpace bytes.now at result }
+{
+    if byte_at(bytes, at) != SPACE {
+        return None;
+    }
+    Some(at + 1)
 }
 
 // A space and a decimal number.
-pub(crate) fn spaced_decimal_at(bytes: &[u8], at: usize) -> NumberRead
+pub(crate) fn spaced_decimal_at(bytes: &[u8], at: usize) -> Option<NumberRead>
     ensures { ReadsNumber (λ n rest. space ∷ (decimal n ++ rest)) EndsDigits bytes.now at result }
 {
-    if byte_at(bytes, at) != SPACE {
-        return NumberRead::Nothing;
-    }
-    decimal_at(bytes, at + 1)
+    let number = after_space(bytes, at)?;
+    decimal_at(bytes, number)
 }
 
 // A space and a payload.
-pub(crate) fn spaced_hex_at(bytes: &[u8], at: usize) -> NumberRead
+pub(crate) fn spaced_hex_at(bytes: &[u8], at: usize) -> Option<NumberRead>
     ensures { ReadsNumber (λ n rest. space ∷ (hex n ++ rest)) Anything bytes.now at result }
 {
-    if byte_at(bytes, at) != SPACE {
-        return NumberRead::Nothing;
-    }
-    hex_at(bytes, at + 1)
+    let number = after_space(bytes, at)?;
+    hex_at(bytes, number)
 }

@@ -6,8 +6,8 @@ ghost use Rattle.listing_reader.specs.Words.{StartsWith};
 
 use crate::number::{NumberRead, byte_at, spaced_decimal_at};
 
-// "Each line ends with the byte 0A (hex)."
-pub(crate) const LINE_FEED: u8 = 10;
+// Each line ends with this byte.
+pub(crate) const LINE_FEED: u8 = b'\n';
 
 // Whether a word stands at a place.
 pub(crate) fn word_at(bytes: &[u8], at: usize, word: &[u8]) -> bool
@@ -17,45 +17,32 @@ pub(crate) fn word_at(bytes: &[u8], at: usize, word: &[u8]) -> bool
     if bytes.len() < at {
         return false;
     }
-    if bytes.len() - at < word.len() {
-        return false;
-    }
-    let mut i: usize = 0;
-    while i < word.len() {
-        if bytes[at + i] != word[i] {
-            return false;
-        }
-        i += 1;
-    }
-    true
+    bytes[at..].starts_with(word)
 }
 
 // A word, a space and a number.
-pub(crate) fn number_behind(bytes: &[u8], at: usize, word: &[u8]) -> NumberRead
+pub(crate) fn number_behind(bytes: &[u8], at: usize, word: &[u8]) -> Option<NumberRead>
     requires { 0 < length word.now }
     ensures { ReadsNumber (λ n rest. word.now ++ (space ∷ (decimal n ++ rest))) EndsDigits bytes.now at result }
 {
     if !word_at(bytes, at, word) {
-        return NumberRead::Nothing;
+        return None;
     }
     spaced_decimal_at(bytes, at + word.len())
 }
 
 // A word, a space, a number and the line's end.
-pub(crate) fn line_behind(bytes: &[u8], at: usize, word: &[u8]) -> NumberRead
+pub(crate) fn line_behind(bytes: &[u8], at: usize, word: &[u8]) -> Option<NumberRead>
     requires { 0 < length word.now }
     ensures { ReadsNumber (λ n rest. word.now ++ (space ∷ (decimal n ++ (line_feed ∷ rest)))) Anything bytes.now
         at result }
 {
-    let number = number_behind(bytes, at, word);
-    let NumberRead::Found { value, next } = number else {
-        return NumberRead::Nothing;
-    };
-    if byte_at(bytes, next) != LINE_FEED {
-        return NumberRead::Nothing;
+    let number = number_behind(bytes, at, word)?;
+    if byte_at(bytes, number.next) != LINE_FEED {
+        return None;
     }
-    NumberRead::Found {
-        value,
-        next: next + 1,
-    }
+    Some(NumberRead {
+        value: number.value,
+        next: number.next + 1,
+    })
 }

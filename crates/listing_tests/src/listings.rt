@@ -1,11 +1,7 @@
 // What a listing is read back to.
-ghost use Rattle.std.specs.Prelude.{◌≤◌, length};
-
-use crate::lines::LINE_FEED;
 use crate::nodes::print_outcome;
 use arena::{CHILDREN, COEFFICIENT, HASH, NODE_WORDS};
 use listing_reader::ListingAnswer;
-use scripts::printing::{number, text};
 
 // Of a listing that a line spells so many bytes are read; what is longer is cut.
 const MOST_BYTES: usize = 512;
@@ -13,9 +9,8 @@ const MOST_BYTES: usize = 512;
 // What stands in a line for a line feed.
 const LINE_FEED_SIGN: u8 = b'/';
 
-const MOST_NODES: usize = 4;
-
-const MOST_WORDS: usize = MOST_NODES * NODE_WORDS;
+// Four nodes are read at most.
+const MOST_WORDS: usize = 4 * NODE_WORDS;
 
 // The place after the first four children, and that of the last.
 const AFTER_FIRST_CHILDREN: usize = CHILDREN + 4;
@@ -31,73 +26,41 @@ fn is_shown(place: usize) -> bool {
     }
 }
 
-fn print_word(out: &impl Print, nodes: &[u64], at: usize) {
-    if at < nodes.len() {
-        number(out, nodes[at]);
-    }
-}
-
-fn print_node(out: &impl Print, nodes: &[u64], id: usize) {
-    text(out, b" ");
-    for place in 0..NODE_WORDS {
+fn print_node(out: &impl Print, node: &[u64]) {
+    let _ = print!(out; " ");
+    for (place, word) in node.iter().enumerate() {
         if is_shown(place) {
-            print_word(out, nodes, id % MOST_NODES * NODE_WORDS + place);
+            let _ = print!(out; " {word}");
         }
     }
-    text(out, b"\n");
+    let _ = println!(out);
 }
 
 fn byte_of(sign: u8) -> u8 {
-    if sign == LINE_FEED_SIGN {
-        return LINE_FEED;
-    }
-    sign
+    if sign == LINE_FEED_SIGN { b'\n' } else { sign }
 }
 
-// Fills an array with a listing's bytes, and says how many they are.
-fn spelled(line: &[u8], bytes: &mut [u8]) -> usize
-    ensures { result ≤ length bytes.new }
-{
-    let mut i: usize = 0;
-    while i < line.len() {
-        if bytes.len() <= i {
-            break;
-        }
-        bytes[i] = byte_of(line[i]);
-        i += 1;
-    }
-    i
-}
-
-// The listing that a line spells, read.
+/// The listing that a line spells, read into words that all were 7.
 pub(crate) fn show(out: &impl Print, line: &[u8]) {
-    let mut bytes = [0u8; MOST_BYTES];
-    let length = spelled(line, &mut bytes);
-    print_read(out, &bytes[..length]);
-}
-
-// Reads a listing into words that all were 7.
-fn print_read(out: &impl Print, bytes: &[u8]) {
-    let mut nodes = [7u64; MOST_WORDS];
-    let answer = listing_reader::read(bytes, &mut nodes);
-    match answer {
+    let mut bytes = [0; MOST_BYTES];
+    for (byte, sign) in bytes.iter_mut().zip(line) {
+        *byte = byte_of(*sign);
+    }
+    let mut nodes = [7; MOST_WORDS];
+    let listing = &bytes[..line.len().min(MOST_BYTES)];
+    match listing_reader::read(listing, &mut nodes) {
         ListingAnswer::Read { outcome, count } => {
             print_outcome(out, outcome);
-            text(out, b", nodes");
-            number(out, count);
-            text(out, b"\n");
-            print_node(out, &nodes, 0);
-            print_node(out, &nodes, 1);
-            print_node(out, &nodes, 2);
-            print_node(out, &nodes, 3);
+            let _ = println!(out; ", nodes {count}");
+            for node in nodes.chunks_exact(NODE_WORDS) {
+                print_node(out, node);
+            }
         }
         ListingAnswer::Refused(line) => {
-            text(out, b"line");
-            number(out, line);
-            text(out, b"\n");
+            let _ = println!(out; "line {line}");
         }
         ListingAnswer::Full => {
-            text(out, b"full\n");
+            let _ = println!(out; "full");
         }
     }
 }

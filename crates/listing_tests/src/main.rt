@@ -7,7 +7,7 @@
 //                    node, or the number of the line that is wrong, or `full`
 //   f FORM N M       a first line: 0 `ok`, 1 `ok -`, 2 `spent`, 3 `refused` with the numbers
 //   n ID COUNT       a node's line, in a store of four nodes that is taken for one of COUNT; or a refusal
-// The file `stdout` has what 01 and 02 ask for.
+// The file `stdout` has what is asked for of each.
 #![tactic(auto)]
 
 mod bodies;
@@ -17,44 +17,31 @@ mod nodes;
 mod sheets;
 mod texts;
 
-use lines::line_end;
-use scripts::printing::text;
 use std::io;
 
 const INPUT_BYTES: usize = 65_536;
 
 // A line.
 fn run_line(out: &impl Print, line: &[u8]) {
-    if line.len() < 2 {
-        return;
-    }
-    let letter = line[0];
-    match letter {
-        b't' => texts::print_listing(out, &line[2..]),
-        b's' => sheets::show(out, line),
-        b'l' => listings::show(out, &line[2..]),
-        b'f' => nodes::print_first(out, lines::numbers(line)),
-        b'n' => nodes::print_node(out, lines::numbers(line)),
+    match line {
+        [] | [_] => {}
+        [b't', _, text @ ..] => texts::print_listing(out, text),
+        [b's', _, sheet @ ..] => sheets::show(out, sheet),
+        [b'l', _, listing @ ..] => listings::show(out, listing),
+        [b'f', ..] => nodes::print_first(out, lines::numbers(line)),
+        [b'n', ..] => nodes::print_node(out, lines::numbers(line)),
         _ => {
-            text(out, line);
-            text(out, b"\n");
+            let _ = out.write_all(line);
+            let _ = println!(out);
         }
     }
 }
 
-// All lines.
-fn run(out: &impl Print, input: &[u8]) {
-    let mut at: usize = 0;
-    while at < input.len() {
-        let end = line_end(input, at);
-        run_line(out, &input[at..end]);
-        at = end + 1;
-    }
-}
-
 fn main(rt: HostRuntime) -> io::Result<()> {
-    let mut input = [0u8; INPUT_BYTES];
+    let mut input = [0; INPUT_BYTES];
     let length = whole_input::fill(&mut rt.stdin(), &mut input)?;
-    run(&rt, &input[..length]);
+    for line in input[..length].split(|byte| *byte == b'\n') {
+        run_line(&rt, line);
+    }
     Ok(())
 }

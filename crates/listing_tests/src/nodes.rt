@@ -1,65 +1,50 @@
 // Lines that no run of the listing program shows.
 use crate::lines::MOST_NUMBERS;
 use arena::{DagArena, NODE_WORDS};
-use builder::FreshStore;
-use listing_lines::{LINE_BYTES, Line, LineFound, SheetOutcome, first_line};
-use scripts::printing::{decimal, text};
+use listing_lines::{Line, SheetOutcome, first_line};
+use scripts::tokens::narrow;
 
 // A store of 8 nodes and 64 slots.
 const WORDS: usize = 8 * NODE_WORDS;
 
 const SLOTS: usize = 64;
 
-// The first bytes of a line.
-fn print_part(out: &impl Print, line: Line, end: usize) {
-    let bytes = line.bytes;
-    if LINE_BYTES < end {
-        return;
-    }
-    text(out, &bytes[..end]);
-}
-
 fn print_line(out: &impl Print, line: Line) {
-    print_part(out, line, line.length);
+    let bytes = line.bytes;
+    if let Some(text) = bytes.get(..line.length) {
+        let _ = out.write_all(text);
+    }
 }
 
-// An outcome as its first line has it, but for the line feed.
+/// An outcome as its first line has it, but for the line feed.
 pub(crate) fn print_outcome(out: &impl Print, outcome: SheetOutcome) {
     let line = first_line(outcome);
-    let length = line.length;
-    if 0 < length {
-        print_part(out, line, length - 1);
+    let bytes = line.bytes;
+    if let Some([text @ .., _]) = bytes.get(..line.length) {
+        let _ = out.write_all(text);
     }
 }
 
-// The first line of a form and two numbers.
+/// The first line of a form and two numbers.
 pub(crate) fn print_first(out: &impl Print, list: [u64; MOST_NUMBERS]) {
-    let form = list[1];
-    match form {
-        0 => print_line(out, first_line(SheetOutcome::Ok(list[2]))),
-        1 => print_line(out, first_line(SheetOutcome::Empty)),
-        2 => print_line(out, first_line(SheetOutcome::Spent(list[2]))),
-        _ => print_line(
-            out,
-            first_line(SheetOutcome::Refused {
-                number: list[2],
-                at: list[3],
-            }),
-        ),
-    }
+    let [_, form, first, second] = list;
+    let outcome = match form {
+        0 => SheetOutcome::Ok(first),
+        1 => SheetOutcome::Empty,
+        2 => SheetOutcome::Spent(first),
+        _ => SheetOutcome::Refused {
+            number: first,
+            at: second,
+        },
+    };
+    print_line(out, first_line(outcome));
 }
 
 fn print_found(out: &impl Print, nodes: &[u64], slots: &[u32], arena: DagArena, id: u32) {
-    let asked = listing_lines::node_line(nodes, slots, arena, id);
-    let answer = asked.answer;
-    match answer {
-        LineFound::Line => {
-            let line = asked.line;
-            print_line(out, line);
-        }
-        LineFound::Refused(refusal) => {
-            decimal(out, refusal);
-            text(out, b"\n");
+    match listing_lines::node_line(nodes, slots, arena, id) {
+        Ok(line) => print_line(out, line),
+        Err(refusal) => {
+            let _ = println!(out; "{}", refusal.number());
         }
     }
 }
@@ -74,23 +59,22 @@ fn build_over(nodes: &mut [u64], slots: &mut [u32], arena: DagArena) -> DagArena
     builder::for_loop(nodes, slots, three, 2, 1, 0, 2).arena
 }
 
-// The line of a node, in a store that is taken for one of so many nodes.
+/// The line of a node, in a store that is taken for one of so many nodes.
 pub(crate) fn print_node(out: &impl Print, list: [u64; MOST_NUMBERS]) {
     let mut nodes = [0; WORDS];
     let mut slots = [0; SLOTS];
-    let fresh = builder::fresh(&nodes, &mut slots);
-    match fresh {
-        FreshStore::Store(arena) => {
+    match builder::fresh(&nodes, &mut slots) {
+        Ok(arena) => {
             let two = build_leaves(&mut nodes, &mut slots, arena);
             let four = build_over(&mut nodes, &mut slots, two);
             let taken = DagArena {
                 count: list[2],
                 size: four.size,
             };
-            print_found(out, &nodes, &slots, taken, (list[1] % 4_294_967_296) as u32);
+            print_found(out, &nodes, &slots, taken, narrow(list[1]));
         }
-        FreshStore::Refused(refusal) => {
-            decimal(out, refusal);
+        Err(refusal) => {
+            let _ = print!(out; "{}", refusal.number());
         }
     }
 }

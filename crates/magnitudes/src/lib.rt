@@ -1,5 +1,5 @@
-// Whether a threshold keeps a term. 01: "a term is kept if its magnitude is at least the threshold (constant: |v|;
-// other: 1.0)".
+// Whether a threshold keeps a term: if its magnitude is at least the threshold. That of a constant is its absolute value, that of another
+// term 1.0.
 #![tactic(auto)]
 
 ghost use Rattle.std.specs.Prelude.{◌≡◌};
@@ -26,7 +26,7 @@ fn magnitude_of_term(nodes: &[u64], count: u64, id: u64) -> u64
     }
 }
 
-// Whether a term is kept.
+/// Whether a threshold, by its bits, keeps a term.
 pub fn keeps(nodes: &[u64], count: u64, threshold: u64, id: u64) -> bool
     requires { Lookup nodes.now count id }
     ensures { result ≡ Prune.keeps (nodes_in nodes.now count) (of_bits binary64 threshold) id }

@@ -1,4 +1,4 @@
-// The audit of a name list: refusal 20 of 01.
+// The audit of a name list, which refuses one that is not sound.
 #![tactic(auto)]
 
 ghost use Rattle.std.specs.Prelude.{◌≡◌, ◌*◌, ◌≤◌, length};
@@ -13,24 +13,15 @@ pub const MOST_NAMES: usize = 4096;
 
 const BUCKETS: usize = entry::BUCKETS as usize;
 
-// A stored place as an index.
-fn index(place: u16) -> usize
-    ensures { result ≡ place }
-{
-    place as usize
-}
-
 // Whether every entry in use is sound.
 fn entries_sound(entries: &[u8], count: usize) -> bool
     requires { count * entry_bytes ≤ length entries.now }
     ensures { Says result (EntriesSound entries.now count) }
 {
-    let mut i: usize = 0;
-    while i < count {
+    for i in 0..count {
         if !entry::sound(entry::at(entries, i)) {
             return false;
         }
-        i += 1;
     }
     true
 }
@@ -46,29 +37,27 @@ fn stands_before(entries: &[u8], number: usize, before: &[u16; MOST_NAMES], late
         if entry::same(entry::at(entries, other), entry::at(entries, number)) {
             return true;
         }
-        place = index(before[other]);
+        place = usize::from(before[other]);
     }
     false
 }
 
 // Whether no name stands twice. Each name is compared with the earlier ones of its bucket alone: few, unless the names were chosen to share
-// one.
+// one. The chains of the buckets are two arrays and no map: fixed memory.
 fn no_name_twice(entries: &[u8], count: usize) -> bool
     requires { (count ≤ most_names) × (count * entry_bytes ≤ length entries.now) × EntriesSound entries.now count }
     ensures { Says result (NoNameTwice entries.now count) }
 {
     let mut latest = [0u16; BUCKETS];
     let mut before = [0u16; MOST_NAMES];
-    let mut i: usize = 0;
-    while i < count {
+    for i in 0..count {
         let bucket = entry::bucket(entry::at(entries, i));
         let place = latest[bucket];
-        if stands_before(entries, i, &before, index(place)) {
+        if stands_before(entries, i, &before, usize::from(place)) {
             return false;
         }
         before[i] = place;
         latest[bucket] = (i + 1) as u16;
-        i += 1;
     }
     true
 }

@@ -6,8 +6,12 @@ use lib.ListN.{length, get_or, take, drop, replicate, length-drop, length-append
 use lib.Seq.{length-take-le, get_or-take, get_or-drop, ext_get_or, take_at, get_or-append-add}
 use native.Mathlib.Numerals.{one-add}
 use native.Mathlib.Omega.{arith}
-use borrow.Author.Count.{below_more}
 use native.Mathlib.Decide.{dec_lt}
+use Rattle.std.proofs.lemmas.List.Edits.{length-between, get_or-between}
+use Rattle.std.specs.List.{between}
+use Rattle.std.specs.Prelude.{Bool, IsTrue, EachIndex, ◌↔◌}
+use Rattle.std.proofs.lemmas.Bool.{false≢true}
+use Rattle.definitions.specs.Says.{Says}
 use Rattle.definitions.specs.Names.{entry_bytes, longest_name, shortest_name}
 use Rattle.name_entries.specs.Entry.{entry_at, name_in, entry_of, SoundEntry, IsEntry}
 
@@ -59,6 +63,19 @@ entry_of_sound name short long = record { shortest = short; longest = long; unus
     past zero l m = absurd (omega arith)
     past (suc j) l m = entry_tail name j (omega arith) (omega arith)
 
--- one more unused byte is 0
-pub unused_more : (e : List ℕ) (n j : ℕ) → ((i : ℕ) → n < i → i < j → get_or e i 0 ≡ 0) → get_or e j 0 ≡ 0 → (i : ℕ) → n < i → i < j + 1 → get_or e i 0 ≡ 0
-unused_more e n j h z i l m = below_more (λ (x : ℕ). n < x → get_or e x 0 ≡ 0) j (λ x p q. h x q p) (λ _. z) i m l
+-- the bytes past a name's are 0 exactly if the entry is sound, where its length is
+pub unused_zero : (e : List ℕ) (n : ℕ) (r : Bool) → length e ≡ entry_bytes → n ≡ get_or e 0 0 → shortest_name ≤ n → n ≤ longest_name → IsTrue r ↔ EachIndex (between (n + 1) entry_bytes e) (λ i. get_or (between (n + 1) entry_bytes e) i 0 ≡ 0) → Says r (SoundEntry e)
+unused_zero e n r l h short long t = record {
+  yes = λ y. record {
+    shortest = omega arith;
+    longest = omega arith;
+    unused = λ j p q. (
+        let at : n + 1 + (j - (n + 1)) ≡ j = omega arith in
+        subst (λ (x : ℕ). get_or e x 0 ≡ 0) at (sym (get_or-between e (n + 1) entry_bytes (j - (n + 1)) 0 (omega arith)) ∙ t.0 y (j - (n + 1)) (omega (arith, part)))
+        );
+  };
+  no = λ y s. false≢true (sym y ∙ t.1 (λ i m. get_or-between e (n + 1) entry_bytes i 0 (omega (arith, part)) ∙ s.unused (n + 1 + i) (omega arith) (omega (arith, part))));
+}
+  where
+    part : length (between (n + 1) entry_bytes e) ≡ entry_bytes - (n + 1)
+    part = length-between e (n + 1) entry_bytes (omega arith)

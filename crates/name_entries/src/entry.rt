@@ -1,5 +1,5 @@
 // One entry of the lent list: the length byte, then 32 bytes of which the unused ones are 0.
-ghost use Rattle.std.specs.Prelude.{◌≡◌, ◌+◌, ◌*◌, ◌≤◌, ◌<◌, length, get_or, drop};
+ghost use Rattle.std.specs.Prelude.{◌≡◌, ◌+◌, ◌*◌, ◌≤◌, ◌↔◌, length, get_or, drop, slice_index, EachIndex, IsTrue};
 ghost use Rattle.definitions.specs.Names.{longest_name, entry_bytes};
 ghost use Rattle.definitions.specs.Says.{Says};
 ghost use Rattle.name_entries.specs.Entry.{put_entry, SoundEntry, IsEntry, IsEntryOf};
@@ -26,20 +26,6 @@ const HALF_WORD_VALUES: u64 = 0x1_0000_0000;
 // The buckets of the audit: the greatest prime up to the most names.
 pub const BUCKETS: u64 = 4093;
 
-// A byte as a wider number.
-fn wide(byte: u8) -> u64
-    ensures { IsByte byte result }
-{
-    byte as u64
-}
-
-// The length byte as an index.
-fn index(byte: u8) -> usize
-    ensures { IsByte byte result }
-{
-    byte as usize
-}
-
 // The entry of a number.
 pub fn at(entries: &[u8], number: usize) -> &[u8]
     requires { number * entry_bytes + entry_bytes ≤ length entries.now }
@@ -55,10 +41,10 @@ fn half_word(entry: &[u8], from: usize) -> u64
     requires { from + half_word_bytes ≤ length entry.now }
     ensures { IsHalfWord entry.now from result }
 {
-    let b0 = wide(entry[from]);
-    let b1 = wide(entry[from + 1]);
-    let b2 = wide(entry[from + 2]);
-    let b3 = wide(entry[from + 3]);
+    let b0 = u64::from(entry[from]);
+    let b1 = u64::from(entry[from + 1]);
+    let b2 = u64::from(entry[from + 2]);
+    let b3 = u64::from(entry[from + 3]);
     b0 + BYTE_VALUES * (b1 + BYTE_VALUES * (b2 + BYTE_VALUES * b3))
 }
 
@@ -72,18 +58,17 @@ fn word(entry: &[u8], from: usize) -> u64
     low + HALF_WORD_VALUES * high
 }
 
-// Whether two entries are the same: the names by words, then the length bytes.
+// Whether two entries are the same: the names by words, then the length bytes. Not `a == b`: the audit of a name list compares four words
+// where std compares 33 bytes one by one.
 pub fn same(a: &[u8], b: &[u8]) -> bool
     requires { (length a.now ≡ entry_bytes) × (length b.now ≡ entry_bytes) }
     ensures { Says result (a.now ≡ b.now) }
 {
-    let mut k: usize = 0;
-    while k < NAME_WORDS {
+    for k in 0..NAME_WORDS {
         let from = k * WORD_BYTES + 1;
         if word(a, from) != word(b, from) {
             return false;
         }
-        k += 1;
     }
     a[0] == b[0]
 }
@@ -98,8 +83,15 @@ pub fn bucket(entry: &[u8]) -> usize
     let w1 = word(entry, 9) % BUCKETS;
     let w2 = word(entry, 17) % BUCKETS;
     let w3 = word(entry, 25) % BUCKETS;
-    let sum = wide(entry[0]) + w0 + 3 * w1 + 5 * w2 + 7 * w3;
+    let sum = u64::from(entry[0]) + w0 + 3 * w1 + 5 * w2 + 7 * w3;
     (sum % BUCKETS) as usize
+}
+
+// Whether every byte is 0.
+fn all_zero(bytes: &[u8]) -> bool
+    ensures { IsTrue result ↔ EachIndex bytes.now (λ i. slice_index bytes.now i ≡ 0) }
+{
+    bytes.iter().all(|byte| *byte == 0)
 }
 
 // Whether an entry is sound: a length from 1 to 32, and the unused bytes 0.
@@ -108,20 +100,10 @@ pub fn sound(entry: &[u8]) -> bool
     ensures { Says result (SoundEntry entry.now) }
 {
     let n = name_length(entry);
-    if n < SHORTEST_NAME {
+    if n < SHORTEST_NAME || LONGEST_NAME < n {
         return false;
     }
-    if LONGEST_NAME < n {
-        return false;
-    }
-    let mut j = n + 1;
-    while j < ENTRY_BYTES {
-        if entry[j] != 0 {
-            return false;
-        }
-        j += 1;
-    }
-    true
+    all_zero(&entry[n + 1..ENTRY_BYTES])
 }
 
 // The entry of a name.
@@ -132,11 +114,7 @@ pub fn of_name(name: &[u8]) -> [u8; ENTRY_BYTES]
     let mut entry = [0u8; ENTRY_BYTES];
     let n = name.len();
     entry[0] = n as u8;
-    let mut i: usize = 0;
-    while i < n {
-        entry[1 + i] = name[i];
-        i += 1;
-    }
+    entry[1..n + 1].copy_from_slice(name);
     entry
 }
 
@@ -146,11 +124,7 @@ pub fn put(entries: &mut [u8], number: usize, entry: &[u8])
     ensures { entries.new ≡ put_entry entries.old number entry.now }
 {
     let start = number * ENTRY_BYTES;
-    let mut i: usize = 0;
-    while i < ENTRY_BYTES {
-        entries[start + i] = entry[i];
-        i += 1;
-    }
+    entries[start..start + ENTRY_BYTES].copy_from_slice(entry);
 }
 
 // The length of an entry's name.
@@ -158,7 +132,7 @@ pub fn name_length(entry: &[u8]) -> usize
     requires { length entry.now ≡ entry_bytes }
     ensures { IsByte (get_or entry.now 0 0) result }
 {
-    index(entry[0])
+    usize::from(entry[0])
 }
 
 // The bytes of an entry's name, and the unused ones.
@@ -167,10 +141,6 @@ pub fn name_bytes(entry: &[u8]) -> [u8; LONGEST_NAME]
     ensures { result ≡ drop 1 entry.now }
 {
     let mut bytes = [0u8; LONGEST_NAME];
-    let mut i: usize = 0;
-    while i < LONGEST_NAME {
-        bytes[i] = entry[1 + i];
-        i += 1;
-    }
+    bytes.copy_from_slice(&entry[1..]);
     bytes
 }

@@ -1,5 +1,5 @@
 -- What each way through a name call answers and leaves.
-use Prim.Native.Nat.{ℕ, ◌+◌, ◌-◌, ◌/◌, ◌≤◌, ◌<◌, min}
+use Prim.Native.Nat.{ℕ, ◌+◌, ◌/◌, ◌≤◌, ◌<◌, min}
 use mathlib.Core.Path.{◌≡◌, refl, sym, ap, ◌∙◌, subst}
 use mathlib.Core.Bool.{true, false}
 use mathlib.Core.Option.{none, some}
@@ -13,11 +13,9 @@ use Rattle.definitions.specs.Refusals.{bad_name_length, not_sound, no_name_place
 use Rattle.definitions.specs.Names.{NameCall, intern_name, lookup_name, name_of, NameAnswer, numbered, unknown, named, refused, NameResult, answers, name_call, number_from, length_allowed, most_names, shortest_name, longest_name, entry_bytes}
 use Rattle.names.specs.declared.NameReply.TheVariants.{Unknown, Named, Refused}
 use Rattle.names.specs.declared.NameBytes.{NameBytes}
-use Rattle.names.specs.declared.EntryFound.{EntryFound}
-use Rattle.names.specs.declared.EntryFound.TheVariants.{At, Nothing}
 use Rattle.name_entries.specs.Entry.{name_in, entry_of, put_entry, SoundEntry, IsEntry, IsEntryOf, IsByte}
 use Rattle.name_entries.specs.Sound.{SoundNames, names_of, name_at, lent_entries}
-use Rattle.names.specs.Calls.{Allowed, FindsEntry, FoundAt, plainly, names_left_by, bytes_beside, name_bytes_of, NameCalled, CallClauses}
+use Rattle.names.specs.Calls.{Allowed, FoundAt, plainly, names_left_by, bytes_beside, name_bytes_of, NameCalled, CallClauses}
 use Rattle.names.specs.Memory.{name_memory}
 use Rattle.name_entries.proofs.Entries.{entry_of_length, sound_entry, name_length}
 use Rattle.names.proofs.Finding.{NotBelow}
@@ -125,14 +123,12 @@ module _ (bytes : List ℕ) (count : ℕ) (sound : SoundNames bytes count) where
   name_known n l = called_same (name_of n) (named (name_at bytes n)) (rw (names_length bytes count, lt-ltb n count l, names_at bytes count n l) refl)
 
 -- what a search for a name's entry found, by its answer
-module _ (bytes : List ℕ) (count : ℕ) (name key : List ℕ) (r : EntryFound) (of : IsEntryOf name key) (h : FindsEntry bytes count key r) where
-  pub is_found : (i : ℕ) → r ≡ At i → FoundAt bytes count (entry_of name) i
-  unfolding FindsEntry
-  is_found i e = subst (λ (k : List ℕ). FoundAt bytes count k i) of.is (subst (FindsEntry bytes count key) e h)
+module _ (bytes : List ℕ) (count : ℕ) (name key : List ℕ) (of : IsEntryOf name key) where
+  pub is_found : (i : ℕ) → FoundAt bytes count key i → FoundAt bytes count (entry_of name) i
+  is_found i = subst (λ (k : List ℕ). FoundAt bytes count k i) of.is
 
-  pub is_nothing : r ≡ Nothing → NotBelow bytes (entry_of name) count
-  unfolding FindsEntry
-  is_nothing e = subst (λ (k : List ℕ). NotBelow bytes k count) of.is (subst (FindsEntry bytes count key) e h)
+  pub is_nothing : NotBelow bytes key count → NotBelow bytes (entry_of name) count
+  is_nothing = subst (λ (k : List ℕ). NotBelow bytes k count) of.is
 
 -- a new name's entry was written
 pub intern_put : (bytes : List ℕ) (count : ℕ) → SoundNames bytes count → (name key after : List ℕ) → Allowed (length name) → IsEntryOf name key → NotBelow bytes (entry_of name) count → count < most_names → count < lent_entries bytes → after ≡ put_entry bytes count key → CallClauses bytes count (intern_name name) (numbered count) after (count + 1)

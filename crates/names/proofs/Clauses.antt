@@ -12,8 +12,8 @@ use Rattle.definitions.specs.Names.{NameCall, intern_name, lookup_name, name_of,
 use Rattle.names.specs.declared.NameReply.{NameReply}
 use Rattle.names.specs.declared.NameReply.TheVariants.{Numbered, Unknown, Named, Refused}
 use Rattle.names.specs.declared.NameBytes.{NameBytes}
-use Rattle.name_entries.specs.Entry.{entry_at, entry_of, put_entry}
-use Rattle.name_entries.specs.Sound.{SoundNames, name_at, lent_entries}
+use Rattle.name_entries.specs.Entry.{entry_at, entry_of}
+use Rattle.name_entries.specs.Sound.{SoundNames, lent_entries}
 use Rattle.names.specs.Memory.{name_memory, NamesLeft, names_left}
 use Rattle.names.specs.Calls.{answer_of, Allowed, FoundAt, plainly, names_left_by, NameListCalled, bytes_beside, LengthFits, given_as, name_bytes_of, NameCalled, CallClauses, EquationGivesClauses, NameEquationGivesClauses}
 use Rattle.name_entries.proofs.Entries.{entry_length, name_length}

@@ -1,12 +1,12 @@
 -- A name call's contract is the one that the promise of demand 3 takes, and a list without names is sound, whatever its bytes.
 use Prim.Native.Nat.{ℕ}
-use mathlib.Core.Path.{◌≡◌, refl}
+use mathlib.Core.Path.{refl}
 use mathlib.Core.List.{List}
 use native.Mathlib.Omega.{arith}
 use Rattle.definitions.specs.Refusals.{not_sound}
 use Rattle.definitions.specs.Names.{NameCall, NameAnswer}
 use Rattle.definitions.specs.Beside.{NamesCalled, FreshNames}
-use Rattle.name_entries.specs.Sound.{SoundNames, names_of}
+use Rattle.name_entries.specs.Sound.{names_of}
 use Rattle.names.specs.Calls.{NameListCalled}
 use Rattle.names.specs.Memory.{name_memory, name_model}
 use Rattle.names.proofs.Clauses.{equation_gives_clauses}

@@ -1,12 +1,10 @@
 -- What a name call on a lent list answers and leaves: one equation, by the plain registry, or 20.
-use Rattle.std.specs.Prelude.{ℕ, ◌-◌, ◌*◌, ◌≤◌, ◌<◌, ◌≡◌, List, ◌++◌, length, take, drop, replicate}
+use Rattle.std.specs.Prelude.{ℕ, ◌-◌, ◌*◌, ◌≤◌, ◌<◌, ◌≡◌, List, ◌++◌, length, take, drop, replicate, Option, Some, None}
 use Rattle.definitions.specs.Refusals.{not_sound}
 use Rattle.definitions.specs.Names.{NameCall, name_of, NameAnswer, numbered, unknown, named, refused, NameResult, name_call, shortest_name, longest_name, entry_bytes}
 use Rattle.names.specs.declared.NameReply.{NameReply}
 use Rattle.names.specs.declared.NameReply.TheVariants.{Numbered, Unknown, Named, Refused}
 use Rattle.names.specs.declared.NameBytes.{NameBytes}
-use Rattle.names.specs.declared.EntryFound.{EntryFound}
-use Rattle.names.specs.declared.EntryFound.TheVariants.{At, Nothing}
 use Rattle.name_entries.specs.Entry.{entry_at}
 use Rattle.name_entries.specs.Sound.{SoundNames, names_of, lent_entries}
 use Rattle.names.specs.Memory.{NameMemory, name_memory, name_model, names_after, NamesLeft, names_left}
@@ -29,9 +27,9 @@ pub record FoundAt (bytes : List ℕ) (count : ℕ) (key : List ℕ) (i : ℕ) :
   pub same : entry_at bytes i ≡ key
   pub first : (j : ℕ) → j < i → entry_at bytes j ≡ key → ⊥
 
-unfoldable pub FindsEntry : List ℕ → ℕ → List ℕ → EntryFound → Type 0
-FindsEntry bytes count key (At i) = FoundAt bytes count key i
-FindsEntry bytes count key Nothing = (j : ℕ) → j < count → entry_at bytes j ≡ key → ⊥
+abbrev pub FindsEntry : List ℕ → ℕ → List ℕ → Option ℕ → Type 0
+FindsEntry bytes count key (Some i) = FoundAt bytes count key i
+FindsEntry bytes count key None = (j : ℕ) → j < count → entry_at bytes j ≡ key → ⊥
 
 -- what the plain registry does with a call on the names of a list
 abbrev pub plainly : List ℕ → ℕ → NameCall → NameResult

@@ -10,8 +10,8 @@ ghost use Rattle.names.specs.Calls.{answer_of, Allowed, FindsEntry, NameListCall
 use definitions::refusals::{BAD_NAME_LENGTH, NO_NAME_PLACE, NOT_SOUND};
 use name_entries::entry;
 
-// What a call answers: a name's number, none such, the length of a name that stands beside it, or a refusal's number.
-#[derive(Clone, Copy)]
+/// What a call answers: a name's number, none such, the length of a name that stands beside it, or a refusal's number.
+#[derive(Clone, Copy, Debug, PartialEq, Eq)]
 pub enum NameReply {
     Numbered(u32),
     Unknown,
@@ -19,50 +19,41 @@ pub enum NameReply {
     Refused(u64),
 }
 
-// An answer, and how many names there are then.
+/// An answer, and how many names there are then.
 #[derive(Clone, Copy)]
 pub struct InternedName {
     pub answer: NameReply,
     pub count: usize,
 }
 
-// An answer, and beside it the bytes of a name that it gives the length of.
+/// An answer, and beside it the bytes of a name that it gives the length of.
 #[derive(Clone, Copy)]
 pub struct NameBytes {
     pub answer: NameReply,
     pub bytes: [u8; entry::LONGEST_NAME],
 }
 
-// Where a name stands.
-#[derive(Clone, Copy)]
-enum EntryFound {
-    At(usize),
-    Nothing,
-}
-
-// Whether a name list is sound.
+/// Whether a name list is sound.
 pub fn is_sound(entries: &[u8], count: usize) -> bool
     ensures { Says result (SoundNames entries.now count) }
 {
     name_audit::audit(entries, count)
 }
 
-// The number of the entry `key`.
-fn find(entries: &[u8], count: usize, key: &[u8]) -> EntryFound
+// The number of the first entry that is `key`.
+fn find(entries: &[u8], count: usize, key: &[u8]) -> Option<usize>
     requires { (count * entry_bytes ≤ length entries.now) × (length key.now ≡ entry_bytes) }
     ensures { FindsEntry entries.now count key.now result }
 {
-    let mut i: usize = 0;
-    while i < count {
+    for i in 0..count {
         if entry::same(entry::at(entries, i), key) {
-            return EntryFound::At(i);
+            return Some(i);
         }
-        i += 1;
     }
-    EntryFound::Nothing
+    None
 }
 
-// The number of a name whose length is allowed, found or new.
+/// The number of a name whose length is allowed, found or new.
 pub fn intern_allowed(entries: &mut [u8], count: usize, name: &[u8]) -> InternedName
     requires { SoundNames entries.old count × Allowed (length name.now) }
     ensures { NameListCalled entries.old count (intern_name name.now) (answer_of result.answer [])
@@ -70,45 +61,32 @@ pub fn intern_allowed(entries: &mut [u8], count: usize, name: &[u8]) -> Interned
         result.count }
 {
     let key = entry::of_name(name);
-    let found = find(entries, count, &key);
-    if let EntryFound::At(i) = found {
-        let known = i as u32;
+    if let Some(known) = find(entries, count, &key) {
         return InternedName {
-            answer: NameReply::Numbered(known),
+            answer: NameReply::Numbered(known as u32),
             count,
         };
     }
-    if name_audit::MOST_NAMES <= count {
-        return InternedName {
-            answer: NameReply::Refused(NO_NAME_PLACE),
-            count,
-        };
-    }
-    if entries.len() / entry::ENTRY_BYTES <= count {
+    if name_audit::MOST_NAMES <= count || entries.len() / entry::ENTRY_BYTES <= count {
         return InternedName {
             answer: NameReply::Refused(NO_NAME_PLACE),
             count,
         };
     }
     entry::put(entries, count, &key);
-    let number = count as u32;
-    let next = count + 1;
     InternedName {
-        answer: NameReply::Numbered(number),
-        count: next,
+        answer: NameReply::Numbered(count as u32),
+        count: count + 1,
     }
 }
 
 fn length_allowed(length: usize) -> bool
     ensures { Says result (Allowed length) }
 {
-    if length < entry::SHORTEST_NAME {
-        return false;
-    }
-    length <= entry::LONGEST_NAME
+    entry::SHORTEST_NAME <= length && length <= entry::LONGEST_NAME
 }
 
-// The number of a name, which becomes known if it is not.
+/// The number of a name, which becomes known if it is not.
 pub fn intern(entries: &mut [u8], count: usize, name: &[u8]) -> InternedName
     ensures { NameListCalled entries.old count (intern_name name.now) (answer_of result.answer [])
         entries.new
@@ -129,7 +107,7 @@ pub fn intern(entries: &mut [u8], count: usize, name: &[u8]) -> InternedName
     intern_allowed(entries, count, name)
 }
 
-// The number of a name, if it is known.
+/// The number of a name, if it is known.
 pub fn lookup(entries: &[u8], count: usize, name: &[u8]) -> NameReply
     ensures { NameListCalled entries.now count (lookup_name name.now) (answer_of result []) entries.now
         count }
@@ -140,15 +118,14 @@ pub fn lookup(entries: &[u8], count: usize, name: &[u8]) -> NameReply
     if !length_allowed(name.len()) {
         return NameReply::Refused(BAD_NAME_LENGTH);
     }
-    let key = entry::of_name(name);
-    let place = find(entries, count, &key);
-    match place {
-        EntryFound::At(i) => NameReply::Numbered(i as u32),
-        EntryFound::Nothing => NameReply::Unknown,
+    let sought = entry::of_name(name);
+    match find(entries, count, &sought) {
+        Some(known) => NameReply::Numbered(known as u32),
+        None => NameReply::Unknown,
     }
 }
 
-// The name of a number, if there is one.
+/// The name of a number, if there is one.
 pub fn name(entries: &[u8], count: usize, number: u32) -> NameBytes
     ensures { NameCalled entries.now count number result }
 {

@@ -14,13 +14,11 @@ use Rattle.definitions.specs.Firing as F
 use Rattle.definitions.specs.Firing.{apply_as, if_fits, firing}
 use Rattle.definitions.proofs.Firing.{exactly}
 use Rattle.store.specs.View.{nodes_in}
-use Rattle.decisions.specs.Deciding.{Decides}
-use Rattle.decisions.specs.Fired.{nothing_fits, decision_by, Chooses, Fires}
-use Rattle.decisions.specs.declared.PatternResult.{PatternResult}
-use Rattle.decisions.specs.declared.firing.Pattern.TheVariants.{NegDouble}
+use Rattle.decisions.specs.Fired.{Chooses, Fires}
+use Rattle.std.specs.Prelude.{Some, None}
+use Rattle.std.specs.Prelude as Std
 use Rattle.decisions.specs.declared.firing.Decision.{Decision}
 use Rattle.decisions.proofs.FittingLaws.{nothing}
-use Rattle.decisions.proofs.FiringLaws.{last}
 use Rattle.patterns.proofs.KindLaws.{no_pattern}
 
 one_of : (c : List ℕ) → length c ≡ 1 → get_or c 0 0 ∷ [] ≡ c
@@ -34,13 +32,13 @@ two_of (a ∷ []) e = absurd (omega arith)
 two_of (a ∷ b ∷ []) e = refl
 two_of (a ∷ b ∷ c ∷ d) e = absurd (omega arith)
 
-negated : {w : List ℕ} {count : ℕ} {d : Decision} (m : Mode) (a : ℕ) → Chooses w count (λ l ns. neg_double ns a) (λ l ns. if_fits (neg_double ns a) F.neg_double none) d
+negated : {w : List ℕ} {count : ℕ} {d : Std.Option Decision} (m : Mode) (a : ℕ) → Chooses w count (λ l ns. neg_double ns a) (λ l ns. if_fits (neg_double ns a) F.neg_double none) d
     → Fires m w count neg_kind (a ∷ []) d
 unfolding apply_as try_apply strict_apply firing
 negated standard a h = h
 negated strict a h = h
 
-module _ {w : List ℕ} {count : ℕ} {d : Decision} (k : ℕ) (c : List ℕ) where
+module _ {w : List ℕ} {count : ℕ} {d : Std.Option Decision} (k : ℕ) (c : List ℕ) where
   pub in_mode : (m n : Mode) → m ≡ n → Fires n w count k c d → Fires m w count k c d
   in_mode m n e h = subst (λ (x : Mode). Fires x w count k c d) (sym e) h
 
@@ -48,14 +46,14 @@ module _ {w : List ℕ} {count : ℕ} {d : Decision} (k : ℕ) (c : List ℕ) wh
     pub two_children : length c ≡ 2 → Fires m w count k (get_or c 0 0 ∷ get_or c 1 0 ∷ []) d → Fires m w count k c d
     two_children e h = subst (λ (x : List ℕ). Fires m w count k x d) (two_of c e) h
 
-    pub one_child : {r : PatternResult} → length c ≡ 1 → k ≡ neg_kind → Decides w count (λ l ns. neg_double ns (get_or c 0 0)) r → d ≡ decision_by r NegDouble → Fires m w count k c d
-    one_child e f h is =
+    pub one_child : (a : ℕ) → a ≡ get_or c 0 0 → length c ≡ 1 → k ≡ neg_kind → Chooses w count (λ l ns. neg_double ns a) (λ l ns. if_fits (neg_double ns a) F.neg_double none) d → Fires m w count k c d
+    one_child a g e f h =
         subst (λ (x : List ℕ). Fires m w count k x d) (one_of c e)
-        (subst (λ (x : ℕ). Fires m w count x (get_or c 0 0 ∷ []) d) (sym f) (negated m (get_or c 0 0) (last NegDouble refl is h)))
+        (subst (λ (x : ℕ). Fires m w count x (get_or c 0 0 ∷ []) d) (sym f) (subst (λ (x : ℕ). Fires m w count neg_kind (x ∷ []) d) g (negated m a h)))
 
-    -- no pattern for the number of children, or for the kind
-    pub no_firing : d ≡ nothing_fits → (length c ≡ 1 → k ≡ neg_kind → ⊥) → (length c ≡ 2 → (k < add_kind) ⊎ (pow_kind < k)) → Fires m w count k c d
-    no_firing is u v = subst (λ (x : Decision). Fires m w count k c x) (sym is) (record {
-      decides = nothing (λ l ns. no_pattern m l ns k c u v);
-      fired = λ l. sym ((exactly m l (nodes_in w count) k c).1 (sym (no_pattern m l (nodes_in w count) k c u v)));
-    })
+-- no pattern for the number of children, or for the kind
+pub no_firing : {w : List ℕ} {count : ℕ} (k : ℕ) (c : List ℕ) (m : Mode) → (length c ≡ 1 → k ≡ neg_kind → ⊥) → (length c ≡ 2 → (k < add_kind) ⊎ (pow_kind < k)) → Fires m w count k c None
+no_firing {w} {count} k c m u v = record {
+  decides = nothing (λ l ns. no_pattern m l ns k c u v);
+  fired = λ l. sym ((exactly m l (nodes_in w count) k c).1 (sym (no_pattern m l (nodes_in w count) k c u v)));
+}

@@ -1,57 +1,56 @@
 -- What `try_apply` answers and leaves.
-use Rattle.std.specs.Prelude.{ℕ, ◌<◌, ◌≤◌, ◌≡◌, List, length, get_or}
-use Rattle.std.proofs.Math.Option.{Option, none, some}
+use Rattle.std.specs.Prelude.{ℕ, ◌<◌, ◌≤◌, ◌≡◌, List, length, get_or, Option, Some, None}
+use Rattle.std.proofs.Math.Option as Math
+use Rattle.std.proofs.Math.Option.{none, some}
 use Rattle.arena.specs.declared.DagArena.{DagArena}
 use Rattle.definitions.specs.Limits.{most_children}
-use Rattle.definitions.specs.Node.{Node}
 use Rattle.definitions.specs.Intern as I
 use Rattle.definitions.specs.Walk.{Mode}
-use Rattle.definitions.specs.Firing.{Pattern, apply_as, firing}
-use Rattle.store.specs.View.{nodes_in, lent, Kept}
-use Rattle.store.specs.declared.Built.{Built}
+use Rattle.definitions.specs.Firing as F
+use Rattle.definitions.specs.Firing.{apply_as, firing}
+use Rattle.store.specs.View.{nodes_in, lent, Kept, Low, plain_built}
 use Rattle.store.specs.declared.NodeAnswer.{NodeAnswer}
-use Rattle.store.specs.declared.NodeAnswer.TheVariants as A
+use Rattle.store.specs.declared.NodeAnswer.TheVariants.{Id, Refused}
 use Rattle.decisions.specs.Fired.{fired_of}
-use Rattle.decisions.specs.declared.firing.Fired.{Fired}
-use Rattle.decisions.specs.declared.firing.Fired.TheVariants.{Nothing}
-use Rattle.patterns.specs.declared.Applied.{Applied}
-use Rattle.patterns.specs.declared.Matched.{Matched}
-use Rattle.patterns.specs.declared.Matched.TheVariants.{Declined, Id, Refused}
+use Rattle.decisions.specs.declared.firing.Pattern.{Pattern}
+use Rattle.patterns.specs.declared.Finished.{Finished}
 
 -- the children are nodes of the store, as many as a node may have at most
 pub record Operands (count : ℕ) (children : List ℕ) : Type 0 where
   pub few : length children ≤ most_children
   pub low : (j : ℕ) → j < length children → get_or children j 0 < count
 
--- an answer over the nodes after it: no pattern fits, or the nodes with the id, or the nodes with the refusal
-abbrev pub plain_matched : Matched → List Node → Option I.Built
-plain_matched Declined ns = none
-plain_matched (Id i) ns = some (I.built ns i)
-plain_matched (Refused k) ns = some (I.stopped ns k)
+-- an answer over the words after it: no pattern fits, or the nodes with the id, or the nodes with the refusal
+abbrev pub plain_matched : Option Finished → List ℕ → Math.Option I.Built
+plain_matched None w = none
+plain_matched (Some f) w = some (plain_built f.answer (nodes_in w f.arena.count))
 
-abbrev pub MatchedLow : Matched → ℕ → Type 0
-MatchedLow Declined count = Unit {0}
-MatchedLow (Id i) count = i < count
-MatchedLow (Refused k) count = Unit {0}
+abbrev pub MatchedLow : Option Finished → Type 0
+MatchedLow None = Unit {0}
+MatchedLow (Some f) = Low f.answer f.arena.count
+
+-- the store's counts after an answer: those before it where no pattern fits
+abbrev pub counts_after : DagArena → Option Finished → DagArena
+counts_after s None = s
+counts_after s (Some f) = f.arena
+
+abbrev pub fired_in : Option Finished → Option Pattern
+fired_in None = None
+fired_in (Some f) = f.fired
 
 -- what fires at an answer: nothing where it is stopped
-abbrev pub fires_at : Matched → Option Pattern → Option Pattern
-fires_at Declined p = none
-fires_at (Id i) p = p
-fires_at (Refused k) p = none
+abbrev pub fires_with : NodeAnswer → Math.Option F.Pattern → Math.Option F.Pattern
+fires_with (Id i) p = p
+fires_with (Refused k) p = none
+
+abbrev pub fires_at : Option Finished → Math.Option F.Pattern → Math.Option F.Pattern
+fires_at None p = none
+fires_at (Some f) p = fires_with f.answer p
 
 -- the answer, the store after it and the pattern that fired are the plain machine's; where no pattern fits nothing changes
-pub record Applies (m : Mode) (k : ℕ) (c : List ℕ) (w slots : List ℕ) (s : DagArena) (w' slots' : List ℕ) (r : Applied) : Type 0 where
-  pub is : plain_matched r.matched (nodes_in w' r.arena.count) ≡ apply_as m (lent w slots) (nodes_in w s.count) k c
-  pub fired : fired_of r.fired ≡ fires_at r.matched (firing m (lent w slots) (nodes_in w s.count) k c)
-  pub kept : Kept w slots s w' slots' r.arena
-  pub low : MatchedLow r.matched r.arena.count
-  pub same : r.matched ≡ Declined → (w' ≡ w) × (slots' ≡ slots) × (r.arena ≡ s)
-
--- what the store built for a pattern, as an answer
-abbrev pub applied : NodeAnswer → DagArena → Fired → Applied
-applied (A.Id i) s f = record { matched = Id i; arena = s; fired = f }
-applied (A.Refused k) s f = record { matched = Refused k; arena = s; fired = Nothing }
-
-abbrev pub applied_of : Built → Fired → Applied
-applied_of b f = applied b.answer b.arena f
+pub record Applies (m : Mode) (k : ℕ) (c : List ℕ) (w slots : List ℕ) (s : DagArena) (w' slots' : List ℕ) (r : Option Finished) : Type 0 where
+  pub is : plain_matched r w' ≡ apply_as m (lent w slots) (nodes_in w s.count) k c
+  pub fired : fired_of (fired_in r) ≡ fires_at r (firing m (lent w slots) (nodes_in w s.count) k c)
+  pub kept : Kept w slots s w' slots' (counts_after s r)
+  pub low : MatchedLow r
+  pub same : r ≡ None → (w' ≡ w) × (slots' ≡ slots)

@@ -1,2 +1,2 @@
-pub mod Applicable
 pub mod Applied
+pub mod Rewriting

@@ -1,4 +1,4 @@
--- Pruning again (02 n), over the plain machine: for every list of nodes that is plainly sound.
+-- Pruning again, over the plain machine: for every list of nodes that is plainly sound.
 use Rattle.std.specs.Prelude.{ℕ, ◌<◌, ◌≤◌, ◌≡◌, true, false, ◌||◌, List, [], length, eqb}
 use Rattle.std.specs.Float.{binary64}
 use Rattle.std.specs.Float.Ieee.{of_bits, lt}

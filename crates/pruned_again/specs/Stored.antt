@@ -1,4 +1,4 @@
--- Pruning again (02 n), over the memory of every sound store, lent ones too, and over what the code's calls leave of it.
+-- Pruning again, over the memory of every sound store, lent ones too, and over what the code's calls leave of it.
 use Rattle.std.specs.Prelude.{ℕ, ◌≤◌, ◌≡◌}
 use Rattle.definitions.specs.Threshold.{Threshold, bits, given}
 use Rattle.definitions.specs.Settings.{setting}

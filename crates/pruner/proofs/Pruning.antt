@@ -21,22 +21,20 @@ use Rattle.definitions.specs.Machine.{pruned_as, prune_chain, prune_at, prune_ca
 use Rattle.definitions.proofs.Stable.{Lower}
 use Rattle.definitions.proofs.Prune.{filter_length}
 use Rattle.arena.specs.declared.DagArena.{DagArena}
-use Rattle.store.specs.declared.Built.{Built}
-use Rattle.store.specs.declared.NodeAnswer as Store
-use Rattle.store.specs.declared.NodeAnswer.TheVariants as Stores
-use Rattle.store.specs.View.{nodes_in, lent, Sound, plain_built}
+use Rattle.store.specs.View.{nodes_in, lent, Sound}
 use Rattle.store.specs.Memory.{Memory, memory, keeps_interned}
 use Rattle.store.proofs.Keeping.{kept_refl}
 use Rattle.store.proofs.Viewing.{plain_length}
 use Rattle.chains.specs.Terms.{Flattens, HoldsTerms}
-use Rattle.sums.specs.Sums.{part, Summable, Sums}
+use Rattle.chains.specs.Terms.{AllBelow}
+use Rattle.sums.specs.Sums.{part, BuildsIn, SumsTerms}
 use Rattle.pruner.specs.Answers.{meaning, threshold_of, Prunes, PrunesChain, PrunesRoot, PrunesCall}
-use Rattle.pruner.specs.declared.threshold.Threshold.{Threshold}
-use Rattle.pruner.specs.declared.threshold.Threshold.TheVariants.{Bits, Untouched, Refusing}
-use Rattle.chains.specs.declared.chain.Flattened.{Flattened}
-use Rattle.chains.specs.declared.chain.Flattened.TheVariants.{Terms, TooMany}
-use Rattle.pruner.specs.declared.PruneAnswer.{PruneAnswer}
-use Rattle.pruner.specs.declared.PruneAnswer.TheVariants.{Pruned, Refused}
+use Rattle.std.specs.Prelude.{Option, None, Some, Result, Ok, Err}
+use Rattle.refusal.specs.declared.Refusal.{Refusal}
+use Rattle.refusal.specs.declared.Refusal.TheVariants.{BadOperand, TooManyTerms}
+use Rattle.refusal.specs.Number.{number_of}
+use Rattle.chains.specs.declared.chain.Terms.{Terms}
+use Rattle.pruner.specs.declared.Pruned.{Pruned}
 use Rattle.chains.proofs.Below.{below_of, lower_filter}
 use Rattle.chains.proofs.Chains.{chain_low}
 use Rattle.chains.proofs.Reading.{readable, layered}
@@ -49,12 +47,13 @@ for_place number (inl e) = ap (λ (x : ℕ). keeps_interned x) e
 for_place number (inr e) = ap (λ (x : ℕ). keeps_interned x) e
 
 -- ---- a flattening's answer by its case
-pub holds_of : (terms : List ℕ) (keep : ℕ → Bool) (answer : Flattened) (array : List ℕ) (from found kept : ℕ) → Flattens terms keep answer array → answer ≡ Terms from found kept
-    → HoldsTerms terms keep (Terms from found kept) array
-holds_of terms keep answer array from found kept f e = subst (λ (x : Flattened). HoldsTerms terms keep x array) e f.holds
+pub holds_of : (terms : List ℕ) (keep : ℕ → Bool) (answer : Result Terms Refusal) (array : List ℕ) (t : Terms) → Flattens terms keep answer array → answer ≡ Ok t
+    → HoldsTerms terms keep (Ok t) array
+holds_of terms keep answer array t f e = subst (λ (x : Result Terms Refusal). HoldsTerms terms keep x array) e f.holds
 
-pub too_many_of : (terms : List ℕ) (keep : ℕ → Bool) (answer : Flattened) (array : List ℕ) → Flattens terms keep answer array → answer ≡ TooMany → most_terms < length terms
-too_many_of terms keep answer array f e = subst (λ (x : Flattened). HoldsTerms terms keep x array) e f.holds
+pub too_many_of : (terms : List ℕ) (keep : ℕ → Bool) (answer : Result Terms Refusal) (array : List ℕ) (refusal : Refusal) → Flattens terms keep answer array → answer ≡ Err refusal
+    → HoldsTerms terms keep (Err refusal) array
+too_many_of terms keep answer array refusal f e = subst (λ (x : Result Terms Refusal). HoldsTerms terms keep x array) e f.holds
 
 module _ (words slots : List ℕ) (s : DagArena) (sound : Sound words slots s) where
   abbrev m : Memory
@@ -67,15 +66,15 @@ module _ (words slots : List ℕ) (s : DagArena) (sound : Sound words slots s) w
   ns = nodes_in words s.count
 
   -- memory as it was, with any answer
-  pub same : (plain : M.Outcome) (answer : PruneAnswer) → outcome (meaning answer) (nodes_in words s.count) ≡ plain → Prunes (memory words slots s) plain answer (memory words slots s)
+  pub same : (plain : M.Outcome) (answer : Result Pruned Refusal) → outcome (meaning answer) (nodes_in words s.count) ≡ plain → Prunes (memory words slots s) plain answer (memory words slots s)
   same plain answer e = record { plainly = e; kept = kept_refl words slots s sound; unchanged = λ number q u. refl }
 
   -- ---- the root
 
   -- "id not below the count"
-  pub no_root : (root : ℕ) (threshold : Threshold) → s.count ≤ root → PrunesCall (memory words slots s) root threshold (Refused bad_operand) (memory words slots s)
+  pub no_root : (root : ℕ) (threshold : Result (Option ℕ) Refusal) → s.count ≤ root → PrunesCall (memory words slots s) root threshold (Err BadOperand) (memory words slots s)
   unfolding prune_call
-  no_root root threshold h = same _ (Refused bad_operand) (sym (ap (λ (b : Bool). cond b (prune_at l ns root (threshold_of threshold)) (outcome (M.refused bad_operand) ns)) (le-ltb root (length ns) (omega (arith, plain_length words s.count)))))
+  no_root root threshold h = same _ (Err BadOperand) (sym (ap (λ (b : Bool). cond b (prune_at l ns root (threshold_of threshold)) (outcome (M.refused bad_operand) ns)) (le-ltb root (length ns) (omega (arith, plain_length words s.count)))))
 
   module _ (root : ℕ) (low : root < s.count) where
     known : ltb root (length ns) ≡ true
@@ -85,22 +84,22 @@ module _ (words slots : List ℕ) (s : DagArena) (sound : Sound words slots s) w
     unfolding prune_call
     at_known t = sym (ap (λ (b : Bool). cond b (prune_at l ns root t) (outcome (M.refused bad_operand) ns)) known)
 
-    pub at_root : (threshold : Threshold) (bits : ℕ) → threshold ≡ Bits bits → (answer : PruneAnswer) (m' : Memory)
+    pub at_root : (threshold : Result (Option ℕ) Refusal) (bits : ℕ) → threshold ≡ Ok (Some bits) → (answer : Result Pruned Refusal) (m' : Memory)
         → PrunesRoot (memory words slots s) root bits answer m'
         → PrunesCall (memory words slots s) root threshold answer m'
     at_root threshold bits e answer m' p =
-        record { plainly = p.plainly ∙ at_known (T.bits bits) ∙ ap (λ (x : Threshold). prune_call l ns root (threshold_of x)) (sym e); kept = p.kept; unchanged = p.unchanged }
+        record { plainly = p.plainly ∙ at_known (T.bits bits) ∙ ap (λ (x : Result (Option ℕ) Refusal). prune_call l ns root (threshold_of x)) (sym e); kept = p.kept; unchanged = p.unchanged }
 
     -- no threshold
-    pub answers_root : (threshold : Threshold) → threshold ≡ Untouched → PrunesCall (memory words slots s) root threshold (Pruned root 1 0) (memory words slots s)
+    pub answers_root : (threshold : Result (Option ℕ) Refusal) → threshold ≡ Ok None → PrunesCall (memory words slots s) root threshold (Ok (record { id = root; kept = 1; dropped = 0 })) (memory words slots s)
     unfolding prune_at
-    answers_root threshold e = same _ (Pruned root 1 0) (at_known T.untouched ∙ ap (λ (x : Threshold). prune_call l ns root (threshold_of x)) (sym e))
+    answers_root threshold e = same _ (Ok (record { id = root; kept = 1; dropped = 0 })) (at_known T.untouched ∙ ap (λ (x : Result (Option ℕ) Refusal). prune_call l ns root (threshold_of x)) (sym e))
 
     -- a threshold that is refused
-    pub no_threshold : (threshold : Threshold) (number : ℕ) → threshold ≡ Refusing number
-        → PrunesCall (memory words slots s) root threshold (Refused number) (memory words slots s)
+    pub no_threshold : (threshold : Result (Option ℕ) Refusal) (refusal : Refusal) → threshold ≡ Err refusal
+        → PrunesCall (memory words slots s) root threshold (Err refusal) (memory words slots s)
     unfolding prune_at
-    no_threshold threshold number e = same _ (Refused number) (at_known (T.refusing number) ∙ ap (λ (x : Threshold). prune_call l ns root (threshold_of x)) (sym e))
+    no_threshold threshold refusal e = same _ (Err refusal) (at_known (T.refusing (number_of refusal)) ∙ ap (λ (x : Result (Option ℕ) Refusal). prune_call l ns root (threshold_of x)) (sym e))
 
     -- ---- the terms
     abbrev ts : List ℕ
@@ -119,11 +118,11 @@ module _ (words slots : List ℕ) (s : DagArena) (sound : Sound words slots s) w
       ks = filter (keeps ns t) ts
 
       -- "A root that is no Add has no chain and is answered itself, 1 kept, 0 dropped."
-      pub no_chain : ((at (nodes_in words s.count) root).kind ≡ add_kind → ⊥) → PrunesRoot (memory words slots s) root threshold (Pruned root 1 0) (memory words slots s)
+      pub no_chain : ((at (nodes_in words s.count) root).kind ≡ add_kind → ⊥) → PrunesRoot (memory words slots s) root threshold (Ok (record { id = root; kept = 1; dropped = 0 })) (memory words slots s)
       unfolding prune_at
-      no_chain other = same _ (Pruned root 1 0) (sym (ap (λ (b : Bool). cond b (prune_chain l ns t ts) (outcome (M.pruned root 1 0) ns)) (ne_eqb (at ns root).kind add_kind other)))
+      no_chain other = same _ (Ok (record { id = root; kept = 1; dropped = 0 })) (sym (ap (λ (b : Bool). cond b (prune_chain l ns t ts) (outcome (M.pruned root 1 0) ns)) (ne_eqb (at ns root).kind add_kind other)))
 
-      pub at_chain : (at (nodes_in words s.count) root).kind ≡ add_kind → (answer : PruneAnswer) (m' : Memory)
+      pub at_chain : (at (nodes_in words s.count) root).kind ≡ add_kind → (answer : Result Pruned Refusal) (m' : Memory)
           → PrunesChain (memory words slots s) root threshold answer m'
           → PrunesRoot (memory words slots s) root threshold answer m'
       unfolding prune_at
@@ -133,12 +132,12 @@ module _ (words slots : List ℕ) (s : DagArena) (sound : Sound words slots s) w
       -- ---- the chain
 
       -- "over 4,096 terms"
-      pub too_many : most_terms < length (chain (nodes_in words s.count) root)
-          → PrunesChain (memory words slots s) root threshold (Refused too_many_terms) (memory words slots s)
+      pub too_many : (refusal : Refusal) → refusal ≡ TooManyTerms → most_terms < length (chain (nodes_in words s.count) root)
+          → PrunesChain (memory words slots s) root threshold (Err refusal) (memory words slots s)
       unfolding prune_chain
-      too_many h = same _ (Refused too_many_terms) (sym (ap (λ (b : Bool). cond b (outcome (M.refused too_many_terms) ns) (pruned_as (length ks) (length ts - length ks) (sum_of_kept l ns ks))) (lt-ltb most_terms (length ts) h)))
+      too_many refusal e h = same _ (Err refusal) (ap (λ (x : Refusal). outcome (M.refused (number_of x)) ns) e ∙ sym (ap (λ (b : Bool). cond b (outcome (M.refused too_many_terms) ns) (pruned_as (length ks) (length ts - length ks) (sum_of_kept l ns ks))) (lt-ltb most_terms (length ts) h)))
 
-      module _ (from found kept : ℕ) (array : List ℕ) (holds : HoldsTerms (chain (nodes_in words s.count) root) (keeps (nodes_in words s.count) (of_bits binary64 threshold)) (Terms from found kept) array) where
+      module _ (from found kept : ℕ) (array : List ℕ) (holds : HoldsTerms (chain (nodes_in words s.count) root) (keeps (nodes_in words s.count) (of_bits binary64 threshold)) (Ok (record { from = from; found = found; kept = kept })) array) where
         pub few : kept ≤ found
         few = omega (arith, holds.0, holds.2, filter_length (keeps ns t) ts)
 
@@ -148,12 +147,8 @@ module _ (words slots : List ℕ) (s : DagArena) (sound : Sound words slots s) w
         kept_low : Lower s.count ks
         kept_low = lower_filter s.count (keeps ns t) ts terms_low
 
-        pub summable : Summable words slots s (part array from kept)
-        summable = record {
-          sound = sound;
-          few = omega (arith, few, holds.1, kept_many);
-          below = below_of s.count (part array from kept) (subst (Lower s.count) (sym holds.4) kept_low);
-        }
+        pub low_terms : AllBelow s.count (part array from kept)
+        low_terms = below_of s.count (part array from kept) (subst (Lower s.count) (sym holds.4) kept_low)
 
         plain : (sum : I.Built) → sum ≡ sum_of_kept l ns (part array from kept) → pruned_as kept (found - kept) sum ≡ prune_chain l ns t ts
         unfolding prune_chain
@@ -163,32 +158,30 @@ module _ (words slots : List ℕ) (s : DagArena) (sound : Sound words slots s) w
             ∙ ap₂ (λ (x y : ℕ). pruned_as x y (sum_of_kept l ns ks)) holds.2 b
             ∙ sym (ap (λ (b : Bool). cond b (outcome (M.refused too_many_terms) ns) (pruned_as (length ks) (length ts - length ks) (sum_of_kept l ns ks))) (le-ltb most_terms (length ts) (let x = holds.0 in let y = holds.1 in omega arith)))
 
-        module _ (words' slots' : List ℕ) (r : Built) (b : Sums words slots s (part array from kept) words' slots' r) where
+        module _ (m' : Memory) (sum : Result ℕ Refusal) (b : SumsTerms (memory words slots s) (part array from kept) sum m') where
           abbrev ns' : List Node
-          ns' = nodes_in words' r.arena.count
+          ns' = nodes_in m'.words m'.arena.count
 
-          said : (answer : Store.NodeAnswer) → r.answer ≡ answer → plain_built answer ns' ≡ sum_of_kept l ns (part array from kept)
-          said answer e = ap (λ (x : Store.NodeAnswer). plain_built x ns') (sym e) ∙ b.answer
+          said : (other : Result ℕ Refusal) → sum ≡ other → BuildsIn (memory words slots s) (sum_of_kept l ns (part array from kept)) other m'
+          said other e = subst (λ (x : Result ℕ Refusal). BuildsIn (memory words slots s) (sum_of_kept l ns (part array from kept)) x m') e b
 
-          pub answered : (id : ℕ) → r.answer ≡ Stores.Id id
-              → PrunesChain (memory words slots s) root threshold (Pruned id kept (found - kept)) (memory words' slots' r.arena)
+          pub answered : (id : ℕ) → sum ≡ Ok id → PrunesChain (memory words slots s) root threshold (Ok (record { id = id; kept = kept; dropped = found - kept })) m'
           answered id e = record {
-            plainly = plain (I.built ns' id) (said (Stores.Id id) e);
+            plainly = plain (I.built ns' id) (said (Ok id) e).answer;
             kept = b.kept;
             unchanged = λ number q u. absurd (let z : ◌≡◌ {A = ℕ} 0 1 = cc in omega arith);
           }
 
           -- 21 and 22
-          pub stops : (number : ℕ) → r.answer ≡ Stores.Refused number
-              → PrunesChain (memory words slots s) root threshold (Refused number) (memory words' slots' r.arena)
-          stops number e = record {
-            plainly = plain (I.stopped ns' number) (said (Stores.Refused number) e);
+          pub stops : (refusal : Refusal) → sum ≡ Err refusal → PrunesChain (memory words slots s) root threshold (Err refusal) m'
+          stops refusal e = record {
+            plainly = plain (I.stopped ns' (number_of refusal)) (said (Err refusal) e).answer;
             kept = b.kept;
-            unchanged = λ other q u. absurd (false≢true (sym (ap (λ (x : ℕ). not (keeps_interned x)) (sym (is other q)) ∙ ap not (for_place number by_place)) ∙ u));
+            unchanged = λ other q u. absurd (false≢true (sym (ap (λ (x : ℕ). not (keeps_interned x)) (sym (is other q)) ∙ ap not (for_place (number_of refusal) by_place)) ∙ u));
           }
             where
-              is : (other : ℕ) → M.refused number ≡ M.refused other → number ≡ other
+              is : (other : ℕ) → M.refused (number_of refusal) ≡ M.refused other → number_of refusal ≡ other
               is other q = cc
 
-              by_place : NoPlace number
-              by_place = subst StopsForPlace (sym (said (Stores.Refused number) e)) (sum_stops l ns (part array from kept))
+              by_place : NoPlace (number_of refusal)
+              by_place = subst StopsForPlace (sym (said (Err refusal) e).answer) (sum_stops l ns (part array from kept))

@@ -12,15 +12,12 @@ use Rattle.definitions.specs.Refusals.{not_sound, bad_operand, no_text, text_too
 use Rattle.definitions.specs.Machine.{fresh_refused}
 use Rattle.store.specs.Sound.{Sound}
 use Rattle.store.specs.View.{lent}
-use Rattle.builder.specs.declared.reading.NodeRead.{NodeRead}
-use Rattle.builder.specs.declared.reading.NodeFound as Found
-use Rattle.builder.specs.declared.reading.NodeFound.TheVariants as found
-use Rattle.builder.specs.Reads.{ReadsNode, refused_read, found_read}
-use Rattle.builder.specs.declared.opening.FreshStore.{FreshStore}
+use Rattle.std.proofs.Common.{Ok, Err}
+use Rattle.builder.specs.Reads.{NodeRead, ReadsNode}
 use Rattle.builder.specs.Opens.{Opens, fresh_answer}
 use Rattle.text.specs.Memory.{lent_controller}
 use Rattle.history.proofs.Keeping.{called}
-use Rattle.writer.specs.declared.WriteAnswer.TheVariants.{Refused}
+use Rattle.writer.specs.Answers.{Refused}
 use Rattle.writer.specs.Writing as Writing
 use Rattle.refusals_listed.specs.Listed.{among}
 use Rattle.refusals_listed.proofs.Called.{calls_answer_listed, among_more, not_not}
@@ -43,30 +40,30 @@ module _ (words slots : List ℕ) (arena : DagArena) (id : ℕ) (r : NodeRead) (
   ks = not_sound ∷ bad_operand ∷ []
 
   -- on a sound store
-  sound_read : Sound words slots arena → NodeOr (bad_operand ∷ []) r.answer
+  sound_read : Sound words slots arena → NodeOr (bad_operand ∷ []) r
   sound_read s = by (dec_lt id arena.count)
     where
-      by : Dec (id < arena.count) → NodeOr (bad_operand ∷ []) r.answer
-      by (yes l) = subst (λ (x : NodeRead). NodeOr (bad_operand ∷ []) x.answer) (sym (h.found s l)) tt
-      by (no n) = subst (λ (x : NodeRead). NodeOr (bad_operand ∷ []) x.answer) (sym (h.unknown s (omega arith))) tt
+      by : Dec (id < arena.count) → NodeOr (bad_operand ∷ []) r
+      by (yes l) = subst (NodeOr (bad_operand ∷ [])) (sym (h.found s l)) tt
+      by (no n) = subst (NodeOr (bad_operand ∷ [])) (sym (h.unknown s (omega arith))) tt
 
-  never_20 : (a : Found.NodeFound) → NodeOr (bad_operand ∷ []) a → a ≡ found.Refused not_sound → ⊥
-  never_20 found.Node k e = let z : ◌≡◌ {A = ℕ} 0 1 = cc in omega arith
-  never_20 (found.Refused number) k e = let q : number ≡ not_sound = cc in subst (λ (n : ℕ). T (among n (bad_operand ∷ []))) q k
+  never_20 : (a : NodeRead) → NodeOr (bad_operand ∷ []) a → a ≡ Err not_sound → ⊥
+  never_20 (Ok node) k e = let z : ◌≡◌ {A = ℕ} 0 1 = cc in omega arith
+  never_20 (Err number) k e = let q : number ≡ not_sound = cc in subst (λ (n : ℕ). T (among n (bad_operand ∷ []))) q k
 
-  read_listed : (a : Found.NodeFound) → r.answer ≡ a → NodeOr ks a
-  read_listed found.Node e = tt
-  read_listed (found.Refused number) e = not_not (among number ks) (λ out.
+  read_listed : (a : NodeRead) → r ≡ a → NodeOr ks a
+  read_listed (Ok node) e = tt
+  read_listed (Err number) e = not_not (among number ks) (λ out.
       let unsound : Sound words slots arena → ⊥ = λ s. out (among_more number not_sound (bad_operand ∷ []) (subst (NodeOr (bad_operand ∷ [])) e (sound_read s))) in
-      let q : found.Refused number ≡ found.Refused not_sound = sym e ∙ ap (λ (x : NodeRead). x.answer) (h.unsound unsound) in
+      let q : r ≡ Err not_sound = h.unsound unsound in
       let p : number ≡ not_sound = cc in
       out (subst (λ (n : ℕ). T (among n ks)) (sym p) tt))
 
   pub node_read_listed : ReadsNodeListed words slots arena r
   node_read_listed = record {
-    listed = read_listed r.answer refl;
-    unsound = λ u. ap (λ (x : NodeRead). x.answer) (h.unsound u);
-    sound = λ s. never_20 r.answer (sound_read s);
+    listed = read_listed r refl;
+    unsound = h.unsound;
+    sound = λ s. never_20 r (sound_read s);
   }
 
 pub nodes_read_listed : NodesReadListed

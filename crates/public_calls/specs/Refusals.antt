@@ -1,21 +1,15 @@
 -- Demand 1 over the contracts of the code: every call, "for every content of the lent buffers", answers a result or one of the refusals
 -- that are listed for it, and 20 exactly if a list that it is lent is not sound.
-use Rattle.std.specs.Prelude.{ℕ, ◌≡◌, List, [], ◌∷◌, T}
+use Rattle.std.specs.Prelude.{ℕ, ◌≡◌, List, [], ◌∷◌, T, Ok, Err}
 use Rattle.arena.specs.declared.DagArena.{DagArena}
 use Rattle.definitions.specs.Refusals.{not_sound, bad_operand, no_text, text_too_long, no_slot_place}
 use Rattle.definitions.specs.Controller.{ControllerCall, ControllerAnswer}
 use Rattle.store.specs.Sound.{Sound}
-use Rattle.builder.specs.declared.reading.NodeRead.{NodeRead}
-use Rattle.builder.specs.declared.reading.NodeFound as Found
-use Rattle.builder.specs.declared.reading.NodeFound.TheVariants as found
-use Rattle.builder.specs.Reads.{ReadsNode}
-use Rattle.builder.specs.declared.opening.FreshStore.{FreshStore}
-use Rattle.builder.specs.declared.opening.FreshStore.TheVariants.{Store, Refused as NotOpened}
-use Rattle.builder.specs.Opens.{Opens}
+use Rattle.builder.specs.Reads.{NodeRead, ReadsNode}
+use Rattle.builder.specs.Opens.{FreshStore, Opens}
 use Rattle.text.specs.Memory.{ControllerMemory, lent_controller, BothSound}
 use Rattle.calls.specs.Memory.{CallLeaves}
-use Rattle.writer.specs.declared.WriteAnswer.{WriteAnswer}
-use Rattle.writer.specs.declared.WriteAnswer.TheVariants.{Length, Refused}
+use Rattle.writer.specs.Answers.{WriteAnswer, Length, Refused}
 use Rattle.writer.specs.Writing.{Writes}
 use Rattle.refusals_listed.specs.Listed.{among}
 use Rattle.refusals_listed.specs.Called.{AnswersOn}
@@ -29,23 +23,23 @@ PublicCallsAnswerListed = (c : ControllerCall) (m m' : ControllerMemory) (a : Co
 
 -- 22 "also a fresh store with under 64"
 abbrev pub OpenedOr : List ℕ → FreshStore → Type 0
-OpenedOr numbers (Store arena) = Unit {0}
-OpenedOr numbers (NotOpened number) = T (among number numbers)
+OpenedOr numbers (Ok arena) = Unit {0}
+OpenedOr numbers (Err number) = T (among number numbers)
 
 abbrev pub OpensListed : Type 0
 OpensListed = (words slots slots' : List ℕ) (r : FreshStore) → Opens words slots r slots' → OpenedOr (no_slot_place ∷ []) r
 
 -- ---- a node read back
 
-abbrev pub NodeOr : List ℕ → Found.NodeFound → Type 0
-NodeOr numbers found.Node = Unit {0}
-NodeOr numbers (found.Refused number) = T (among number numbers)
+abbrev pub NodeOr : List ℕ → NodeRead → Type 0
+NodeOr numbers (Ok node) = Unit {0}
+NodeOr numbers (Err number) = T (among number numbers)
 
 -- 20, then 4
 pub record ReadsNodeListed (words slots : List ℕ) (arena : DagArena) (r : NodeRead) : Type 0 where
-  pub listed : NodeOr (not_sound ∷ bad_operand ∷ []) r.answer
-  pub unsound : (Sound words slots arena → ⊥) → r.answer ≡ found.Refused not_sound
-  pub sound : Sound words slots arena → r.answer ≡ found.Refused not_sound → ⊥
+  pub listed : NodeOr (not_sound ∷ bad_operand ∷ []) r
+  pub unsound : (Sound words slots arena → ⊥) → r ≡ Err not_sound
+  pub sound : Sound words slots arena → r ≡ Err not_sound → ⊥
 
 abbrev pub NodesReadListed : Type 0
 NodesReadListed = (words slots : List ℕ) (arena : DagArena) (id : ℕ) (r : NodeRead)
@@ -57,7 +51,7 @@ abbrev pub TextOr : List ℕ → WriteAnswer → Type 0
 TextOr numbers (Length size) = Unit {0}
 TextOr numbers (Refused number) = T (among number numbers)
 
--- 02 (d): 13 and 14 "in this order after 4"
+-- 13 and 14 "in this order after 4"
 pub record WritesListed (m : ControllerMemory) (r : WriteAnswer) : Type 0 where
   pub listed : TextOr (not_sound ∷ bad_operand ∷ no_text ∷ text_too_long ∷ []) r
   pub unsound : (BothSound m → ⊥) → r ≡ Refused not_sound

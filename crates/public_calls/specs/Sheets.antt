@@ -23,7 +23,7 @@ use Rattle.sheet.specs.Sheets.{Runs, RunsFresh, not_opened}
 use Rattle.listing_bytes.specs.Listed.{listing_lent, Listed}
 use Rattle.refusals_listed.specs.Listed.{among, place_refusals, listed_refusals}
 
--- "1, then per record 3, 2, 5, 6, 4, 7, 23, 21, 22", and 10 "right after 5" (02 b): no record prunes by a setting, so that 8 is not among
+-- "1, then per record 3, 2, 5, 6, 4, 7, 23, 21, 22", and 10 "right after 5": no record prunes by a setting, so that 8 is not among
 -- them
 abbrev pub sheet_refusals : List ℕ
 sheet_refusals =

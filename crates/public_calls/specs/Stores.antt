@@ -4,7 +4,7 @@ use Rattle.definitions.specs.Machine as M
 use Rattle.definitions.specs.Machine.{Store, variable, constant, add, sub, mul, div, pow, modulo, neg, operator, function, select, if_else, for_loop, control}
 use Rattle.store.specs.Memory.{Memory, model, left, left_by, Leaves}
 
--- 01: "symbols and function numbers below 2^32": what the code's parameters hold
+-- "symbols and function numbers below 2^32": what the code's parameters hold
 abbrev pub InWidths : Store → Type 0
 InWidths (variable symbol) = symbol < 2 ^ 32
 InWidths (constant bits) = Unit {0}

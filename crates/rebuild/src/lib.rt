@@ -1,133 +1,109 @@
-// What a finished frame of the walk gives (01, "engine: the walk"): rebuild_or_match, the result's mark, and which pattern fired (02 k).
+// What a finished frame of the walk gives: its node rebuilt or matched, the result's mark, and which pattern fired.
 #![tactic(auto)]
 
-ghost use Rattle.std.specs.Prelude.{◌≡◌};
-ghost use Rattle.std.proofs.Math.Option.{none};
+ghost use Rattle.std.specs.Prelude.{◌≡◌, ◌<◌};
 ghost use Rattle.definitions.specs.Modes.{mode_of};
-ghost use Rattle.definitions.specs.Walk.{rebuilt_flags, rebuilt};
-ghost use Rattle.store.specs.Lookup.{Lookup};
-ghost use Rattle.store.specs.View.{nodes_in, lent, Builds};
+ghost use Rattle.definitions.specs.Walk.{rebuilt_flags};
+ghost use Rattle.store.specs.Held.{held, SameLists};
 ghost use Rattle.rebuild.specs.Memory.{memory};
-ghost use Rattle.rebuild.specs.Rebuild.{Rebuildable, Rebuilds, MarkedAs, Finishes};
+ghost use Rattle.rebuild.specs.Rebuild.{Rebuildable, Anew, Rebuilds, MarkedIn, Finishes, FinishesIn};
 
 use arena::{DagArena, REORDERABLE};
-use decisions::firing::Fired;
 use definitions::mode::Mode;
 use kinds::{ADD, MUL};
-use patterns::Matched;
-use store::{Built, NodeAnswer};
+use patterns::{Finished, Rewritten};
+use refusal::Refusal;
+use store::{Parts, Store};
 
-// 01: "`add` and `mul` give flags 3, other constructors 0".
+// The flags of every constructor but `add` and `mul`, which give `REORDERABLE`.
 const OTHER_FLAGS: u64 = 0;
 
 // How many children the constructors `add` and `mul` take.
 const CONSTRUCTED_ARITY: u64 = 2;
 
-// The result or the refusal that stopped it, the store after it, and the pattern that fired.
-#[derive(Clone, Copy)]
-pub struct Finished {
-    pub answer: NodeAnswer,
-    pub arena: DagArena,
-    pub fired: Fired,
-}
-
 // The flags of a rebuilt node: an Add or Mul of one, three or four children gets those of other constructors.
 fn rebuilt_flags(kind: u64, arity: u64) -> u64
     ensures { result ≡ rebuilt_flags kind arity }
 {
-    if arity != CONSTRUCTED_ARITY {
-        return OTHER_FLAGS;
+    if arity == CONSTRUCTED_ARITY && (kind == ADD || kind == MUL) {
+        REORDERABLE
+    } else {
+        OTHER_FLAGS
     }
-    if kind == ADD {
-        return REORDERABLE;
-    }
-    if kind == MUL {
-        return REORDERABLE;
-    }
-    OTHER_FLAGS
 }
 
 // The node itself where the children are the old ones, or a node anew.
-fn rebuild(
-    nodes: &mut [u64],
-    slots: &mut [u32],
-    arena: DagArena,
-    id: u64,
-    children: &[u32],
-) -> Built
-    requires { Rebuildable (memory nodes.old slots.old arena) id children.now }
-    ensures { Builds nodes.old slots.old arena
-        (rebuilt (lent nodes.old slots.old) (nodes_in nodes.old arena.count) id children.now
-        none) nodes.new slots.new result }
+fn rebuild(store: &mut Store, id: u64, children: &[u32]) -> Result<u64, Refusal>
+    requires { Rebuildable (held store.old) id children.now }
+    ensures same { SameLists store.old store.new }
+    ensures anew { Anew (held store.old) id children.now result (held store.new) }
 {
-    let count = arena.count;
-    if store::has_children(nodes, count, id, children) {
-        return Built {
-            answer: NodeAnswer::Id(id),
-            arena,
-        };
+    if store.has_children(id, children) {
+        return Ok(id);
     }
-    let kind = store::kind(nodes, count, id);
-    let payload = store::payload(nodes, count, id);
+    let kind = store.kind(id);
+    let payload = store.payload(id);
     let flags = rebuilt_flags(kind, children.len() as u64);
-    store::intern(nodes, slots, arena, kind, payload, flags, children)
+    store.intern(Parts {
+        kind,
+        payload,
+        flags,
+        children,
+    })
 }
 
 // The first pattern of a mode that fits a node over new children, or the node rebuilt.
 fn rebuild_or_match(
-    nodes: &mut [u64],
-    slots: &mut [u32],
-    arena: DagArena,
+    store: &mut Store,
     mode: Mode,
     id: u64,
     children: &[u32],
-) -> Finished
-    requires { Rebuildable (memory nodes.old slots.old arena) id children.now }
-    ensures { Rebuilds (mode_of mode) (memory nodes.old slots.old arena) id children.now
-        nodes.new slots.new result }
+) -> Result<Rewritten, Refusal>
+    requires { Rebuildable (held store.old) id children.now }
+    ensures same { SameLists store.old store.new }
+    ensures rebuilds { Rebuilds (mode_of mode) (held store.old) id children.now result (held store.new) }
 {
-    let count = arena.count;
-    let kind = store::kind(nodes, count, id);
-    let applied = patterns::try_apply(nodes, slots, arena, mode, kind, children);
-    let after = applied.arena;
-    let matched = applied.matched;
-    let fired = applied.fired;
-    match matched {
-        Matched::Declined => {
-            let built = rebuild(nodes, slots, after, id, children);
-            let answer = built.answer;
-            let arena = built.arena;
-            Finished {
-                answer,
-                arena,
-                fired,
-            }
-        }
-        Matched::Id(result) => Finished {
-            answer: NodeAnswer::Id(result),
-            arena: after,
-            fired,
-        },
-        Matched::Refused(number) => Finished {
-            answer: NodeAnswer::Refused(number),
-            arena: after,
-            fired,
-        },
+    let kind = store.kind(id);
+    if let Some(rewritten) = patterns::apply_in(store, mode, kind, children)? {
+        return Ok(rewritten);
     }
+    let id = rebuild(store, id, children)?;
+    Ok(Rewritten { id, fired: None })
 }
 
-// The mark of a result; 02 (i): "A strict walk sets and heeds no marks".
-fn mark(nodes: &mut [u64], count: u64, mode: Mode, id: u64)
-    requires { Lookup nodes.old count id }
-    ensures { MarkedAs (mode_of mode) nodes.old count id nodes.new }
+// The mark of a result. A strict walk sets no marks.
+fn mark(store: &mut Store, mode: Mode, id: u64)
+    requires { id < store.old.count }
+    ensures same { SameLists store.old store.new }
+    ensures marks { MarkedIn (mode_of mode) (held store.old) id (held store.new) }
 {
     match mode {
-        Mode::Standard => store::mark(nodes, count, id),
+        Mode::Standard => store.mark(id),
         Mode::Strict => {}
     }
 }
 
-// 01: "A finished frame is rebuilt and its result marked."
+/// A finished frame, its node rebuilt or matched, and its result marked.
+///
+/// # Errors
+///
+/// `NoNodePlace` or `NoSlotPlace`. A constant that was made before its operator stays.
+pub fn finish_in(
+    store: &mut Store,
+    mode: Mode,
+    id: u64,
+    children: &[u32],
+) -> Result<Rewritten, Refusal>
+    requires { Rebuildable (held store.old) id children.now }
+    ensures same { SameLists store.old store.new }
+    ensures finishes { FinishesIn (mode_of mode) (held store.old) id children.now result (held store.new) }
+{
+    let rewritten = rebuild_or_match(store, mode, id, children)?;
+    mark(store, mode, rewritten.id);
+    Ok(rewritten)
+}
+
+/// The same on lent lists that are known to be sound. It stays over slices since docs/ARCHITECTURE.md names it.
 pub fn finish(
     nodes: &mut [u64],
     slots: &mut [u32],
@@ -140,23 +116,7 @@ pub fn finish(
     ensures { Finishes (mode_of mode) (memory nodes.old slots.old arena) id children.now result.answer
         result.fired (memory nodes.new slots.new result.arena) }
 {
-    let rebuilt = rebuild_or_match(nodes, slots, arena, mode, id, children);
-    let after = rebuilt.arena;
-    let answer = rebuilt.answer;
-    let fired = rebuilt.fired;
-    match answer {
-        NodeAnswer::Refused(number) => Finished {
-            answer: NodeAnswer::Refused(number),
-            arena: after,
-            fired,
-        },
-        NodeAnswer::Id(result) => {
-            mark(nodes, after.count, mode, result);
-            Finished {
-                answer: NodeAnswer::Id(result),
-                arena: after,
-                fired,
-            }
-        }
-    }
+    let mut store = Store::over(nodes, slots, arena);
+    let answer = finish_in(&mut store, mode, id, children);
+    Finished::of(answer, store.arena())
 }

@@ -8,6 +8,8 @@ use native.Mathlib.Omega.{arith}
 use native.Mathlib.Numerals.{add-one}
 use native.Mathlib.Nat.{pow-suc, pow-le-pow_right}
 use lib.Dec.{lit<}
+use Rattle.std.specs.List.{between}
+use Rattle.std.proofs.lemmas.List.Edits.{length-between, get_or-between}
 use Rattle.definitions.specs.Sheet.{big_endian, big_endian_from}
 use Rattle.records.specs.Reading.{part, Number}
 
@@ -57,6 +59,14 @@ number_more s at i value h b l =
           ∙ sym (ap (λ (k : ℕ). big_endian (part s at k)) (add-one i) ∙ ap big_endian (part_snoc s at i fits) ∙ big_endian_snoc 0 (part s at i) (get_or s (at + i) 0));
       small = omega (arith, e);
     }
+
+-- a byte of a part
+module _ (s : List ℕ) (at width i : ℕ) (fits : at + width ≤ length s) (l : i < length (between at (at + width) s)) where
+  pub inside : i < width
+  inside = let n : length (between at (at + width) s) ≡ at + width - at = length-between s at (at + width) fits in omega arith
+
+  pub byte_of : get_or (between at (at + width) s) i 0 ≡ get_or s (at + i) 0
+  byte_of = get_or-between s at (at + width) i 0 (let m : i < width = inside in omega arith)
 
 -- a number of fewer than eight bytes leaves room for one more
 pub number_room : (s : List ℕ) (at i value : ℕ) → Number s at i value → i < 8 → value * 256 + 255 < 18446744073709551616

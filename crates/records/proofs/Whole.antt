@@ -12,13 +12,15 @@ use native.Mathlib.Numerals.{add-one}
 use borrow.Author.Tests.{eq-eqb, ne_eqb, le-leb, lt-leb}
 use Rattle.definitions.specs.Limits.{most_records, most_sheet_bytes}
 use Rattle.definitions.specs.Refusals.{bad_sheet}
+use Rattle.refusal.specs.declared.Refusal.TheVariants.{BadInput}
+use Rattle.refusal.specs.declared.Refusal.{Refusal}
+use Rattle.std.specs.Prelude.{Result, Ok, Err}
 use Rattle.definitions.specs.Intern.{Lent}
 use Rattle.definitions.specs.Machine.{State}
-use Rattle.definitions.specs.Sheet.{big_endian, cut, with_rest, record_call, body, Ran, ran, records, sheet}
+use Rattle.definitions.specs.Sheet.{big_endian, cut, with_rest, record_call, body, ran, records, sheet}
 use Rattle.records.specs.declared.Body.{Body}
 use Rattle.records.specs.declared.Cursor.{Cursor}
-use Rattle.records.specs.declared.Opened.TheVariants.{Records, Refused}
-use Rattle.records.specs.Reading.{part, operand_from, call_of, Decodes, is_sheet, OpensSheet}
+use Rattle.records.specs.Reading.{part, operand_from, call_read, Decodes, is_sheet, OpensSheet}
 use Rattle.records.proofs.Operands.{part_two}
 
 drop_two : (s : List ℕ) (at : ℕ) → at + 2 ≤ length s → drop at s ≡ get_or s at 0 ∷ get_or s (at + 1) 0 ∷ drop (at + 2) s
@@ -49,7 +51,7 @@ module _ (s : List ℕ) (at n : ℕ) (h : at + 2 ≤ length s) (e : n ≡ operan
   pub record_long : length s - (at + 2) < n → record_call (cut (drop at s)) ≡ none
   record_long l = ap record_call (cut_is ∙ ap (λ (b : Bool). cond b (some (take n (drop (at + 2) s), drop n (drop (at + 2) s))) none) (lt-leb n _ (subst (λ (m : ℕ). m < n) (sym long) l)))
 
-  pub record_whole : n ≤ length s - (at + 2) → (b : Body) → Decodes s (body (part s (at + 2) n)) b → with_rest (call_of s b) (drop (at + 2 + n) s) ≡ record_call (cut (drop at s))
+  pub record_whole : n ≤ length s - (at + 2) → (b : Result Body Refusal) → Decodes s (body (part s (at + 2) n)) b → with_rest (call_read s b) (drop (at + 2 + n) s) ≡ record_call (cut (drop at s))
   record_whole l b d =
       sym
       (ap record_call (cut_is ∙ ap (λ (t : Bool). cond t (some (take n (drop (at + 2) s), drop n (drop (at + 2) s))) none) (le-leb n _ (subst (λ (m : ℕ). n ≤ m) (sym long) l)))
@@ -68,23 +70,23 @@ unfolding sheet
 a_sheet [] e l m = absurd (let z : ◌≡◌ {A = ℕ} 0 1 = cc in omega arith)
 a_sheet (v ∷ bs) e l m = ap (λ (b : Bool). cond b (records most_records l [] m bs) (ran [] (some (bad_sheet, 0)) m)) (sym e)
 
-refused : (s : List ℕ) → is_sheet s ≡ false → OpensSheet s Refused
-refused s e = record { is = is_no_sheet s e; tells = e }
+refused : (s : List ℕ) → is_sheet s ≡ false → OpensSheet s (Err BadInput)
+refused s e = record { is = is_no_sheet s e; tells = e; reason = refl }
 
-pub open_empty : (s : List ℕ) → length s ≡ 0 → OpensSheet s Refused
+pub open_empty : (s : List ℕ) → length s ≡ 0 → OpensSheet s (Err BadInput)
 open_empty [] e = refused [] refl
 open_empty (v ∷ bs) e = absurd (omega arith)
 
-pub open_long : (s : List ℕ) → most_sheet_bytes < length s → OpensSheet s Refused
+pub open_long : (s : List ℕ) → most_sheet_bytes < length s → OpensSheet s (Err BadInput)
 open_long [] h = absurd (omega arith)
 open_long (v ∷ bs) h = refused (v ∷ bs) (ap (λ (b : Bool). eqb v 1 && b) (lt-leb (length (v ∷ bs)) most_sheet_bytes h) ∙ and-false (eqb v 1))
 
-pub open_byte : (s : List ℕ) → (get_or s 0 0 ≡ 1 → ⊥) → OpensSheet s Refused
+pub open_byte : (s : List ℕ) → (get_or s 0 0 ≡ 1 → ⊥) → OpensSheet s (Err BadInput)
 open_byte [] h = refused [] refl
 open_byte (v ∷ bs) h = refused (v ∷ bs) (ap (λ (b : Bool). b && leb (length (v ∷ bs)) most_sheet_bytes) (ne_eqb v 1 h))
 
-pub open_right : (s : List ℕ) (c : Cursor) → c.at ≡ 1 → 0 < length s → length s ≤ most_sheet_bytes → get_or s 0 0 ≡ 1 → OpensSheet s (Records c)
+pub open_right : (s : List ℕ) (c : Cursor) → c.at ≡ 1 → 0 < length s → length s ≤ most_sheet_bytes → get_or s 0 0 ≡ 1 → OpensSheet s (Ok c)
 open_right [] c a p q e = absurd (omega arith)
 open_right (v ∷ bs) c a p q e =
     let t : is_sheet (v ∷ bs) ≡ true = ap₂ (λ (x y : Bool). x && y) (eq-eqb v 1 e) (le-leb (length (v ∷ bs)) most_sheet_bytes q) in
-    record { is = λ l m. ap (λ (k : ℕ). records most_records l [] m (drop k (v ∷ bs))) a ∙ a_sheet (v ∷ bs) t l m; tells = t }
+    record { is = λ l m. ap (λ (k : ℕ). records most_records l [] m (drop k (v ∷ bs))) a ∙ a_sheet (v ∷ bs) t l m; tells = t; reason = tt }

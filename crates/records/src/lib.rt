@@ -1,4 +1,4 @@
-// Reading a sheet (01, "sheets and the listing"): how it starts, and one record at a cursor.
+// Reading a sheet: how it starts, and one record at a cursor.
 #![tactic(auto)]
 
 mod decoding;
@@ -10,29 +10,23 @@ use decoding::decode;
 use definitions::mode::Mode;
 use number::number;
 pub use number::operand;
+use refusal::Refusal;
 
-// 01, refusal 1: "sheet empty, over 16,384 bytes, or first byte not 1".
+/// The most bytes that a sheet may have.
 pub const MOST_SHEET_BYTES: usize = 16_384;
 
 const FIRST_BYTE: u8 = 1;
-// "length (2 bytes), body".
+
+// A record is its length in two bytes, and its body.
 const LENGTH_BYTES: usize = 2;
 
-// A place in a sheet's bytes.
+/// A place in a sheet's bytes.
 #[derive(Clone, Copy)]
 pub struct Cursor {
     pub at: usize,
 }
 
-// Where a sheet's records start, or refusal 1.
-#[derive(Clone, Copy)]
-pub enum Opened {
-    Records(Cursor),
-    Refused,
-}
-
-// What a record asks for, on record numbers. A body with any number of operands says where they start and how
-// many there are. Malformed: past the end, unknown, or a wrong length (refusal 2).
+/// What a record asks for, on record numbers. A body with any number of operands says where they start and how many there are.
 #[derive(Clone, Copy)]
 pub enum Body {
     Variable(u32),
@@ -63,60 +57,50 @@ pub enum Body {
         operand: usize,
         threshold: u64,
     },
-    Malformed,
 }
 
-// A record's body, and the place after it.
+/// A record's body, and the place after it.
 #[derive(Clone, Copy)]
 pub struct Record {
     pub body: Body,
     pub next: Cursor,
 }
 
-// The start of a sheet.
-pub fn open(sheet: &[u8]) -> Opened
+/// Where a sheet's records start. A sheet that is empty, too long, or whose first byte is not 1 is refused as bad input.
+pub fn open(sheet: &[u8]) -> Result<Cursor, Refusal>
     ensures { OpensSheet sheet.now result }
 {
     if sheet.len() == 0 {
-        return Opened::Refused;
+        return Err(Refusal::BadInput);
     }
     if MOST_SHEET_BYTES < sheet.len() {
-        return Opened::Refused;
+        return Err(Refusal::BadInput);
     }
     if sheet[0] != FIRST_BYTE {
-        return Opened::Refused;
+        return Err(Refusal::BadInput);
     }
-    Opened::Records(Cursor { at: 1 })
+    Ok(Cursor { at: 1 })
 }
 
-// The record at a cursor.
-pub fn read(sheet: &[u8], cursor: Cursor) -> Record
+/// The record at a cursor. One that ends past the sheet, is unknown or has a wrong length is refused as a bad record.
+pub fn read(sheet: &[u8], cursor: Cursor) -> Result<Record, Refusal>
     ensures { ReadsRecord sheet.now cursor.at result }
 {
     let at = cursor.at;
     if sheet.len() < at {
-        return Record {
-            body: Body::Malformed,
-            next: cursor,
-        };
+        return Err(Refusal::BadRecord);
     }
     if sheet.len() - at < LENGTH_BYTES {
-        return Record {
-            body: Body::Malformed,
-            next: cursor,
-        };
+        return Err(Refusal::BadRecord);
     }
     let length = number(sheet, at, LENGTH_BYTES) as usize;
     let first = at + LENGTH_BYTES;
     if sheet.len() - first < length {
-        return Record {
-            body: Body::Malformed,
-            next: cursor,
-        };
+        return Err(Refusal::BadRecord);
     }
-    let body = decode(sheet, first, length);
-    Record {
+    let body = decode(sheet, first, length)?;
+    Ok(Record {
         body,
         next: Cursor { at: first + length },
-    }
+    })
 }

@@ -1,17 +1,12 @@
-// Numbers in a sheet. 01: "All big-endian".
+// Numbers in a sheet, their highest byte first.
 ghost use Rattle.std.specs.Prelude.{◌≡◌, ◌+◌, ◌*◌, ◌≤◌, length};
 ghost use Rattle.records.specs.Reading.{Number, operand_from};
 
-// "operands are indices (2 bytes) of earlier records".
+// An operand is the number of an earlier record, in two bytes.
 pub(crate) const OPERAND_BYTES: usize = 2;
+
 // How far a byte shifts the digits before it.
 const BYTE_BASE: u64 = 256;
-
-fn wide(byte: u8) -> u64
-    ensures { result ≡ byte }
-{
-    byte as u64
-}
 
 // The number that so many bytes from a place on are.
 pub(crate) fn number(sheet: &[u8], at: usize, width: usize) -> u64
@@ -19,15 +14,13 @@ pub(crate) fn number(sheet: &[u8], at: usize, width: usize) -> u64
     ensures { Number sheet.now at width result }
 {
     let mut value: u64 = 0;
-    let mut i: usize = 0;
-    while i < width {
-        value = value * BYTE_BASE + wide(sheet[at + i]);
-        i += 1;
+    for byte in &sheet[at..at + width] {
+        value = value * BYTE_BASE + u64::from(*byte);
     }
     value
 }
 
-// The record number of an operand: the k-th of those that start at a place.
+/// The record number of an operand: the k-th of those that start at a place.
 pub fn operand(sheet: &[u8], first: usize, k: usize) -> usize
     requires { first + k * 2 + 2 ≤ length sheet.now }
     ensures { result ≡ operand_from sheet.now (first + k * 2) }

@@ -1,7 +1,6 @@
--- Demand 1: "The answer to every sheet and every call .. is a result or one of document 01's numbered refusals". Which refusals each call
--- may answer, in the order in which they are checked, 20 aside: "Order: 20, 1, then per record 3, 2, 5, 6, 4, 7, 23, 21, 22; a call alone
--- is checked as its record would be, 20 first, and 8 stands in 7's place; for names 20, 9, 24", and 10
--- "right after 5" (02 b).
+-- The answer to every sheet and every call is a result or one of the numbered refusals. Which refusals each call may answer, in the order in
+-- which they are checked, 20 aside: "Order: 20, 1, then per record 3, 2, 5, 6, 4, 7, 23, 21, 22; a call alone is checked as its record would
+-- be, 20 first, and 8 stands in 7's place; for names 20, 9, 24", and 10 "right after 5".
 use Rattle.std.specs.Prelude.{ℕ, Bool, false, ◌||◌, List, [], ◌∷◌, eqb, T}
 use Rattle.definitions.specs.Refusals.{bad_operand, bad_code, bad_child_count, bad_threshold, bad_setting, bad_name_length, no_node_place, no_slot_place, too_many_terms, no_name_place, bad_text, not_a_number, outside_language, nested_too_deep}
 use Rattle.definitions.specs.Machine.{Store, variable, constant, add, sub, mul, div, pow, modulo, neg, operator, function, select, if_else, for_loop, control}

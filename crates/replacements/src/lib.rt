@@ -2,95 +2,82 @@
 #![tactic(auto)]
 
 ghost use Rattle.std.specs.Prelude.{[], ◌∷◌};
-ghost use Rattle.store.specs.View.{Sound};
-ghost use Rattle.decisions.specs.Carrying.{BuildsBy, constant_of, operator_of, beside_constant, carried};
+ghost use Rattle.store.specs.Held.{held, SameLists};
+ghost use Rattle.decisions.specs.Carrying.{constant_of, operator_of, beside_constant, carried};
 ghost use Rattle.decisions.specs.Carrying.{NumberBits, ReplacementLow, Operand, TwoOperands};
+ghost use Rattle.replacements.specs.Building.{BuildsIn};
 
-use arena::{DagArena, REORDERABLE};
-use decisions::Replacement;
+use arena::REORDERABLE;
+use decisions::{Replacement, Side};
 use kinds::CONSTANT;
-use store::{Built, NodeAnswer};
+use refusal::Refusal;
+use store::{Parts, Store};
 
-fn intern_constant(nodes: &mut [u64], slots: &mut [u32], arena: DagArena, bits: u64) -> Built
-    requires { NumberBits bits × Sound nodes.old slots.old arena }
-    ensures { BuildsBy (constant_of bits) nodes.old slots.old arena
-        nodes.new slots.new result }
+fn intern_constant(store: &mut Store, bits: u64) -> Result<u64, Refusal>
+    requires { NumberBits bits }
+    ensures same { SameLists store.old store.new }
+    ensures builds { BuildsIn (constant_of bits) (held store.old) result (held store.new) }
 {
-    store::intern(nodes, slots, arena, CONSTANT, bits, 0, &[])
+    store.intern(Parts {
+        kind: CONSTANT,
+        payload: bits,
+        flags: 0,
+        children: &[],
+    })
 }
 
 // An Add or a Mul of two operands.
-fn intern_operator(
-    nodes: &mut [u64],
-    slots: &mut [u32],
-    arena: DagArena,
-    kind: u64,
-    lhs: u64,
-    rhs: u64,
-) -> Built
-    requires { TwoOperands arena.count kind lhs rhs × Sound nodes.old slots.old arena }
-    ensures { BuildsBy (operator_of kind (lhs ∷ rhs ∷ [])) nodes.old slots.old arena nodes.new
-        slots.new result }
+fn intern_operator(store: &mut Store, kind: u64, lhs: u64, rhs: u64) -> Result<u64, Refusal>
+    requires { TwoOperands store.old.count kind lhs rhs }
+    ensures same { SameLists store.old store.new }
+    ensures builds { BuildsIn (operator_of kind (lhs ∷ rhs ∷ [])) (held store.old) result (held store.new) }
 {
     let operands = [lhs as u32, rhs as u32];
-    store::intern(nodes, slots, arena, kind, 0, REORDERABLE, &operands)
+    store.intern(Parts {
+        kind,
+        payload: 0,
+        flags: REORDERABLE,
+        children: &operands,
+    })
 }
 
-// A constant, and then an operator over it and another operand, the constant on the left or on the right. Stopped in between, the
-// constant stays.
+// A constant, and then an operator over it and another operand, the constant on its side. Stopped in between, the constant stays.
 fn beside_constant(
-    nodes: &mut [u64],
-    slots: &mut [u32],
-    arena: DagArena,
+    store: &mut Store,
     kind: u64,
     bits: u64,
     other: u64,
-    left: bool,
-) -> Built
-    requires { Operand arena.count kind other × NumberBits bits × Sound nodes.old slots.old arena }
-    ensures { BuildsBy (beside_constant left kind bits other) nodes.old slots.old arena nodes.new
-        slots.new result }
+    side: Side,
+) -> Result<u64, Refusal>
+    requires { Operand store.old.count kind other × NumberBits bits }
+    ensures same { SameLists store.old store.new }
+    ensures builds { BuildsIn (beside_constant side kind bits other) (held store.old) result (held store.new) }
 {
-    let constant = intern_constant(nodes, slots, arena, bits);
-    let grown = constant.arena;
-    let answer = constant.answer;
-    match answer {
-        NodeAnswer::Id(id) => {
-            if left {
-                intern_operator(nodes, slots, grown, kind, id, other)
-            } else {
-                intern_operator(nodes, slots, grown, kind, other, id)
-            }
-        }
-        NodeAnswer::Refused(refusal) => Built {
-            answer: NodeAnswer::Refused(refusal),
-            arena: grown,
-        },
+    let id = intern_constant(store, bits)?;
+    match side {
+        Side::Left => intern_operator(store, kind, id, other),
+        Side::Right => intern_operator(store, kind, other, id),
     }
 }
 
-// What a replacement says, built.
-pub fn carry_out(
-    nodes: &mut [u64],
-    slots: &mut [u32],
-    arena: DagArena,
-    replacement: Replacement,
-) -> Built
-    requires { ReplacementLow arena.count replacement × Sound nodes.old slots.old arena }
-    ensures { BuildsBy (carried replacement) nodes.old slots.old arena nodes.new slots.new
-        result }
+/// What a replacement says, built.
+///
+/// # Errors
+///
+/// `NoNodePlace` or `NoSlotPlace`. A constant that was made before its operator stays.
+pub fn carry_out(store: &mut Store, replacement: Replacement) -> Result<u64, Refusal>
+    requires { ReplacementLow store.old.count replacement }
+    ensures same { SameLists store.old store.new }
+    ensures builds { BuildsIn (carried replacement) (held store.old) result (held store.new) }
 {
     match replacement {
-        Replacement::Id(id) => Built {
-            answer: NodeAnswer::Id(id),
-            arena,
-        },
-        Replacement::Constant(bits) => intern_constant(nodes, slots, arena, bits),
-        Replacement::ConstantLeft { kind, bits, other } => beside_constant(
-            nodes, slots, arena, kind, bits, other, true,
-        ),
-        Replacement::ConstantRight { kind, bits, other } => beside_constant(
-            nodes, slots, arena, kind, bits, other, false,
-        ),
+        Replacement::Id(id) => Ok(id),
+        Replacement::Constant(bits) => intern_constant(store, bits),
+        Replacement::BesideConstant {
+            kind,
+            bits,
+            other,
+            side,
+        } => beside_constant(store, kind, bits, other, side),
     }
 }

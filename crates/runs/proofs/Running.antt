@@ -10,25 +10,23 @@ use native.Mathlib.Decide.{ℕ_discrete}
 use native.Mathlib.Nat.{sub-zero}
 use native.Mathlib.Numerals.{add-one}
 use Rattle.arena.specs.Layout.{node_words}
-use Rattle.definitions.specs.Limits.{most_depth}
-use Rattle.definitions.specs.Node.{Node, at}
+use Rattle.definitions.specs.Node.{Node}
 use Rattle.definitions.specs.Intern.{Lent}
 use Rattle.definitions.specs.Walk.{Mode, Frame, frame, Turn, go, stop, turn, Walked, walk, finished, spent, halted, walk_root}
 use Rattle.definitions.specs.Modes.{mode_of}
 use Rattle.definitions.specs.Machine as M
+use Rattle.store.specs.declared.holding.Store.{Store}
+use Rattle.store.specs.Held.{held, SameLists}
 use Rattle.store.proofs.Viewing.{plain_length}
 use Rattle.store.proofs.Keeping.{kept_refl, kept_trans}
 use Rattle.runs.specs.declared.state.Walk.{Walk}
-use Rattle.turns.specs.declared.state.WalkProgress.{WalkProgress}
-use Rattle.turns.specs.declared.state.Status.{Status}
-use Rattle.turns.specs.declared.state.Status.TheVariants.{Going, Stopped}
-use Rattle.runs.specs.declared.WalkOutcome.{WalkOutcome}
-use Rattle.runs.specs.declared.WalkAnswer.{WalkAnswer}
-use Rattle.runs.specs.declared.WalkAnswer.TheVariants.{Simplified, Spent, Refused}
-use Rattle.rebuild.specs.Memory.{Memory, memory, SoundMemory, nodes_of, lent_of, Keeps}
-use Rattle.turns.specs.Stack.{Stack, stack, frames_of, values_of, frames_in, values_in, Valid, Whole, Invariant}
+use Rattle.std.specs.Prelude.{Result, Ok, Err}
+use Rattle.refusal.specs.declared.Refusal.{Refusal}
+use Rattle.runs.specs.declared.Simplified.{Simplified}
+use Rattle.turns.specs.declared.state.Stack.{Stack}
+use Rattle.rebuild.specs.Memory.{Memory, SoundMemory, nodes_of, lent_of, Keeps}
+use Rattle.turns.specs.Stack.{frames_of, values_of, frames_in, values_in, Valid, Invariant}
 use Rattle.turns.specs.Turns.{Turnable, turned, turn_of, Turns}
-use Rattle.runs.specs.States.{stack_of, memory_of, Starts}
 use Rattle.runs.specs.Runs.{Startable, Ends, WalksRoot}
 use Rattle.turns.proofs.Stacks as S
 
@@ -71,27 +69,34 @@ lent_same m m' k = ap₂ (λ (a b : ℕ). record { nodes = a / node_words; slots
 
 -- ---- what holds between turns of a run
 
-pub record Running (mode : Mode) (m : Memory) (root limit budget : ℕ) (here : Memory) (k : Stack) (status : Status) (steps : ℕ) : Type 0 where
+pub record Running (mode : Mode) (m : Memory) (root limit budget : ℕ) (here : Memory) (k : Stack) (steps : ℕ) : Type 0 where
   pub kept : Keeps m here
-  pub going : status ≡ Going
   pub invariant : Invariant (nodes_of here) limit k
   pub within : steps ≤ budget
   pub same : walk mode (lent_of m) limit (budget - steps) steps (nodes_of here) (frames_in k) (values_in k) ≡ walk_root mode (lent_of m) limit budget (nodes_of m) root
+
+-- and the store's lists are the same as at first
+pub record InRun (mode : Mode) (first : Store) (root limit budget : ℕ) (here : Store) (k : Stack) (steps : ℕ) : Type 0 where
+  pub same : SameLists first here
+  pub running : Running mode (held first) root limit budget (held here) k steps
+
+pub same_then : {a b d : Store} → SameLists a b → SameLists b d → SameLists a d
+same_then p q = record { nodes = q.nodes ∙ p.nodes; slots = q.slots ∙ p.slots; long = q.long ∙ p.long; wide = q.wide ∙ p.wide }
 
 module _ (mode : Mode) (m : Memory) (root limit budget : ℕ) where
   abbrev result : Walked
   result = walk_root mode (lent_of m) limit budget (nodes_of m) root
 
-  module _ (here : Memory) (k : Stack) (status : Status) (steps : ℕ) (R : Running mode m root limit budget here k status steps) where
-    some : (k.frames ≡ 0 → ⊥) → 1 ≤ length (frames_in k)
-    some h = omega (arith, S.frames_length k.ids k.cursors k.frames)
+  module _ (here : Memory) (k : Stack) (steps : ℕ) (R : Running mode m root limit budget here k steps) where
+    some : (k.depth ≡ 0 → ⊥) → 1 ≤ length (frames_in k)
+    some h = omega (arith, S.frames_length k.frames k.depth)
 
-    pub ready : (k.frames ≡ 0 → ⊥) → Turnable here limit k
-    ready h = record { sound = R.kept.whole; some = omega arith; invariant = R.invariant }
+    pub ready : (k.depth ≡ 0 → ⊥) → Turnable here limit k
+    ready h = record { some = omega arith; invariant = R.invariant }
 
-    module _ (h : k.frames ≡ 0 → ⊥) (lt : steps < budget) (after : Memory) (k' : Stack) (status' : Status) (t : Turns mode here limit k after k' status') where
+    module _ (h : k.depth ≡ 0 → ⊥) (lt : steps < budget) (after : Memory) (k' : Stack) (done : Result (Unit {0}) Refusal) (t : Turns mode here limit k after k' done) where
       abbrev left : Turn
-      left = turned status' (nodes_of after) (frames_in k') (values_in k')
+      left = turned done (nodes_of after) (frames_in k') (values_in k')
 
       turn_is : left ≡ turn_of mode (lent_of m) limit (nodes_of here) (frames_in k) (values_in k)
       turn_is = t.plainly ∙ ap (λ (l : Lent). turn_of mode l limit (nodes_of here) (frames_in k) (values_in k)) (lent_same m here R.kept)
@@ -100,22 +105,22 @@ module _ (mode : Mode) (m : Memory) (root limit budget : ℕ) where
       kept_on =
           kept_trans m.words m.slots m.arena here.words here.slots here.arena after.words after.slots after.arena R.kept t.kept
 
-      walked : (x : Status) → status' ≡ x → next mode (lent_of m) limit (turned x (nodes_of after) (frames_in k') (values_in k')) (budget - (steps + 1)) (steps + 1) ≡ result
+      walked : (x : Result (Unit {0}) Refusal) → done ≡ x → next mode (lent_of m) limit (turned x (nodes_of after) (frames_in k') (values_in k')) (budget - (steps + 1)) (steps + 1) ≡ result
       walked x e =
-          ap (λ (y : Status). next mode (lent_of m) limit (turned y (nodes_of after) (frames_in k') (values_in k')) (budget - (steps + 1)) (steps + 1)) (sym e)
+          ap (λ (y : Result (Unit {0}) Refusal). next mode (lent_of m) limit (turned y (nodes_of after) (frames_in k') (values_in k')) (budget - (steps + 1)) (steps + 1)) (sym e)
           ∙ sym (walk_turn mode (lent_of m) limit budget steps (nodes_of here) (frames_in k) (values_in k) (some h) lt left turn_is) ∙ R.same
 
-      pub goes_on : status' ≡ Going → Running mode m root limit budget after k' status' (steps + 1)
+      pub goes_on : done ≡ Ok tt → Running mode m root limit budget after k' (steps + 1)
       unfolding next
-      goes_on e = record { kept = kept_on; going = e; invariant = t.goes e; within = omega arith; same = walked Going e }
+      goes_on e = record { kept = kept_on; invariant = t.goes e; within = omega arith; same = walked (Ok tt) e }
 
-      pub stops : (number : ℕ) → status' ≡ Stopped number → WalksRoot mode m root limit budget after (record { answer = Refused number; arena = after.arena })
+      pub stops : (refusal : Refusal) → done ≡ Err refusal → WalksRoot mode m root limit budget after (Err refusal)
       unfolding next
-      stops number e = record { plainly = ap (M.walked_as root) (walked (Stopped number) e); kept = kept_on }
+      stops refusal e = record { plainly = ap (M.walked_as root) (walked (Err refusal) e); kept = kept_on }
 
-    finishes : k.frames ≡ 0 → WalksRoot mode m root limit budget here (record { answer = Simplified (get_or k.values 0 0) steps; arena = here.arena })
+    finishes : k.depth ≡ 0 → WalksRoot mode m root limit budget here (Ok (record { id = get_or k.values 0 0; spent = false; steps = steps }))
     finishes z =
-        let none : frames_in k ≡ [] = ap (frames_of k.ids k.cursors) z in
+        let none : frames_in k ≡ [] = ap (frames_of k.frames) z in
         let v : Valid (nodes_of here) [] (values_in k) = subst (λ (x : List Frame). Valid (nodes_of here) x (values_in k)) none R.invariant.valid in
         let one : k.filled ≡ 1 = sym (S.values_length k.values k.filled) ∙ v.0 in
         record {
@@ -127,7 +132,7 @@ module _ (mode : Mode) (m : Memory) (root limit budget : ℕ) where
           kept = R.kept;
         }
 
-    spends : budget ≤ steps → (k.frames ≡ 0 → ⊥) → WalksRoot mode m root limit budget here (record { answer = Spent root steps; arena = here.arena })
+    spends : budget ≤ steps → (k.depth ≡ 0 → ⊥) → WalksRoot mode m root limit budget here (Ok (record { id = root; spent = true; steps = steps }))
     spends b h = record {
       plainly =
           ap (M.walked_as root)
@@ -136,30 +141,29 @@ module _ (mode : Mode) (m : Memory) (root limit budget : ℕ) where
     }
 
     -- no turn is left to do
-    pub ends : (budget ≤ steps) ⊎ (k.frames ≡ 0) → (result : ℕ) → result ≡ get_or k.values 0 0 → (r : WalkAnswer) → Ends k.frames result root steps r
-        → WalksRoot mode m root limit budget here (record { answer = r; arena = here.arena })
-    ends over result is r e = by (ℕ_discrete k.frames 0)
+    pub ends : (budget ≤ steps) ⊎ (k.depth ≡ 0) → (r : Simplified) → Ends k.depth (get_or k.values 0 0) root steps r
+        → WalksRoot mode m root limit budget here (Ok r)
+    ends over r e = by (ℕ_discrete k.depth 0)
       where
-        by : Dec (k.frames ≡ 0) → WalksRoot mode m root limit budget here (record { answer = r; arena = here.arena })
-        by (yes z) = subst (λ (x : WalkAnswer). WalksRoot mode m root limit budget here (record { answer = x; arena = here.arena })) (sym (e.finished z ∙ ap (λ (x : ℕ). Simplified x steps) is)) (finishes z)
+        by : Dec (k.depth ≡ 0) → WalksRoot mode m root limit budget here (Ok r)
+        by (yes z) = subst (λ (x : Simplified). WalksRoot mode m root limit budget here (Ok x)) (sym (e.finished z)) (finishes z)
         by (no n) =
-            subst (λ (x : WalkAnswer). WalksRoot mode m root limit budget here (record { answer = x; arena = here.arena })) (sym (e.spent n))
+            subst (λ (x : Simplified). WalksRoot mode m root limit budget here (Ok x)) (sym (e.spent n))
             (spends (⊎_elim (λ b. b) (λ z. absurd (n z)) over) n)
 
 -- ---- the first state
 
-module _ (m : Memory) (root budget : ℕ) (w : Walk) (s : Startable m root w) where
+module _ (m : Memory) (root budget : ℕ) (w : Walk) (sound : SoundMemory m) (s : Startable m root w) where
   abbrev k : Stack
-  k = stack_of w
+  k = w.stack
 
   no_values : values_in k ≡ []
-  no_values = ap (values_of w.values) s.starts.none
+  no_values = ap (values_of w.stack.values) s.starts.none
 
-  pub begins : Running (mode_of w.mode) m root w.limit budget m (stack_of w) w.progress.status 0
+  pub begins : Running (mode_of w.mode) m root w.limit budget m w.stack 0
   unfolding walk_root
   begins = record {
-    kept = kept_refl m.words m.slots m.arena s.sound;
-    going = s.starts.going;
+    kept = kept_refl m.words m.slots m.arena sound;
     invariant = record {
       listed = s.listed;
       deep = omega (arith, s.starts.one);

@@ -1,11 +1,11 @@
--- What each case of the walk's answer is in 01's terms.
+-- What a walk's answer is in the plain machine's terms.
 use Rattle.definitions.specs.Machine as M
-use Rattle.std.specs.Prelude.{true, false}
-use Rattle.runs.specs.declared.WalkAnswer.{WalkAnswer}
-use Rattle.runs.specs.declared.WalkAnswer.TheVariants.{Simplified, Spent, Refused}
+use Rattle.std.specs.Prelude.{Result, Ok, Err}
+use Rattle.refusal.specs.declared.Refusal.{Refusal}
+use Rattle.refusal.specs.Number.{number_of}
+use Rattle.runs.specs.declared.Simplified.{Simplified}
 
 -- an id, whether the budget was used up with frames left, and the steps; or a refusal by its number
-abbrev pub meaning : WalkAnswer → M.Answer
-meaning (Simplified id steps) = M.simplified id false steps
-meaning (Spent id steps) = M.simplified id true steps
-meaning (Refused number) = M.refused number
+abbrev pub meaning : Result Simplified Refusal → M.Answer
+meaning (Ok walked) = M.simplified walked.id walked.spent walked.steps
+meaning (Err refusal) = M.refused (number_of refusal)

@@ -1,70 +1,56 @@
 // The walk with its budget.
-ghost use Rattle.std.specs.Prelude.{◌≡◌};
 ghost use Rattle.definitions.specs.Modes.{mode_of};
-ghost use Rattle.rebuild.specs.Memory.{memory};
-ghost use Rattle.runs.specs.States.{memory_of};
+ghost use Rattle.store.specs.Held.{held, SameLists};
 ghost use Rattle.runs.specs.Runs.{Startable, Ends, WalksRoot};
 
+use crate::Simplified;
 use crate::state::Walk;
-use crate::{WalkAnswer, WalkOutcome};
-use turns::state::Status;
-use turns::turn;
+use refusal::Refusal;
+use store::Store;
+use turns::turn::turn;
 
-// The answer once no turn is left to do. 01: "Exactly if the budget is used up with frames left, the answer is the root,
-// 'spent'".
-fn ending(frames: usize, res: u64, root: u64, steps: u64) -> WalkAnswer
-    ensures { Ends frames res root steps result }
+// The answer once no turn is left to do: exactly if the budget is used up with frames left, it is the root, spent.
+fn ending(depth: usize, value: u32, root: u64, steps: u64) -> Simplified
+    ensures { Ends depth value root steps result }
 {
-    if frames == 0 {
-        return WalkAnswer::Simplified { id: res, steps };
+    if depth == 0 {
+        return Simplified {
+            id: u64::from(value),
+            spent: false,
+            steps,
+        };
     }
-    WalkAnswer::Spent { id: root, steps }
+    Simplified {
+        id: root,
+        spent: true,
+        steps,
+    }
 }
 
-fn wide(value: u32) -> u64
-    ensures { result ≡ value }
+/// The walk of a root from its first state: turns until no frame is left, a budget of them at most.
+///
+/// # Errors
+///
+/// `NoNodePlace` or `NoSlotPlace`, as a turn is refused. What was interned and marked before stays.
+pub fn run(
+    store: &mut Store,
+    walk: &mut Walk,
+    root: u64,
+    budget: u64,
+) -> Result<Simplified, Refusal>
+    requires { Startable (held store.old) root walk.old }
+    ensures same { SameLists store.old store.new }
+    ensures walks { WalksRoot (mode_of walk.old.mode) (held store.old) root walk.old.limit budget (held store.new) result }
 {
-    value as u64
-}
-
-// Turns until no frame is left, a budget of them at most.
-pub fn run(nodes: &mut [u64], slots: &mut [u32], walk: Walk, root: u64, budget: u64) -> WalkOutcome
-    requires { Startable (memory_of nodes.old slots.old walk) root walk }
-    ensures { WalksRoot (mode_of walk.mode) (memory_of nodes.old slots.old walk) root walk.limit budget
-        (memory nodes.new slots.new result.arena) result }
-{
-    let mut ids = walk.ids;
-    let mut cursors = walk.cursors;
-    let mut values = walk.values;
     let mode = walk.mode;
     let limit = walk.limit;
-    let mut progress = walk.progress;
     let mut steps: u64 = 0;
     while steps < budget {
-        if progress.frames == 0 {
+        if walk.stack.depth == 0 {
             break;
         }
-        progress = turn::turn(
-            nodes,
-            slots,
-            &mut ids,
-            &mut cursors,
-            &mut values,
-            mode,
-            limit,
-            progress,
-        );
-        let status = progress.status;
-        if let Status::Stopped(number) = status {
-            let arena = progress.arena;
-            return WalkOutcome {
-                answer: WalkAnswer::Refused(number),
-                arena,
-            };
-        }
+        turn(store, &mut walk.stack, mode, limit)?;
         steps += 1;
     }
-    let arena = progress.arena;
-    let answer = ending(progress.frames, wide(values[0]), root, steps);
-    WalkOutcome { answer, arena }
+    Ok(ending(walk.stack.depth, walk.stack.values[0], root, steps))
 }

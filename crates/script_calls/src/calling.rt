@@ -1,83 +1,73 @@
 // A call, by its line.
-ghost use Rattle.std.specs.Prelude.{◌≡◌, ◌≤◌};
-ghost use Rattle.encoding.specs.Encoding.{last_code};
+ghost use Rattle.std.specs.Prelude.{◌≡◌};
 
 use crate::showing;
 use crate::state::Now;
 use arena::DagArena;
 use calls::CallResult;
-use encoding::codes;
+use encoding::codes::CallCode;
 use encoding::headers::Header;
 use scripts::lines;
 use scripts::lines::{MOST_VALUES, Values};
-use scripts::memory::least;
 use scripts::tokens::{high, narrow};
 
-// The header of an encoded call, and the place of the first operand.
+// The header of an encoded call, and the place of the first operand, if the call takes any.
 #[derive(Clone, Copy)]
 struct Arguments {
     header: Header,
-    first: usize,
+    first: Option<usize>,
 }
 
 // What stands in a call's line: the bytes of a text or a name, or numbers.
-fn given(line: &[u8], code: u32, turn: u32) -> Values
-    ensures { result.count ≤ 8194 }
-{
+fn given(line: &[u8], code: CallCode, turn: u32) -> Values {
     match code {
-        codes::INTERN | codes::LOOKUP | codes::READ => lines::bytes(line),
+        CallCode::Intern | CallCode::Lookup | CallCode::Read => lines::bytes(line),
         _ => lines::numbers(line, turn),
     }
 }
 
-fn arguments_from(code: u32, a: u64, b: u64, wide: u64, first: usize) -> Arguments
+fn arguments_from(code: CallCode, a: u64, b: u64, wide: u64, first: Option<usize>) -> Arguments
     ensures { result.header.code ≡ code }
 {
     Arguments {
         header: Header {
             code,
-            a: narrow(a),
-            b: narrow(b),
-            high: high(wide),
-            low: narrow(wide),
+            numbers: [narrow(a), narrow(b), high(wide), narrow(wide)],
         },
         first,
     }
 }
 
 // The arguments of a call, by the numbers of its line.
-fn arguments_of(code: u32, list: [u64; MOST_VALUES]) -> Arguments
+fn arguments_of(code: CallCode, list: &[u64; MOST_VALUES]) -> Arguments
     ensures { result.header.code ≡ code }
 {
     match code {
-        codes::CONSTANT => arguments_from(code, 0, 0, list[1], MOST_VALUES),
-        codes::PRUNE => arguments_from(code, list[1], 0, list[2], MOST_VALUES),
-        codes::OPERATOR => arguments_from(code, list[1], list[2], 0, 3),
-        codes::FUNCTION | codes::CONTROL => arguments_from(code, list[1], 0, 0, 2),
-        codes::INTERN | codes::LOOKUP | codes::READ => arguments_from(code, 0, 0, 0, 1),
-        codes::SELECT | codes::IF_ELSE | codes::FOR_LOOP => Arguments {
+        CallCode::Constant => arguments_from(code, 0, 0, list[1], None),
+        CallCode::Prune => arguments_from(code, list[1], 0, list[2], None),
+        CallCode::Operator => arguments_from(code, list[1], list[2], 0, Some(3)),
+        CallCode::Function | CallCode::Control => arguments_from(code, list[1], 0, 0, Some(2)),
+        CallCode::Intern | CallCode::Lookup | CallCode::Read => arguments_from(
+            code,
+            0,
+            0,
+            0,
+            Some(1),
+        ),
+        CallCode::Select | CallCode::IfElse | CallCode::ForLoop => Arguments {
             header: Header {
                 code,
-                a: narrow(list[1]),
-                b: narrow(list[2]),
-                high: narrow(list[3]),
-                low: narrow(list[4]),
+                numbers: [
+                    narrow(list[1]),
+                    narrow(list[2]),
+                    narrow(list[3]),
+                    narrow(list[4]),
+                ],
             },
-            first: MOST_VALUES,
+            first: None,
         },
-        _ => arguments_from(code, list[1], list[2], list[3], MOST_VALUES),
+        _ => arguments_from(code, list[1], list[2], list[3], None),
     }
-}
-
-// The lowest 32 bits of each.
-fn narrowed(list: [u64; MOST_VALUES]) -> [u32; MOST_VALUES] {
-    let mut words = [0u32; MOST_VALUES];
-    let mut i: usize = 0;
-    while i < MOST_VALUES {
-        words[i] = narrow(list[i]);
-        i += 1;
-    }
-    words
 }
 
 fn call(
@@ -87,54 +77,43 @@ fn call(
     arena: DagArena,
     names: usize,
     line: &[u8],
-    code: u32,
+    code: CallCode,
     turn: u32,
-) -> CallResult
-    requires { code ≤ last_code }
-{
+) -> CallResult {
     let values = given(line, code, turn);
-    let list = values.list;
+    let arguments = arguments_of(code, &values.list);
+    let words = values.list.map(narrow);
     let end = values.count;
-    let given = arguments_of(code, list);
-    let header = given.header;
-    let words = narrowed(list);
-    let first = least(given.first, end);
+    let first = arguments.first.unwrap_or(end).min(end);
     calls::call(
         nodes,
         slots,
         entries,
         arena,
         names,
-        header,
+        arguments.header,
         &words[first..end],
     )
 }
 
-// The call of a line, as often as asked for; the answer of the last is shown.
+/// The call of a line, as often as asked for; the answer of the last is shown.
 pub fn run(
     out: &impl Print,
     nodes: &mut [u64],
     slots: &mut [u32],
     entries: &mut [u8],
-    now: Now,
+    now: &mut Now,
     line: &[u8],
-    code: u32,
-) -> Now
-    requires { code ≤ last_code }
-{
+    code: CallCode,
+) {
     let mut last = call(nodes, slots, entries, now.arena, now.names, line, code, 0);
-    let mut turn: u32 = 1;
-    while turn < now.turns {
-        let before = last.arena;
-        let known = last.names;
-        last = call(nodes, slots, entries, before, known, line, code, turn);
-        turn += 1;
+    for turn in 1..now.turns {
+        last = call(
+            nodes, slots, entries, last.arena, last.names, line, code, turn,
+        );
     }
-    showing::handed(out, last);
-    let mut after = now;
-    let arena = last.arena;
-    after.arena = arena;
-    after.names = last.names;
-    after.turns = 1;
-    after
+    showing::print_result(out, last);
+    now.arena = last.arena;
+    now.names = last.names;
+    now.turns = 1;
 }

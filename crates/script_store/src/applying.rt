@@ -6,9 +6,9 @@ use crate::listing::between;
 use arena::DagArena;
 use definitions::MOST_CHILDREN;
 use definitions::mode::Mode;
-use patterns::Matched;
 use scripts::lines::MOST_VALUES;
-use scripts::printing::{number, refused, text};
+use scripts::printing::refused;
+use store::NodeAnswer;
 
 // Whether the store is sound and two ids are below its count.
 fn ready(nodes: &[u64], slots: &[u32], arena: DagArena, lhs: u64, rhs: u64) -> bool
@@ -17,18 +17,15 @@ fn ready(nodes: &[u64], slots: &[u32], arena: DagArena, lhs: u64, rhs: u64) -> b
     if !store::audit(nodes, slots, arena) {
         return false;
     }
-    if lhs < arena.count {
-        rhs < arena.count
-    } else {
-        false
-    }
+    lhs < arena.count && rhs < arena.count
 }
 
-fn show(out: &impl Print, matched: Matched) {
-    match matched {
-        Matched::Declined => text(out, b" none"),
-        Matched::Id(id) => number(out, id),
-        Matched::Refused(refusal) => refused(out, refusal),
+fn show(out: &impl Print, answer: NodeAnswer) {
+    match answer {
+        NodeAnswer::Id(id) => {
+            let _ = print!(out; " {id}");
+        }
+        NodeAnswer::Refused(refusal) => refused(out, refusal),
     }
 }
 
@@ -46,20 +43,29 @@ pub fn apply(
     let rhs = list[3];
     let arity = list[4];
     if !ready(nodes, slots, arena, lhs, rhs) {
-        text(out, b" not ready");
+        let _ = print!(out; " not ready");
         return arena;
     }
     if (MOST_CHILDREN as u64) < arity {
-        text(out, b" too many");
+        let _ = print!(out; " too many");
         return arena;
     }
     let mut children = [rhs as u32; MOST_CHILDREN];
     children[0] = lhs as u32;
     let used = arity as usize;
-    let applied = patterns::try_apply(nodes, slots, arena, Mode::Standard, kind, &children[..used]);
-    let matched = applied.matched;
-    let left = applied.arena;
-    show(out, matched);
+    let Some(finished) = patterns::try_apply(
+        nodes,
+        slots,
+        arena,
+        Mode::Standard,
+        kind,
+        &children[..used],
+    ) else {
+        let _ = print!(out; " none");
+        return arena;
+    };
+    let left = finished.arena;
+    show(out, finished.answer);
     between(out, nodes, slots, left, arena.count, left.count);
     left
 }

@@ -2,45 +2,30 @@
 use arena::{DagNode, HASH, NODE_WORDS, load};
 use definitions::MOST_CHILDREN;
 
-// Every slot empty.
-fn clear(slots: &mut [u32]) {
-    let mut i: usize = 0;
-    while i < slots.len() {
-        slots[i] = 0;
-        i += 1;
-    }
-}
-
 // A value in the first empty slot from a hash onward, round the end.
-fn place(slots: &mut [u32], size: usize, hash: u64, value: u32) {
-    if size == 0 {
-        return;
-    }
-    if slots.len() < size {
-        return;
-    }
-    let mut at = hash as usize % size;
-    let mut passed: usize = 0;
-    while passed < size {
+fn place(slots: &mut [u32], hash: u64, value: u32) {
+    let size = slots.len();
+    for passed in 0..size {
+        let at = (hash as usize % size + passed) % size;
         if slots[at] == 0 {
             slots[at] = value;
             return;
         }
-        at = (at + 1) % size;
-        passed += 1;
     }
 }
 
-// A table of a size with the slots of the first nodes, by the hashes in their words.
-pub(crate) fn fill(nodes: &[u64], slots: &mut [u32], size: usize, count: u32) {
+/// A table of a size with the slots of the first nodes, by the hashes in their words.
+pub fn refill(nodes: &[u64], slots: &mut [u32], size: usize, count: u32) {
     if nodes.len() / NODE_WORDS < count as usize {
         return;
     }
-    clear(slots);
-    let mut id: u32 = 0;
-    while id < count {
-        place(slots, size, nodes[id as usize * NODE_WORDS + HASH], id + 1);
-        id += 1;
+    slots.fill(0);
+    if slots.len() < size {
+        return;
+    }
+    let table = &mut slots[..size];
+    for id in 0..count {
+        place(table, nodes[id as usize * NODE_WORDS + HASH], id + 1);
     }
 }
 
@@ -49,7 +34,7 @@ fn hash_at(nodes: &[u64], id: u32) -> u64 {
     if nodes.len() < id as usize * NODE_WORDS + NODE_WORDS {
         return 0;
     }
-    let node = load(nodes, id as u64);
+    let node = load(nodes, u64::from(id));
     if (MOST_CHILDREN as u64) < node.arity {
         return 0;
     }
@@ -57,14 +42,12 @@ fn hash_at(nodes: &[u64], id: u32) -> u64 {
     DagNode::new(node.kind, node.payload, node.flags, node.arity, children).hash
 }
 
-// The hash words of the first nodes, by their other words.
-pub(crate) fn rehash(nodes: &mut [u64], count: u32) {
+/// The hash words of the first nodes, by their other words.
+pub fn rehash(nodes: &mut [u64], count: u32) {
     if nodes.len() / NODE_WORDS < count as usize {
         return;
     }
-    let mut id: u32 = 0;
-    while id < count {
+    for id in 0..count {
         nodes[id as usize * NODE_WORDS + HASH] = hash_at(nodes, id);
-        id += 1;
     }
 }

@@ -4,5 +4,5 @@
 
 pub mod applying;
 pub mod damage;
-mod filling;
+pub mod filling;
 pub mod listing;

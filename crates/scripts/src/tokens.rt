@@ -1,123 +1,140 @@
 // Numbers as scripts spell them: decimal, or hexadecimal behind an `x`. `5+3` is 5 at first and 3 more at every turn of a repeat; `5+3%64`
 // is that modulo 64.
-ghost use Rattle.std.specs.Prelude.{◌≤◌};
-
-// What is no digit.
-const NO_DIGIT: u64 = 16;
+ghost use Rattle.std.specs.Prelude.{◌<◌, IfSome};
 
 // The greatest number that a digit may follow.
 const MOST_BEFORE: u64 = 0x0fff_ffff_ffff_ffff;
 
-// How many values a word of 32 bits has.
-const WORD_VALUES: u64 = 4_294_967_296;
+// What stood before the digits that are read.
+#[derive(Clone, Copy)]
+enum Signs {
+    // No sign.
+    Plain,
+    // A start and a `+`; the digits are the step.
+    Plus { start: u64 },
+    // These and a `%`; the digits are the modulus.
+    Percent { start: u64, step: u64 },
+}
 
 // A number as far as it was read.
 #[derive(Clone, Copy)]
-pub struct Token {
+struct Token {
+    signs: Signs,
+    is_hex: bool,
     // The digits since the last sign.
-    pub value: u64,
-    pub is_hex: bool,
-    pub start: u64,
-    pub step: u64,
-    // How many signs were read.
-    pub signs: u64,
+    value: u64,
 }
 
-pub fn none() -> Token {
-    Token {
-        value: 0,
-        is_hex: false,
-        start: 0,
-        step: 0,
-        signs: 0,
-    }
+/// The lowest 32 bits.
+pub fn narrow(number: u64) -> u32 {
+    (number & 0xffff_ffff) as u32
 }
 
-// The lowest 32 bits.
-pub fn narrow(number: u64) -> u32
-    ensures { result ≤ 4294967295 }
-{
-    (number % WORD_VALUES) as u32
+/// The lowest 8 bits.
+pub fn low_byte(number: u64) -> u8 {
+    (number & 0xff) as u8
 }
 
-// The highest 32 bits.
+/// The highest 32 bits.
 pub fn high(number: u64) -> u32 {
-    (number / WORD_VALUES) as u32
+    (number >> 32) as u32
 }
 
-fn digit(byte: u8) -> u64
-    ensures { result ≤ 16 }
+/// What a digit of 0 to 9 or a to f stands for.
+pub fn digit(byte: u8) -> Option<u64>
+    ensures { IfSome result (λ value. value < 16) }
 {
     match byte {
-        b'0'..=b'9' => (byte - b'0') as u64,
-        b'a'..=b'f' => (byte - b'a') as u64 + 10,
-        _ => NO_DIGIT,
-    }
-}
-
-// A number with one digit more.
-fn longer(value: u64, is_hex: bool, digit: u64) -> u64 {
-    if NO_DIGIT <= digit {
-        return value;
-    }
-    if MOST_BEFORE < value {
-        return value;
-    }
-    if is_hex {
-        return value * 16 + digit;
-    }
-    value * 10 + digit
-}
-
-// A token with one byte more.
-pub fn with(token: Token, byte: u8) -> Token {
-    match byte {
-        b'x' => Token {
-            value: 0,
-            is_hex: true,
-            start: token.start,
-            step: token.step,
-            signs: token.signs,
-        },
-        b'+' => Token {
-            value: 0,
-            is_hex: false,
-            start: token.value,
-            step: 0,
-            signs: 1,
-        },
-        b'%' => Token {
-            value: 0,
-            is_hex: false,
-            start: token.start,
-            step: token.value,
-            signs: 2,
-        },
-        _ => Token {
-            value: longer(token.value, token.is_hex, digit(byte)),
-            is_hex: token.is_hex,
-            start: token.start,
-            step: token.step,
-            signs: token.signs,
-        },
+        b'0'..=b'9' => Some(u64::from(byte - b'0')),
+        b'a'..=b'f' => Some(u64::from(byte - b'a') + 10),
+        _ => None,
     }
 }
 
 // A start and so many steps more.
 fn moved(start: u64, step: u64, turn: u32) -> u64 {
-    std::num::wrapping_add_u64(start, narrow(step) as u64 * turn as u64)
+    let steps = u64::from(narrow(step)).wrapping_mul(u64::from(turn));
+    start.wrapping_add(steps)
 }
 
-// What a token is at a turn.
-pub fn at_turn(token: Token, turn: u32) -> u64 {
-    if token.signs == 0 {
-        return token.value;
+impl Token {
+    fn new() -> Token {
+        Token {
+            signs: Signs::Plain,
+            is_hex: false,
+            value: 0,
+        }
     }
-    if token.signs == 1 {
-        return moved(token.start, token.value, turn);
+
+    fn start(self) -> u64 {
+        match self.signs {
+            Signs::Plain => 0,
+            Signs::Plus { start } => start,
+            Signs::Percent { start, step: _ } => start,
+        }
     }
-    if token.value == 0 {
-        return 0;
+
+    // The digits with one more. A number that is too great stays as it is.
+    fn longer(self, digit: u64) -> u64
+        requires { digit < 16 }
+    {
+        if MOST_BEFORE < self.value {
+            self.value
+        } else if self.is_hex {
+            self.value * 16 + digit
+        } else {
+            self.value * 10 + digit
+        }
     }
-    moved(token.start, token.step, turn) % token.value
+
+    // A byte that is neither a sign nor a digit changes nothing.
+    fn with(self, byte: u8) -> Token {
+        match byte {
+            b'x' => Token {
+                value: 0,
+                is_hex: true,
+                ..self
+            },
+            b'+' => Token {
+                signs: Signs::Plus { start: self.value },
+                is_hex: false,
+                value: 0,
+            },
+            b'%' => Token {
+                signs: Signs::Percent {
+                    start: self.start(),
+                    step: self.value,
+                },
+                is_hex: false,
+                value: 0,
+            },
+            _ => match digit(byte) {
+                Some(digit) => Token {
+                    value: self.longer(digit),
+                    ..self
+                },
+                None => self,
+            },
+        }
+    }
+
+    // What it is at a turn.
+    fn at_turn(self, turn: u32) -> u64 {
+        match self.signs {
+            Signs::Plain => self.value,
+            Signs::Plus { start } => moved(start, self.value, turn),
+            Signs::Percent { start, step } => moved(start, step, turn)
+                .checked_rem(self.value)
+                .unwrap_or(0),
+        }
+    }
+}
+
+/// The number that a word spells, at a turn.
+pub fn number(word: &[u8], turn: u32) -> u64 {
+    let mut token = Token::new();
+    for byte in word {
+        token = token.with(*byte);
+    }
+    token.at_turn(turn)
 }

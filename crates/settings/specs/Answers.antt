@@ -1,11 +1,11 @@
--- What each case of the crate's answer is in 01's terms.
-use Rattle.definitions.specs.Refusals.{bad_setting}
+-- What each case of a threshold is in the plain machine's terms.
+use Rattle.std.specs.Prelude.{ℕ, Option, None, Some, Result, Ok, Err}
+use Rattle.refusal.specs.declared.Refusal.{Refusal}
+use Rattle.refusal.specs.Number.{number_of}
 use Rattle.definitions.specs.Threshold as T
-use Rattle.settings.specs.declared.Setting.{Setting}
-use Rattle.settings.specs.declared.Setting.TheVariants.{Threshold, Untouched, NotListed}
 
--- a threshold by its bit pattern; none where the setting prunes nothing; a setting that is not listed by refusal 8
-unfoldable pub meaning : Setting → T.Threshold
-meaning (Threshold pattern) = T.bits pattern
-meaning Untouched = T.untouched
-meaning NotListed = T.refusing bad_setting
+-- a threshold by its bit pattern; none where nothing is pruned; or the number of a refusal
+abbrev pub meaning : Result (Option ℕ) Refusal → T.Threshold
+meaning (Ok (Some pattern)) = T.bits pattern
+meaning (Ok None) = T.untouched
+meaning (Err refusal) = T.refusing (number_of refusal)

@@ -5,26 +5,19 @@ ghost use Rattle.std.specs.Prelude.{◌≡◌};
 ghost use Rattle.definitions.specs.Settings as Settings;
 ghost use Rattle.settings.specs.Answers.{meaning};
 
+use refusal::Refusal;
 use thresholds::{FIRST_PRUNING_SETTING, LAST_SETTING};
 
-#[derive(Clone, Copy)]
-pub enum Setting {
-    // Prune at the threshold with this bit pattern.
-    Threshold(u64),
-    // Prune nothing: settings 0 to 19 (02 a, m).
-    Untouched,
-    // No such setting: refusal 8.
-    NotListed,
-}
-
-pub fn threshold(setting: u32) -> Setting
+/// The binary64 bits of the threshold that a setting prunes at. Settings 0 to 19 prune nothing, and those above 200 are
+/// refused as `BadSetting`.
+pub fn threshold(setting: u32) -> Result<Option<u64>, Refusal>
     ensures { meaning result ≡ Settings.setting setting }
 {
     if setting < FIRST_PRUNING_SETTING {
-        return Setting::Untouched;
+        return Ok(None);
     }
     if LAST_SETTING < setting {
-        return Setting::NotListed;
+        return Err(Refusal::BadSetting);
     }
-    Setting::Threshold(thresholds::threshold(setting))
+    Ok(Some(thresholds::threshold(setting)))
 }

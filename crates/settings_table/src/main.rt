@@ -10,7 +10,7 @@ use computed_thresholds::nearest_pattern;
 use listing_lines::{Line, hex_line};
 use thresholds::{FIRST_PRUNING_SETTING, LAST_SETTING};
 
-// The line of a setting.
+// The line of a setting; `{:016X}` would print the same, and no clause could say so.
 fn table_line(n: u64) -> Line
     requires { (first_pruning_setting ≤ n) × (n ≤ last_setting) }
     ensures { Holds (hex (threshold n) ++ (line_feed ∷ [])) result }
@@ -18,6 +18,7 @@ fn table_line(n: u64) -> Line
     hex_line(nearest_pattern(n))
 }
 
+// What the output does not take is lost; the lines after it are printed all the same.
 fn print_line(out: &impl Print, n: u64)
     requires { (first_pruning_setting ≤ n) × (n ≤ last_setting) }
 {
@@ -28,7 +29,7 @@ fn print_line(out: &impl Print, n: u64)
 }
 
 fn main(rt: HostRuntime) {
-    for n in FIRST_PRUNING_SETTING as u64..=LAST_SETTING as u64 {
+    for n in u64::from(FIRST_PRUNING_SETTING)..=u64::from(LAST_SETTING) {
         print_line(&rt, n);
     }
 }

@@ -1,8 +1,7 @@
 -- A record's call on ids, from the call that was performed.
-use Prim.Native.Nat.{ℕ, ◌+◌, ◌*◌, ◌≤◌, ◌<◌}
+use Prim.Native.Nat.{ℕ, ◌+◌, ◌*◌, ◌≤◌, ◌<◌, min}
 use mathlib.Core.Path.{◌≡◌, refl, sym, ap, ◌∙◌, subst}
 use mathlib.Core.Bool.{Bool, cond}
-use mathlib.Core.Option.{none, some}
 use mathlib.Core.Logic.{◌⊎◌, inl, inr}
 use mathlib.Core.List.{List, map}
 use lib.ListN.{length, length-map}
@@ -10,7 +9,6 @@ use native.Mathlib.Omega.{arith}
 use native.Mathlib.Decide.{dec_le}
 use borrow.Author.Tests.{le-leb, lt-leb}
 use Rattle.definitions.specs.Limits.{most_children}
-use Rattle.definitions.specs.Refusals.{bad_record}
 use Rattle.definitions.specs.Node.{Node, node}
 use Rattle.definitions.specs.Machine as M
 use Rattle.definitions.specs.Sheet as Sheet
@@ -19,7 +17,6 @@ use Rattle.store.proofs.Viewing.{plain_length}
 use Rattle.store_calls.specs.declared.Call.{Call}
 use Rattle.store_calls.specs.declared.Call.TheVariants.{Variable, Constant, Operator, Function, Control, Simplify, Prune, PruneBySetting}
 use Rattle.store_calls.specs.declared.answers.Answer.{Answer}
-use Rattle.store_calls.specs.declared.answers.Answer.TheVariants.{Refused}
 use Rattle.store_calls.specs.Calls as Store
 use Rattle.store_calls.specs.Calls.{SameOn, SameCall}
 use Rattle.store_calls.proofs.Same.{leaves_as, same_equal, same_trans}
@@ -30,8 +27,7 @@ use Rattle.records.specs.declared.Body.TheVariants as B
 use Rattle.records.specs.Reading.{call_of, operands_from, OperandsInSheet}
 use Rattle.records.proofs.Operands.{operands_length}
 use Rattle.sheet.specs.declared.performing.RecordRequest.{RecordRequest}
-use Rattle.sheet.specs.declared.performing.RecordRequest.TheVariants.{Call as Asked, Malformed}
-use Rattle.sheet.specs.Running.{id_of, id_below, operands_read, read_of, AsksFor, RequestsIn, PerformsBody}
+use Rattle.sheet.specs.Running.{id_of, id_below, operands_read, read_of, request, AsksFor, PerformsBody}
 use Rattle.sheet.proofs.Clamping.{store_same, simplify_same, prune_same, setting_same, many_same}
 
 -- ---- operands past those that are read
@@ -51,22 +47,29 @@ many_one b kind payload flags c c' os os' e e' h k m = record {
   changes = λ _. refl;
 }
 
-alike_same : (call : Call) (os os' : List ℕ) → Alike os os' → SameCall (Store.call_of call os) (Store.call_of call os')
-alike_same call os os' (inl e) = same_equal (Store.call_of call os) (Store.call_of call os') (ap (Store.call_of call) e)
+alike_same : (call : Call) (os os' : List ℕ) → Alike os os' → SameCall (Store.call_over call os) (Store.call_over call os')
+alike_same call os os' (inl e) = same_equal (Store.call_over call os) (Store.call_over call os') (ap (Store.call_over call) e)
 alike_same (Variable symbol) os os' (inr h) = same_equal _ _ refl
 alike_same (Constant bits) os os' (inr h) = same_equal _ _ refl
-alike_same (Operator code flags) os os' (inr h) = many_one _ _ _ _ (M.operator code flags os) (M.operator code flags os') os os' refl refl h.0 h.1
-alike_same (Function number) os os' (inr h) = many_one _ _ _ _ (M.function number os) (M.function number os') os os' refl refl h.0 h.1
-alike_same (Control code) os os' (inr h) = many_one _ _ _ _ (M.control code os) (M.control code os') os os' refl refl h.0 h.1
+alike_same (Operator code flags own) os os' (inr h) = many_one _ _ _ _ (M.operator code flags os) (M.operator code flags os') os os' refl refl h.0 h.1
+alike_same (Function number own) os os' (inr h) = many_one _ _ _ _ (M.function number os) (M.function number os') os os' refl refl h.0 h.1
+alike_same (Control code own) os os' (inr h) = many_one _ _ _ _ (M.control code os) (M.control code os') os os' refl refl h.0 h.1
 alike_same (Simplify mode root depth budget) os os' (inr h) = same_equal _ _ refl
 alike_same (Prune root threshold) os os' (inr h) = same_equal _ _ refl
 alike_same (PruneBySetting root setting) os os' (inr h) = same_equal _ _ refl
 
-pub read_few : (operands : ℕ) → operands ≤ operands_read → read_of operands ≡ operands
+read_few : (operands : ℕ) → operands ≤ operands_read → read_of operands ≡ operands
 read_few operands h = ap (λ (b : Bool). cond b operands operands_read) (le-leb operands operands_read h)
 
-pub read_many : (operands : ℕ) → operands_read < operands → read_of operands ≡ operands_read
+read_many : (operands : ℕ) → operands_read < operands → read_of operands ≡ operands_read
 read_many operands h = ap (λ (b : Bool). cond b operands operands_read) (lt-leb operands operands_read h)
+
+pub read_least : (operands : ℕ) → min operands operands_read ≡ read_of operands
+read_least operands = go (dec_le operands operands_read)
+  where
+    go : Dec (operands ≤ operands_read) → min operands operands_read ≡ read_of operands
+    go (yes h) = let m : min operands operands_read ≡ operands = omega arith in m ∙ sym (read_few operands h)
+    go (no n) = let m : min operands operands_read ≡ operands_read = omega arith in m ∙ sym (read_many operands (omega arith))
 
 -- what is read of operands is at most all of them
 read_within : (operands : ℕ) → read_of operands ≤ operands
@@ -136,55 +139,35 @@ module _ (m : Memory) (ids : List ℕ) (done : ℕ) where
 
   -- ---- bodies
   module _ (s : List ℕ) (body : Body) where
-    pub body_whole : (call : Call) (first operands : ℕ) → AsksFor s body (id_below ids done count) call first operands → (r : ℕ) → r ≡ read_of operands
-        → (children : List ℕ) → children ≡ map (id_below ids done count) (operands_from s first r) → (a : Answer) (m' : Memory) → Leaves (Store.call_of call children) m (Store.answer_of a) m'
+    pub body_whole : (q : RecordRequest) → AsksFor s body (id_below ids done count) q → (r : ℕ) → r ≡ read_of q.operands
+        → (children : List ℕ) → children ≡ map (id_below ids done count) (operands_from s q.first r) → (a : Answer) (m' : Memory) → Leaves (Store.call_over q.call children) m (Store.answer_of a) m'
         → PerformsBody s body ids done m a m'
-    body_whole call first operands q r e children f a m' k = record {
-      whole = λ c t. let one : q.plain ≡ c = (let i = q.is in cc) in subst (λ (x : M.Call). Leaves (Sheet.call_on (id_of ids done count) x) m (Store.answer_of a) m') one performed;
-      malformed = λ t. absurd (let i = q.is in let z : ◌≡◌ {A = ℕ} 0 1 = cc in omega arith);
-    }
-      where
-        performed : Leaves (Sheet.call_on (id_of ids done count) q.plain) m (Store.answer_of a) m'
-        performed =
-            leaves_as m (Store.call_of call children) (Sheet.call_on (id_of ids done count) q.plain)
-            (same_trans m _ _ _ (same_equal _ _ (ap (Store.call_of call) (f ∙ ap (λ (n : ℕ). map (id_below ids done count) (operands_from s first n)) e)) m)
-            (same_trans m _ _ _ (alike_same call (map (id_below ids done count) (operands_from s first (read_of operands))) (map (id_below ids done count) (operands_from s first operands)) (read_alike s (id_below ids done count) first operands) m)
-            (same_trans m _ _ _ (same_equal _ _ q.same m) (clamped q.plain))))
-            (Store.answer_of a) m' k
-
-    pub body_malformed : call_of s body ≡ none → PerformsBody s body ids done m (Refused bad_record) m
-    body_malformed e = record {
-      whole = λ c f. absurd (let z : ◌≡◌ {A = ℕ} 0 1 = cc in omega arith);
-      malformed = λ f. (refl, refl);
-    }
+    body_whole q asks r e children f a m' k =
+        leaves_as m (Store.call_over q.call children) (Sheet.call_on (id_of ids done count) (call_of s body))
+        (same_trans m _ _ _ (same_equal _ _ (ap (Store.call_over q.call) (f ∙ ap (λ (n : ℕ). map (id_below ids done count) (operands_from s q.first n)) e)) m)
+        (same_trans m _ _ _ (alike_same q.call (map (id_below ids done count) (operands_from s q.first (read_of q.operands))) (map (id_below ids done count) (operands_from s q.first q.operands)) (read_alike s (id_below ids done count) q.first q.operands) m)
+        (same_trans m _ _ _ (same_equal _ _ asks.same m) (clamped (call_of s body)))))
+        (Store.answer_of a) m' k
 
 -- ---- what a body asks for
 
 module _ (body : Body) (id : ℕ → ℕ) where
   -- a call without operands
-  pub asks_alone : (x : Body) → body ≡ x → (s : List ℕ) (call : Call) (plain : M.Call) → call_of s x ≡ some plain → Store.call_of call (map id (operands_from s 0 0)) ≡ Sheet.call_on id plain → (r : RecordRequest) → r ≡ Asked call 0 0 → RequestsIn s body id r
-  asks_alone x e s call plain t u r f =
-      subst (RequestsIn s body id) (sym f)
-      (let asks : AsksFor s body id call 0 0 = record { within = omega arith; plain = plain; is = ap (call_of s) e ∙ t; same = u } in asks)
+  pub asks_alone : (x : Body) → body ≡ x → (s : List ℕ) (call : Call) → Store.call_over call (map id (operands_from s 0 0)) ≡ Sheet.call_on id (call_of s x) → (r : RecordRequest) → r ≡ request call 0 0 → AsksFor s body id r
+  asks_alone x e s call u r f =
+      subst (AsksFor s body id) (sym f)
+      (record { within = omega arith; same = u ∙ ap (λ (b : Body). Sheet.call_on id (call_of s b)) (sym e) })
 
   module _ (s : List ℕ) (r : RecordRequest) where
-    pub asks_simplify : (mode : Mode) (o depth budget root : ℕ) → body ≡ B.Simplify mode o depth budget → root ≡ id o → r ≡ Asked (Simplify mode root depth budget) 0 0 → RequestsIn s body id r
+    pub asks_simplify : (mode : Mode) (o depth budget root : ℕ) → body ≡ B.Simplify mode o depth budget → root ≡ id o → r ≡ request (Simplify mode root depth budget) 0 0 → AsksFor s body id r
     asks_simplify mode o depth budget root e f t =
-        asks_alone (B.Simplify mode o depth budget) e s (Simplify mode root depth budget) (M.simplify (mode_of mode) o depth budget) refl (ap (λ (i : ℕ). M.simplify (mode_of mode) i depth budget) f) r t
+        asks_alone (B.Simplify mode o depth budget) e s (Simplify mode root depth budget) (ap (λ (i : ℕ). M.simplify (mode_of mode) i depth budget) f) r t
 
-    pub asks_prune : (o threshold root : ℕ) → body ≡ B.Prune o threshold → root ≡ id o → r ≡ Asked (Prune root threshold) 0 0 → RequestsIn s body id r
+    pub asks_prune : (o threshold root : ℕ) → body ≡ B.Prune o threshold → root ≡ id o → r ≡ request (Prune root threshold) 0 0 → AsksFor s body id r
     asks_prune o threshold root e f t =
-        asks_alone (B.Prune o threshold) e s (Prune root threshold) (M.prune o threshold) refl (ap (λ (i : ℕ). M.prune i threshold) f) r t
+        asks_alone (B.Prune o threshold) e s (Prune root threshold) (ap (λ (i : ℕ). M.prune i threshold) f) r t
 
   -- a call over operands
-  pub asks_over : (x : Body) → body ≡ x → (s : List ℕ) (call : Call) (plain : M.Call) (first operands : ℕ) → OperandsInSheet (length s) body → (OperandsInSheet (length s) x → first + operands * 2 ≤ length s)
-      → call_of s x ≡ some plain → Store.call_of call (map id (operands_from s first operands)) ≡ Sheet.call_on id plain → AsksFor s body id call first operands
-  asks_over x e s call plain first operands w f t u = record { within = f (subst (OperandsInSheet (length s)) e w); plain = plain; is = ap (call_of s) e ∙ t; same = u }
-
--- what was asked for, taken apart
-module _ (s : List ℕ) (body : Body) (id : ℕ → ℕ) (r : RecordRequest) (q : RequestsIn s body id r) where
-  pub asked_call : (call : Call) (first operands : ℕ) → r ≡ Asked call first operands → AsksFor s body id call first operands
-  asked_call call first operands e = subst (RequestsIn s body id) e q
-
-  pub asked_nothing : r ≡ Malformed → call_of s body ≡ none
-  asked_nothing e = subst (RequestsIn s body id) e q
+  pub asks_over : (x : Body) → body ≡ x → (s : List ℕ) (call : Call) (first operands : ℕ) → OperandsInSheet (length s) body → (OperandsInSheet (length s) x → first + operands * 2 ≤ length s)
+      → Store.call_over call (map id (operands_from s first operands)) ≡ Sheet.call_on id (call_of s x) → AsksFor s body id (request call first operands)
+  asks_over x e s call first operands w f u = record { within = f (subst (OperandsInSheet (length s)) e w); same = u ∙ ap (λ (b : Body). Sheet.call_on id (call_of s b)) (sym e) }

@@ -9,29 +9,29 @@ use lib.Seq.{get_or_at, get_or-set_same, get_or-set_other}
 use lib.Dec.{ltb}
 use native.Mathlib.Omega.{arith}
 use native.Mathlib.Decide.{dec_lt}
-use borrow.Author.Tests.{ltb-true, ne_eqb}
+use borrow.Author.Tests.{ltb-true}
 use Rattle.definitions.specs.Limits.{most_records}
 use Rattle.definitions.specs.Refusals.{bad_record, too_many_records}
 use Rattle.definitions.specs.Intern.{Lent}
 use Rattle.definitions.specs.Machine as M
 use Rattle.definitions.specs.Sheet as Sheet
 use Rattle.definitions.proofs.Listing.{last_more}
-use Rattle.store.specs.Memory.{Memory, memory, model, Leaves, Stays}
+use Rattle.store.specs.Memory.{Memory, model, Stays}
 use Rattle.store.proofs.Staying.{stays_refl, stays_trans, leaves_stays}
 use Rattle.store.proofs.Viewing.{plain_length}
-use Rattle.arena.specs.declared.DagArena.{DagArena}
 use Rattle.records.specs.declared.Record.{Record}
-use Rattle.records.specs.Reading.{call_of, ReadsRecord}
+use Rattle.records.specs.Reading.{call_of, record_read, ReadsRecord}
 use Rattle.listing_lines.specs.declared.SheetOutcome.{SheetOutcome}
-use Rattle.listing_lines.specs.declared.SheetOutcome.TheVariants.{Ok, Empty, Spent, Refused as RefusedAt}
+use Rattle.listing_lines.specs.declared.SheetOutcome.TheVariants.{Ok, Spent, Refused as RefusedAt}
 use Rattle.listing_lines.specs.Outcome.{answered_as, outcome_of}
 use Rattle.store_calls.specs.declared.answers.Answer.{Answer}
 use Rattle.store_calls.specs.Calls.{answer_of}
-use Rattle.sheet.specs.declared.running.Noted.{Noted}
-use Rattle.sheet.specs.declared.running.Noted.TheVariants.{Answered, Refused}
+use Rattle.std.specs.Prelude.{Some, None, Result, Ok as Done, Err}
+use Rattle.refusal.specs.declared.Refusal.{Refusal}
+use Rattle.refusal.specs.Number.{number_of}
+use Rattle.sheet.specs.declared.running.RecordAnswer.{RecordAnswer}
 use Rattle.sheet.specs.declared.running.SheetProgress.{SheetProgress}
-use Rattle.sheet.specs.declared.running.SheetTurn.TheVariants.{More, Refused as RefusedTurn}
-use Rattle.sheet.specs.Running.{noted_as, PerformsBody, id_of, finished_as, Doing, RunsRecords, Turned}
+use Rattle.sheet.specs.Running.{answered, noted_as, PerformsBody, id_of, finished_as, Doing, RunsRecords}
 
 -- ---- the plain machine's records
 
@@ -80,38 +80,25 @@ record Told (a : M.Answer) (id : ℕ) (spent : Bool) : Type 0 where
   pub noted : Sheet.answer_id a ≡ id
   pub says : answered_as a ≡ cond spent (Spent id) (Ok id)
 
-told : (a : M.Answer) (id : ℕ) (spent : Bool) → Answered id spent ≡ noted_as a → Told a id spent
-told (M.stored i) id spent e = subst (λ (x : Bool). Told (M.stored i) id x) (let t : false ≡ spent = cc in t) (record { passes = refl; noted = cc; says = ap Ok (let n : i ≡ id = cc in n) })
-told (M.simplified i b steps) id spent e = go b spent (let n : i ≡ id = cc in n) (let t : b ≡ spent = cc in t)
-  where
-    go : (b spent : Bool) → i ≡ id → b ≡ spent → Told (M.simplified i b steps) id spent
-    go true true n t = record { passes = refl; noted = n; says = ap Spent n }
-    go false false n t = record { passes = refl; noted = n; says = ap Ok n }
-    go true false n t = absurd (let z : ◌≡◌ {A = ℕ} 0 1 = cc in omega arith)
-    go false true n t = absurd (let z : ◌≡◌ {A = ℕ} 0 1 = cc in omega arith)
-told (M.pruned i k d) id spent e = subst (λ (x : Bool). Told (M.pruned i k d) id x) (let t : false ≡ spent = cc in t) (record { passes = refl; noted = cc; says = ap Ok (let n : i ≡ id = cc in n) })
+told_as : (a : M.Answer) (i id : ℕ) (b spent : Bool) → Sheet.refusal_of a ≡ none → Sheet.answer_id a ≡ i → answered_as a ≡ cond b (Spent i) (Ok i) → ◌≡◌ {A = Result RecordAnswer ℕ} (Done (answered id spent)) (Done (answered i b)) → Told a id spent
+told_as a i id b spent p q r e =
+    let s : answered id spent ≡ answered i b = cc in
+    let n : id ≡ i = ap (λ (x : RecordAnswer). x.id) s in
+    let t : spent ≡ b = ap (λ (x : RecordAnswer). x.spent) s in
+    record { passes = p; noted = q ∙ sym n; says = r ∙ ap₂ (λ (c : Bool) (j : ℕ). cond c (Spent j) (Ok j)) (sym t) (sym n) }
+
+told : (a : M.Answer) (id : ℕ) (spent : Bool) → Done (answered id spent) ≡ noted_as a → Told a id spent
+told (M.stored i) id spent e = told_as (M.stored i) i id false spent refl refl refl e
+told (M.simplified i true steps) id spent e = told_as (M.simplified i true steps) i id true spent refl refl refl e
+told (M.simplified i false steps) id spent e = told_as (M.simplified i false steps) i id false spent refl refl refl e
+told (M.pruned i k d) id spent e = told_as (M.pruned i k d) i id false spent refl refl refl e
 told (M.refused r) id spent e = absurd (let z : ◌≡◌ {A = ℕ} 0 1 = cc in omega arith)
 
-refusal_of : (a : M.Answer) (number : ℕ) → Refused number ≡ noted_as a → Sheet.refusal_of a ≡ some number
+refusal_of : (a : M.Answer) (number : ℕ) → Err number ≡ noted_as a → Sheet.refusal_of a ≡ some number
 refusal_of (M.stored i) number e = absurd (let z : ◌≡◌ {A = ℕ} 0 1 = cc in omega arith)
 refusal_of (M.simplified i b steps) number e = absurd (let z : ◌≡◌ {A = ℕ} 0 1 = cc in omega arith)
 refusal_of (M.pruned i k d) number e = absurd (let z : ◌≡◌ {A = ℕ} 0 1 = cc in omega arith)
 refusal_of (M.refused r) number e = ap some (let n : r ≡ number = cc in n)
-
--- ---- what a sheet without a refusal says
-
-pub finished_empty : (done id : ℕ) (spent : Bool) → done ≡ 0 → Empty ≡ finished_as done id spent
-finished_empty done id spent e = ap (λ (n : ℕ). finished_as n id spent) (sym e)
-
-module _ (done id : ℕ) (spent : Bool) (n : done ≡ 0 → ⊥) where
-  some_done : finished_as done id spent ≡ cond spent (Spent id) (Ok id)
-  some_done = ap (λ (b : Bool). cond b Empty (cond spent (Spent id) (Ok id))) (ne_eqb done 0 n)
-
-  pub finished_spent : spent ≡ true → Spent id ≡ finished_as done id spent
-  finished_spent e = sym (some_done ∙ ap (λ (b : Bool). cond b (Spent id) (Ok id)) e)
-
-  pub finished_ok : spent ≡ false → Ok id ≡ finished_as done id spent
-  finished_ok e = sym (some_done ∙ ap (λ (b : Bool). cond b (Spent id) (Ok id)) e)
 
 -- ---- the end of a sheet
 
@@ -122,14 +109,18 @@ finish plain m m' o al r st e f v k = record {
   stays = k;
 }
 
-pub doing_start : (s : List ℕ) (m : Memory) (p : SheetProgress) (ids : List ℕ) → model.Sound m → length ids ≡ most_records → p.done ≡ 0 → Doing s (Sheet.records most_records (model.lent m) [] (model.view m) (drop p.at s)) m p m ids
-doing_start s m p ids h w z = record {
+-- the refusal's number and place by other names
+pub refused_as : (plain : Sheet.Ran) (m m' : Memory) (number n number' n' : ℕ) → number' ≡ number → n' ≡ n → RunsRecords plain m (RefusedAt number n) m' → RunsRecords plain m (RefusedAt number' n') m'
+refused_as plain m m' number n number' n' e f r = record { outcome = ap₂ RefusedAt e f ∙ r.outcome; left = r.left; stays = r.stays }
+
+pub doing_start : (s : List ℕ) (m : Memory) (p : SheetProgress) (ids : List ℕ) → model.Sound m → length ids ≡ most_records → p.done ≡ 0 → p.last ≡ None → Doing s (Sheet.records most_records (model.lent m) [] (model.view m) (drop p.at s)) m p m ids
+doing_start s m p ids h w z n = record {
   answers = [];
   long = sym z;
   few = omega arith;
   wide = w;
   noted = λ k l. absurd (omega arith);
-  last = ap (λ (n : ℕ). finished_as n p.id p.spent) (sym z);
+  last = ap finished_as (sym n);
   goes = ap (λ (n : ℕ). Sheet.records (most_records - n) (model.lent m) [] (model.view m) (drop p.at s)) z;
   stays = stays_refl m h;
 }
@@ -144,7 +135,7 @@ module _ (s : List ℕ) (plain : Sheet.Ran) (m : Memory) (p : SheetProgress) (m'
   abbrev st : M.State
   st = model.view m'
 
-  pub doing_end : length s ≤ p.at → (o : SheetOutcome) → o ≡ finished_as p.done p.id p.spent → RunsRecords plain m o m'
+  pub doing_end : length s ≤ p.at → (o : SheetOutcome) → o ≡ finished_as p.last → RunsRecords plain m o m'
   doing_end h o e =
       finish plain m m' o al none st (sym (records_none (most_records - p.done) l al st (drop p.at s) (drop_of_length-le s h)) ∙ d.goes) (e ∙ sym d.last) refl d.stays
 
@@ -162,18 +153,30 @@ module _ (s : List ℕ) (plain : Sheet.Ran) (m : Memory) (p : SheetProgress) (m'
         (sym (records_full l al st (drop p.at s) left) ∙ ap (λ (k : ℕ). Sheet.records k l al st (drop p.at s)) (sym z) ∙ d.goes)
         (refused_at too_many_records) refl d.stays
 
-    module _ (r : Record) (x : ReadsRecord s p.at r) (room : p.done < most_records) where
-      abbrev k : ℕ
-      k = most_records - (p.done + 1)
+    abbrev k : ℕ
+    k = most_records - (p.done + 1)
 
-      stepped : (o : Option M.Call) → call_of s r.body ≡ o → after_record k l al st (Sheet.with_rest o (drop r.next.at s)) ≡ plain
+    module _ (t : Result Record Refusal) (x : ReadsRecord s p.at t) (room : p.done < most_records) where
+      stepped : (o : Option (M.Call × List ℕ)) → record_read s t ≡ o → after_record k l al st o ≡ plain
       stepped o e =
           let n : suc k ≡ most_records - p.done = omega arith in
-          ap (λ (c : Option M.Call). after_record k l al st (Sheet.with_rest c (drop r.next.at s))) (sym e)
-          ∙ ap (after_record k l al st) x.is
+          ap (after_record k l al st) (sym e ∙ x.is)
           ∙ sym (records_step k l al st (drop p.at s) left)
           ∙ ap (λ (i : ℕ). Sheet.records i l al st (drop p.at s)) n
           ∙ d.goes
+
+      -- no record was read
+      pub doing_malformed : (e : Refusal) → t ≡ Err e → number_of e ≡ bad_record → RunsRecords plain m (RefusedAt (number_of e) p.done) m'
+      doing_malformed e f g =
+          finish plain m m' _ al (some (bad_record, length al)) st (stepped none (ap (record_read s) f))
+          (ap (λ (j : ℕ). RefusedAt j p.done) g ∙ refused_at bad_record) refl d.stays
+
+    module _ (r : Record) (x : ReadsRecord s p.at (Done r)) (room : p.done < most_records) where
+      abbrev c : M.Call
+      c = call_of s r.body
+
+      goes_on : after_record k l al st (some (c, drop r.next.at s)) ≡ plain
+      goes_on = stepped (Done r) x room (some (c, drop r.next.at s)) refl
 
       -- the ids noted are those of the answers
       operand_same : id_of ids p.done m'.arena.count ≡ Sheet.operand_id (length st.nodes) al
@@ -185,37 +188,24 @@ module _ (s : List ℕ) (plain : Sheet.Ran) (m : Memory) (p : SheetProgress) (m'
 
       module _ (m'' : Memory) where
         -- a record's call, with what is noted of its answer
-        abbrev Performs : M.Call → Noted → Type 0
+        abbrev Performs : M.Call → Result RecordAnswer ℕ → Type 0
         Performs c n = (n ≡ noted_as (M.call l st c).answer) × (model.view m'' ≡ (M.call l st c).left) × Stays m' m''
 
-        after : (c : M.Call) (a : Answer) (n : Noted) → n ≡ noted_as (answer_of a) → Leaves (Sheet.call_on (id_of ids p.done m'.arena.count) c) m' (answer_of a) m'' → Performs (Sheet.call_on (Sheet.operand_id (length st.nodes) al) c) n
-        after c a n e k =
+        after : (a : Answer) (n : Result RecordAnswer ℕ) → n ≡ noted_as (answer_of a) → PerformsBody s r.body ids p.done m' a m'' → Performs (Sheet.call_on (Sheet.operand_id (length st.nodes) al) c) n
+        after a n e k =
             let h = d.stays.sound in
             subst (λ (f : ℕ → ℕ). Performs (Sheet.call_on f c) n) operand_same
             (e ∙ ap noted_as (k.called.answer h), k.called.left h, leaves_stays (Sheet.call_on (id_of ids p.done m'.arena.count) c) m' (answer_of a) m'' h k)
 
-        passed_refused : (number : ℕ) (c : M.Call) → call_of s r.body ≡ some c → Performs (Sheet.call_on (Sheet.operand_id (length st.nodes) al) c) (Refused number) → RunsRecords plain m (RefusedAt number p.done) m''
-        passed_refused number c e q =
+        pub doing_refused : (number : ℕ) (a : Answer) → Err number ≡ noted_as (answer_of a) → PerformsBody s r.body ids p.done m' a m'' → RunsRecords plain m (RefusedAt number p.done) m''
+        doing_refused number a t q =
+            let y = after a (Err number) t q in
             let a = M.call l st (Sheet.call_on (Sheet.operand_id (length st.nodes) al) c) in
             finish plain m m'' _ al (some (number, length al)) a.left
-            (sym (ap (λ (o : Option ℕ). elim o [ none ↦ Sheet.records k l (al ++ a.answer ∷ []) a.left (drop r.next.at s) | some n ↦ Sheet.ran al (some (n, length al)) a.left ]) (refusal_of a.answer number q.0)) ∙ stepped (some c) e)
-            (refused_at number) q.1 (stays_trans m m' m'' d.stays q.2)
+            (sym (ap (λ (o : Option ℕ). elim o [ none ↦ Sheet.records k l (al ++ a.answer ∷ []) a.left (drop r.next.at s) | some n ↦ Sheet.ran al (some (n, length al)) a.left ]) (refusal_of a.answer number y.0)) ∙ goes_on)
+            (refused_at number) y.1 (stays_trans m m' m'' d.stays y.2)
 
-        pub doing_refused : (number : ℕ) (a : Answer) (n : Noted) → n ≡ noted_as (answer_of a) → n ≡ Refused number → PerformsBody s r.body ids p.done m' a m'' → RunsRecords plain m (RefusedAt number p.done) m''
-        doing_refused number a n f t q = go (call_of s r.body) refl
-          where
-            noted : Refused number ≡ noted_as (answer_of a)
-            noted = sym t ∙ f
-
-            go : (o : Option M.Call) → call_of s r.body ≡ o → RunsRecords plain m (RefusedAt number p.done) m''
-            go none e =
-                let same = q.malformed e in
-                let i : number ≡ bad_record = (let g : Refused number ≡ Refused bad_record = noted ∙ ap (λ (x : Answer). noted_as (answer_of x)) same.0 in cc) in
-                finish plain m m'' _ al (some (bad_record, length al)) st (stepped none e) (ap (λ (j : ℕ). RefusedAt j p.done) i ∙ refused_at bad_record) (ap model.view same.1)
-                (subst (λ (y : Memory). Stays m y) (sym same.1) d.stays)
-            go (some c) e = passed_refused number c e (after c a (Refused number) noted (q.whole c e))
-
-        module _ (id : ℕ) (spent : Bool) (p' : SheetProgress) (done' : p'.done ≡ p.done + 1) (at' : p'.at ≡ r.next.at) (id' : p'.id ≡ id) (spent' : p'.spent ≡ spent) where
+        module _ (id : ℕ) (spent : Bool) (p' : SheetProgress) (done' : p'.done ≡ p.done + 1) (at' : p'.at ≡ r.next.at) (last' : p'.last ≡ Some (answered id spent)) where
           noted_more : (a : M.Answer) → Sheet.answer_id a ≡ id → (i : ℕ) → i < p.done + 1 → get_or (set ids p.done id) i 0 ≡ Sheet.answer_id (get_or (al ++ a ∷ []) i (M.refused 0))
           noted_more a e i h = go (dec_lt i p.done)
             where
@@ -233,8 +223,9 @@ module _ (s : List ℕ) (plain : Sheet.Ran) (m : Memory) (p : SheetProgress) (m'
                   ∙ get_or-set_same ids p.done id 0 (omega arith)
                   ∙ sym (ap Sheet.answer_id (get_or_at al a [] (M.refused 0) i (long ∙ sym z)) ∙ e)
 
-          passed_more : (c : M.Call) → call_of s r.body ≡ some c → Performs (Sheet.call_on (Sheet.operand_id (length st.nodes) al) c) (Answered id spent) → Doing s plain m p' m'' (set ids p.done id)
-          passed_more c e q =
+          pub doing_more : (a : Answer) → Done (answered id spent) ≡ noted_as (answer_of a) → PerformsBody s r.body ids p.done m' a m'' → Doing s plain m p' m'' (set ids p.done id)
+          doing_more a f g =
+              let q = after a (Done (answered id spent)) f g in
               let a = M.call l st (Sheet.call_on (Sheet.operand_id (length st.nodes) al) c) in
               let t = told a.answer id spent q.0 in
               let few : p.done + 1 ≤ most_records = omega arith in
@@ -248,37 +239,11 @@ module _ (s : List ℕ) (plain : Sheet.Ran) (m : Memory) (p : SheetProgress) (m'
                 wide = length-set ids p.done id ∙ w;
                 noted = λ i h. noted_more a.answer t.noted i (omega arith);
                 last =
-                    outcome_snoc al a.answer ∙ t.says
-                    ∙ sym (some_done p'.done p'.id p'.spent (λ z. omega arith) ∙ ap₂ (λ (b : Bool) (i : ℕ). cond b (Spent i) (Ok i)) spent' id');
+                    outcome_snoc al a.answer ∙ t.says ∙ sym (ap finished_as last');
                 goes =
                     ap₂ (λ (n j : ℕ). Sheet.records (most_records - n) (model.lent m'') (al ++ a.answer ∷ []) (model.view m'') (drop j s)) done' at'
                     ∙ ap₂ (λ (l' : Lent) (st' : M.State). Sheet.records k l' (al ++ a.answer ∷ []) st' (drop r.next.at s)) q.2.same_lent q.1
                     ∙ sym (ap (λ (o : Option ℕ). elim o [ none ↦ Sheet.records k l (al ++ a.answer ∷ []) a.left (drop r.next.at s) | some n ↦ Sheet.ran al (some (n, length al)) a.left ]) t.passes)
-                    ∙ stepped (some c) e;
+                    ∙ goes_on;
                 stays = stays_trans m m' m'' d.stays q.2;
               }
-
-          pub doing_more : (a : Answer) (n : Noted) → n ≡ noted_as (answer_of a) → n ≡ Answered id spent → PerformsBody s r.body ids p.done m' a m'' → Doing s plain m p' m'' (set ids p.done id)
-          doing_more a n f t q = go (call_of s r.body) refl
-            where
-              noted : Answered id spent ≡ noted_as (answer_of a)
-              noted = sym t ∙ f
-
-              go : (o : Option M.Call) → call_of s r.body ≡ o → Doing s plain m p' m'' (set ids p.done id)
-              go none e = absurd (let g : Answered id spent ≡ Refused bad_record = noted ∙ ap (λ (x : Answer). noted_as (answer_of x)) (q.malformed e).0 in let z : ◌≡◌ {A = ℕ} 0 1 = cc in omega arith)
-              go (some c) e = passed_more c e (after c a (Answered id spent) noted (q.whole c e))
-
--- ---- a turn's two ways
-
-module _ (s : List ℕ) (plain : Sheet.Ran) (m : Memory) (done : ℕ) (words slots ids : List ℕ) where
-  pub turned_more : (p : SheetProgress) → p.done ≡ done + 1 → Doing s plain m p (memory words slots p.arena) ids → Turned s plain m done (More p) words slots ids
-  turned_more p e d = record {
-    more = λ q f. let same : p ≡ q = cc in subst (λ (x : SheetProgress). (x.done ≡ done + 1) × Doing s plain m x (memory words slots x.arena) ids) same (e, d);
-    refused = λ number arena f. absurd (let z : ◌≡◌ {A = ℕ} 0 1 = cc in omega arith);
-  }
-
-  pub turned_refused : (number : ℕ) (arena : DagArena) → RunsRecords plain m (RefusedAt number done) (memory words slots arena) → Turned s plain m done (RefusedTurn number arena) words slots ids
-  turned_refused number arena d = record {
-    more = λ q f. absurd (let z : ◌≡◌ {A = ℕ} 0 1 = cc in omega arith);
-    refused = λ n a f. let e : number ≡ n = cc in let g : arena ≡ a = cc in subst (λ (x : DagArena). RunsRecords plain m (RefusedAt n done) (memory words slots x)) g (subst (λ (x : ℕ). RunsRecords plain m (RefusedAt x done) (memory words slots arena)) e d);
-  }

@@ -18,13 +18,13 @@ use Rattle.definitions.specs.Listing.{listing}
 use Rattle.store.specs.View.{lent, nodes_in}
 use Rattle.store.specs.Memory.{Memory, memory, model, memory_after}
 use Rattle.store.proofs.Staying.{stays_refl, stays_is}
-use Rattle.builder.specs.declared.opening.FreshStore.{FreshStore}
-use Rattle.builder.specs.declared.opening.FreshStore.TheVariants.{Store, Refused as RefusedStore}
-use Rattle.builder.specs.Opens.{fresh_answer, fresh_slots, Opens}
+use Rattle.std.proofs.Common.{Ok as Store, Err as RefusedStore}
+use Rattle.builder.specs.Opens.{FreshStore, fresh_answer, fresh_slots, Opens}
 use Rattle.records.specs.declared.Cursor.{Cursor}
-use Rattle.records.specs.declared.Opened.{Opened}
-use Rattle.records.specs.declared.Opened.TheVariants.{Records, Refused as RefusedSheet}
-use Rattle.records.specs.Reading.{after_opening, is_sheet, is_opened, OpensSheet}
+use Rattle.refusal.specs.declared.Refusal.{Refusal}
+use Rattle.refusal.specs.Number.{number_of}
+use Rattle.std.specs.Prelude.{Result, Ok, Err}
+use Rattle.records.specs.Reading.{is_sheet, OpensSheet}
 use Rattle.listing_lines.specs.declared.SheetOutcome.{SheetOutcome}
 use Rattle.listing_lines.specs.declared.SheetOutcome.TheVariants.{Refused as RefusedAt}
 use Rattle.listing_lines.specs.Outcome.{outcome_of, all_lines}
@@ -49,8 +49,8 @@ runs_unsound s m n = record {
     refused_by (no _) = refl
 
 -- a refusal before the first record, as the code gives it
-pub runs_at_start : (s words slots : List ℕ) (arena : DagArena) (number : ℕ) (r : Ran) → r ≡ refused_at_start number arena → Runs s (memory words slots arena) (RefusedAt number 0) (memory words slots arena) → Runs s (memory words slots arena) r.outcome (memory words slots r.arena)
-runs_at_start s words slots arena number r e k = subst (λ (x : Ran). Runs s (memory words slots arena) x.outcome (memory words slots x.arena)) (sym e) k
+pub runs_at_start : (s words slots : List ℕ) (arena : DagArena) (number n : ℕ) → n ≡ number → (r : Ran) → r ≡ refused_at_start n arena → Runs s (memory words slots arena) (RefusedAt number 0) (memory words slots arena) → Runs s (memory words slots arena) r.outcome (memory words slots r.arena)
+runs_at_start s words slots arena number n f r e k = subst (λ (x : Ran). Runs s (memory words slots arena) x.outcome (memory words slots x.arena)) (sym (e ∙ ap (λ (i : ℕ). refused_at_start i arena) f)) k
 
 module _ (s : List ℕ) (m : Memory) (h : model.Sound m) where
   runs : (o : SheetOutcome) (m' : Memory) → RunsRecords (Sheet.sheet (model.lent m) (model.view m) s) m o m' → (is_sheet s ≡ false → m' ≡ m) → Runs s m o m'
@@ -67,18 +67,18 @@ module _ (s : List ℕ) (m : Memory) (h : model.Sound m) where
       answered_by (no n) = absurd (n h)
       answered_by (yes _) = ap₂ ended f.outcome (stays_is m m' h f.stays ∙ ap (λ (x : M.State). memory_after m x.nodes) f.left)
 
-  -- 1
-  pub runs_refused : (r : Opened) → r ≡ RefusedSheet → OpensSheet s r → Runs s m (RefusedAt bad_sheet 0) m
-  runs_refused r e x =
-      runs (RefusedAt bad_sheet 0) m
-      (finish (Sheet.sheet (model.lent m) (model.view m) s) m m (RefusedAt bad_sheet 0) [] (some (bad_sheet, 0)) (model.view m) (ap (after_opening (model.lent m) (model.view m) s) (sym e) ∙ x.is (model.lent m) (model.view m)) refl refl (stays_refl m h))
+  -- bytes that are no sheet
+  pub runs_refused : (e : Refusal) → OpensSheet s (Err e) → Runs s m (RefusedAt (number_of e) 0) m
+  runs_refused e x =
+      runs (RefusedAt (number_of e) 0) m
+      (finish (Sheet.sheet (model.lent m) (model.view m) s) m m (RefusedAt (number_of e) 0) [] (some (number_of e, 0)) (model.view m) (x.is (model.lent m) (model.view m)) refl refl (stays_refl m h))
       (λ _. refl)
 
   -- the records of a sheet that starts well
-  pub runs_records : (r : Opened) (c : Cursor) → r ≡ Records c → OpensSheet s r → (o : SheetOutcome) (m' : Memory) → RunsRecords (Sheet.records most_records (model.lent m) [] (model.view m) (drop c.at s)) m o m' → Runs s m o m'
-  runs_records r c e x o m' f =
-      runs o m' (subst (λ (plain : Sheet.Ran). RunsRecords plain m o m') (ap (after_opening (model.lent m) (model.view m) s) (sym e) ∙ x.is (model.lent m) (model.view m)) f)
-      (λ n. absurd (let t : false ≡ true = sym n ∙ x.tells ∙ ap is_opened e in let z : ◌≡◌ {A = ℕ} 0 1 = cc in omega arith))
+  pub runs_records : (c : Cursor) → OpensSheet s (Ok c) → (o : SheetOutcome) (m' : Memory) → RunsRecords (Sheet.records most_records (model.lent m) [] (model.view m) (drop c.at s)) m o m' → Runs s m o m'
+  runs_records c x o m' f =
+      runs o m' (subst (λ (plain : Sheet.Ran). RunsRecords plain m o m') (x.is (model.lent m) (model.view m)) f)
+      (λ n. absurd (let t : false ≡ true = sym n ∙ x.tells in let z : ◌≡◌ {A = ℕ} 0 1 = cc in omega arith))
 
 -- ---- on a fresh store
 
@@ -97,6 +97,11 @@ never e = let z : ◌≡◌ {A = ℕ} 0 1 = cc in omega arith
 not_both : (b : Bool) → b ≡ true → b ≡ false → ⊥
 not_both b t f = let v : true ≡ false = sym t ∙ f in let z : ◌≡◌ {A = ℕ} 0 1 = cc in omega arith
 
+-- a sheet that was not refused
+pub is_a_sheet : (s : List ℕ) (o : Result Cursor Refusal) → OpensSheet s o → ((e : Refusal) → o ≡ Err e → ⊥) → is_sheet s ≡ true
+is_a_sheet s (Ok c) x n = x.tells
+is_a_sheet s (Err e) x n = absurd (n e refl)
+
 module _ (s words slots : List ℕ) (before : DagArena) where
   -- a store is not opened, for this reason: nothing changed
   is_not_opened : (reason : ℕ) → not_opened s (lent words slots) ≡ some reason → (r : Ran) → r ≡ refused_at_start reason before → (slots₁ : List ℕ) → slots₁ ≡ slots
@@ -109,22 +114,19 @@ module _ (s words slots : List ℕ) (before : DagArena) where
     nodes = λ zero_count. subst (λ (y : Ran). Nodes words y.arena.count) (sym f) (subst (Nodes words) (sym zero_count) (no_nodes words));
   }
 
-  module _ (o : Opened) (x : OpensSheet s o) where
-    -- 1
-    pub fresh_no_sheet : o ≡ RefusedSheet → (r : Ran) → r ≡ refused_at_start bad_sheet before → RunsFresh s words slots before r words slots
-    unfolding nodes_in
-    fresh_no_sheet e r f =
-        let no : is_sheet s ≡ false = x.tells ∙ ap is_opened e in
-        let plain : Sheet.ran [] (some (bad_sheet, 0)) M.empty ≡ Sheet.sheet (lent words slots) M.empty s = ap (after_opening (lent words slots) M.empty s) (sym e) ∙ x.is (lent words slots) M.empty in
-        is_not_opened bad_sheet (ap (λ (b : Bool). cond b (cond (M.fresh_refused (lent words slots)) (some no_slot_place) none) (some bad_sheet)) no) r f slots refl
-        (λ _ _. listing_of_memory (RefusedAt bad_sheet 0) words 0 (Sheet.sheet (lent words slots) M.empty s)
-        (ap (λ (p : Sheet.Ran). outcome_of p.refusal p.answers) plain)
-        (ap (λ (p : Sheet.Ran). p.left.nodes) plain))
+  -- bytes that are no sheet
+  pub fresh_no_sheet : (e : Refusal) → OpensSheet s (Err e) → (n : ℕ) → n ≡ number_of e → (r : Ran) → r ≡ refused_at_start n before → RunsFresh s words slots before r words slots
+  unfolding nodes_in
+  fresh_no_sheet e x n g r f =
+      let bad : number_of e ≡ bad_sheet = ap number_of x.reason in
+      let plain : Sheet.ran [] (some (bad_sheet, 0)) M.empty ≡ Sheet.sheet (lent words slots) M.empty s = ap (λ (i : ℕ). Sheet.ran [] (some (i, 0)) M.empty) (sym bad) ∙ x.is (lent words slots) M.empty in
+      is_not_opened bad_sheet (ap (λ (b : Bool). cond b (cond (M.fresh_refused (lent words slots)) (some no_slot_place) none) (some bad_sheet)) x.tells) r (f ∙ ap (λ (i : ℕ). refused_at_start i before) (g ∙ bad)) slots refl
+      (λ _ _. listing_of_memory (RefusedAt bad_sheet 0) words 0 (Sheet.sheet (lent words slots) M.empty s)
+      (ap (λ (p : Sheet.Ran). outcome_of p.refusal p.answers) plain)
+      (ap (λ (p : Sheet.Ran). p.left.nodes) plain))
 
-    module _ (c : Cursor) (e : o ≡ Records c) (slots₁ : List ℕ) (y : FreshStore) (k : Opens words slots y slots₁) where
-      a_sheet : is_sheet s ≡ true
-      a_sheet = x.tells ∙ ap is_opened e
-
+  module _ (a_sheet : is_sheet s ≡ true) where
+    module _ (slots₁ : List ℕ) (y : FreshStore) (k : Opens words slots y slots₁) where
       -- under 64 slots
       pub fresh_refused : (number : ℕ) → y ≡ RefusedStore number → (r : Ran) → r ≡ refused_at_start number before → RunsFresh s words slots before r words slots₁
       fresh_refused number g r f = go (M.fresh_refused (lent words slots)) refl

@@ -1,4 +1,4 @@
-// Sheets (01, "sheets and the listing"): records done in order on one store.
+// Sheets: records done in order on one store.
 #![tactic(auto)]
 
 mod operands;
@@ -10,16 +10,14 @@ ghost use Rattle.std.specs.Prelude.{◌≡◌};
 ghost use Rattle.sheet.specs.Sheets.{Runs, RunsFresh, refused_at_start};
 
 use arena::DagArena;
-use builder::FreshStore;
-use definitions::refusals::{BAD_SHEET, NOT_SOUND};
 use listing_lines::SheetOutcome;
-use records::Opened;
+use refusal::Refusal;
 use running::run_records;
 
-// 01, refusal 3: "record 1,024 reached".
+// The most records of a sheet.
 pub(crate) const MOST_RECORDS: usize = 1_024;
 
-// What a sheet's first line says, and the counts of the store after it.
+/// What a sheet's first line says, and the counts of the store after it.
 #[derive(Clone, Copy)]
 pub struct Ran {
     pub outcome: SheetOutcome,
@@ -35,38 +33,31 @@ fn refused(number: u64, arena: DagArena) -> Ran
     }
 }
 
-// A sheet on any store, which is audited once.
+/// A sheet on any store, which is audited once.
 pub fn run(sheet: &[u8], nodes: &mut [u64], slots: &mut [u32], arena: DagArena) -> Ran
     ensures { Runs sheet.now (memory nodes.old slots.old arena) result.outcome
         (memory nodes.new slots.new result.arena) }
 {
     if !store::audit(nodes, slots, arena) {
-        return refused(NOT_SOUND, arena);
+        return refused(Refusal::NotSound.number(), arena);
     }
     match records::open(sheet) {
-        Opened::Refused => refused(BAD_SHEET, arena),
-        Opened::Records(cursor) => {
-            let at = cursor.at;
-            run_records(sheet, at, nodes, slots, arena)
-        }
+        Err(refusal) => refused(refusal.number(), arena),
+        Ok(cursor) => run_records(sheet, cursor.at, nodes, slots, arena),
     }
 }
 
-// A sheet on a fresh store in the lent words and slots. Where none is opened, for 1 or 22, nothing changes, and the counts are those handed
-// in.
+/// A sheet on a fresh store in the lent words and slots. Where none is opened, for bad input or too few slots, nothing changes, and the
+/// counts are those handed in.
 pub fn run_fresh(sheet: &[u8], nodes: &mut [u64], slots: &mut [u32], before: DagArena) -> Ran
     ensures { RunsFresh sheet.now nodes.old slots.old before result nodes.new
         slots.new }
 {
-    let opened = records::open(sheet);
-    match opened {
-        Opened::Refused => refused(BAD_SHEET, before),
-        Opened::Records(_) => {
-            let fresh = builder::fresh(nodes, slots);
-            match fresh {
-                FreshStore::Refused(number) => refused(number, before),
-                FreshStore::Store(arena) => run(sheet, nodes, slots, arena),
-            }
-        }
+    if let Err(refusal) = records::open(sheet) {
+        return refused(refusal.number(), before);
+    }
+    match builder::fresh(nodes, slots) {
+        Err(refusal) => refused(refusal.number(), before),
+        Ok(arena) => run(sheet, nodes, slots, arena),
     }
 }

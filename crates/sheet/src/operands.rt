@@ -1,4 +1,4 @@
-// Operands of a record as ids. 01: "operands are indices (2 bytes) of earlier records, from 0".
+// Operands of a record as ids: each is the number of an earlier record, from 0.
 ghost use Rattle.std.specs.Prelude.{◌≡◌, ◌+◌, ◌*◌, ◌≤◌, length, take, map};
 ghost use Rattle.definitions.specs.Limits.{most_nodes, most_records};
 ghost use Rattle.records.specs.Reading.{operands_from};
@@ -14,11 +14,7 @@ pub(crate) const OPERANDS_READ: usize = MOST_CHILDREN + 1;
 pub(crate) fn read_of(operands: usize) -> usize
     ensures { (result ≡ read_of operands) × (result ≤ operands_read) }
 {
-    if operands <= OPERANDS_READ {
-        operands
-    } else {
-        OPERANDS_READ
-    }
+    operands.min(OPERANDS_READ)
 }
 
 // The id of an operand. One that is no earlier record gets the count, an id that no node has, so that the call refuses it.
@@ -50,11 +46,9 @@ pub(crate) fn operand_ids(
     ensures { take operands result ≡ map (id_below ids.now done count) (operands_from sheet.now first operands) }
 {
     let mut children = [0; OPERANDS_READ];
-    let mut k: usize = 0;
-    while k < operands {
+    for k in 0..operands {
         let operand = records::operand(sheet, first, k);
         children[k] = operand_id(ids, done, count, operand);
-        k += 1;
     }
     children
 }

@@ -4,40 +4,40 @@ ghost use Rattle.definitions.specs.Limits.{most_nodes, most_records};
 ghost use Rattle.store.specs.Sound.{Sound};
 ghost use Rattle.store.specs.Memory.{memory};
 ghost use Rattle.records.specs.Reading.{OperandsInSheet};
-ghost use Rattle.sheet.specs.Running.{PerformsBody, Requests, id_below};
+ghost use Rattle.sheet.specs.Running.{PerformsBody, Requests, id_below, request};
 
 use crate::MOST_RECORDS;
 use crate::operands::{operand_id, operand_ids, read_of};
 use arena::DagArena;
-use definitions::refusals::BAD_RECORD;
 use records::Body;
-use store_calls::{Answer, Call, Performed, perform_sound};
+use store_calls::{Call, Performed, perform_sound};
 
-// What a record asks for: a call, and where its operands start and how many there are; or nothing (refusal 2).
+// What a record asks for: a call whose operands are still to be read, and where they start and how many there are.
 #[derive(Clone, Copy)]
-pub(crate) enum RecordRequest {
-    Call {
-        call: Call,
-        first: usize,
-        operands: usize,
-    },
-    Malformed,
+pub(crate) struct RecordRequest<'a> {
+    pub call: Call<'a>,
+    pub first: usize,
+    pub operands: usize,
 }
 
 // A call without operands.
-fn alone(call: Call) -> RecordRequest
-    ensures { result ≡ RecordRequest.Call call 0 0 }
+fn alone<'a>(call: Call<'a>) -> RecordRequest<'a>
+    ensures { result ≡ request call.entry 0 0 }
 {
-    RecordRequest::Call {
+    RecordRequest {
         call,
         first: 0,
         operands: 0,
     }
 }
 
-// The call of a body: 01 symbol(4); 02 bits(8); 03 operator(1), flags(1), operands; 04 function(4), operands; 05 control(1), operands; 06
-// and 08 operand, depth(1), budget(4); 07 operand, threshold bits(8).
-fn request_of(body: Body, ids: &[u64; MOST_RECORDS], done: usize, count: u64) -> RecordRequest
+// The call of a body.
+fn request_of<'a>(
+    body: Body,
+    ids: &[u64; MOST_RECORDS],
+    done: usize,
+    count: u64,
+) -> RecordRequest<'a>
     requires { (length ids.now ≡ most_records) × (done ≤ most_records) × (count ≤ most_nodes) }
     ensures { Requests body (id_below ids.now done count) result }
 {
@@ -49,10 +49,11 @@ fn request_of(body: Body, ids: &[u64; MOST_RECORDS], done: usize, count: u64) ->
             flags,
             first,
             count: operands,
-        } => RecordRequest::Call {
+        } => RecordRequest {
             call: Call::Operator {
                 code: code as u32,
                 flags: flags as u32,
+                operands: &[],
             },
             first,
             operands,
@@ -61,8 +62,11 @@ fn request_of(body: Body, ids: &[u64; MOST_RECORDS], done: usize, count: u64) ->
             number,
             first,
             count: operands,
-        } => RecordRequest::Call {
-            call: Call::Function(number),
+        } => RecordRequest {
+            call: Call::Function {
+                number,
+                operands: &[],
+            },
             first,
             operands,
         },
@@ -70,8 +74,11 @@ fn request_of(body: Body, ids: &[u64; MOST_RECORDS], done: usize, count: u64) ->
             code,
             first,
             count: operands,
-        } => RecordRequest::Call {
-            call: Call::Control(code as u32),
+        } => RecordRequest {
+            call: Call::Control {
+                code: code as u32,
+                operands: &[],
+            },
             first,
             operands,
         },
@@ -90,11 +97,10 @@ fn request_of(body: Body, ids: &[u64; MOST_RECORDS], done: usize, count: u64) ->
             root: operand_id(ids, done, count, operand),
             threshold,
         }),
-        Body::Malformed => RecordRequest::Malformed,
     }
 }
 
-// What a record's body asks for, done: "2, 5, 6, 4, 7, 23, 21, 22".
+// What a record's body asks for, done.
 pub(crate) fn perform(
     sheet: &[u8],
     body: Body,
@@ -111,19 +117,7 @@ pub(crate) fn perform(
 {
     let count = arena.count;
     let request = request_of(body, ids, done, count);
-    match request {
-        RecordRequest::Malformed => Performed {
-            answer: Answer::Refused(BAD_RECORD),
-            arena,
-        },
-        RecordRequest::Call {
-            call,
-            first,
-            operands,
-        } => {
-            let read = read_of(operands);
-            let children = operand_ids(sheet, first, read, ids, done, count);
-            perform_sound(nodes, slots, arena, call, &children[..read])
-        }
-    }
+    let read = read_of(request.operands);
+    let children = operand_ids(sheet, request.first, read, ids, done, count);
+    perform_sound(nodes, slots, arena, request.call.over(&children[..read]))
 }

@@ -10,114 +10,90 @@ ghost use Rattle.sheet.specs.Running.{NextRecord, RunsRecords, finished_as, note
 use crate::performing::perform;
 use crate::{MOST_RECORDS, Ran};
 use arena::DagArena;
-use definitions::refusals::TOO_MANY_RECORDS;
 use listing_lines::SheetOutcome;
 use records::Cursor;
+use refusal::Refusal;
 use store_calls::Answer;
 
-// How far a sheet is done: the number of records, where the next one starts, the last answer's id and whether its budget ran out,
-// and the counts of the store.
+// What a record answered: an id, and whether its budget ran out.
+#[derive(Clone, Copy)]
+pub(crate) struct RecordAnswer {
+    pub id: u64,
+    pub spent: bool,
+}
+
+// How far a sheet is done: the number of records, where the next one starts, the last answer if there is one, and the counts of the
+// store.
 #[derive(Clone, Copy)]
 pub(crate) struct SheetProgress {
     pub done: usize,
     pub at: usize,
-    pub id: u64,
-    pub spent: bool,
+    pub last: Option<RecordAnswer>,
     pub arena: DagArena,
 }
 
-// One more record done, or the number of the refusal that cuts the sheet short.
-#[derive(Clone, Copy)]
-pub(crate) enum SheetTurn {
-    More(SheetProgress),
-    Refused { number: u64, arena: DagArena },
-}
-
-// What a record's answer is noted as: an id, and whether the budget ran out; or the number of a refusal.
-#[derive(Clone, Copy)]
-pub(crate) enum Noted {
-    Answered { id: u64, spent: bool },
-    Refused(u64),
-}
-
-fn note(answer: Answer) -> Noted
+// What is noted of a call's answer, or the number of its refusal.
+fn note(answer: Answer) -> Result<RecordAnswer, u64>
     ensures { result ≡ noted_as (answer_of answer) }
 {
     match answer {
-        Answer::Stored(id) => Noted::Answered { id, spent: false },
-        Answer::Simplified(walked) => Noted::Answered {
+        Answer::Stored(id) => Ok(RecordAnswer { id, spent: false }),
+        Answer::Simplified(walked) => Ok(RecordAnswer {
             id: walked.id,
             spent: walked.spent,
-        },
-        Answer::Pruned(pruned) => Noted::Answered {
+        }),
+        Answer::Pruned(pruned) => Ok(RecordAnswer {
             id: pruned.id,
             spent: false,
-        },
-        Answer::Refused(number) => Noted::Refused(number),
+        }),
+        Answer::Refused(number) => Err(number),
     }
 }
 
-// The next record: 3, then 2 and the call's own refusals.
+// One more record done, or the number of the refusal that cuts the sheet short: too many records, then a bad record, then the refusals of
+// its call.
 fn step(
     sheet: &[u8],
     nodes: &mut [u64],
     slots: &mut [u32],
     ids: &mut [u64; MOST_RECORDS],
-    progress: SheetProgress,
-) -> SheetTurn
-    requires { (progress.at < length sheet.now) × (length ids.old ≡ most_records) × (progress.done ≤ most_records) × Sound nodes.old
-        slots.old progress.arena }
-    ensures { NextRecord sheet.now progress nodes.old slots.old ids.old result
-        nodes.new slots.new ids.new }
+    progress: &mut SheetProgress,
+) -> Result<(), u64>
+    requires { (progress.old.at < length sheet.now) × (length ids.old ≡ most_records) × (progress.old.done ≤ most_records) × Sound nodes.old
+        slots.old progress.old.arena }
+    ensures { NextRecord sheet.now progress.old nodes.old slots.old ids.old result
+        progress.new nodes.new slots.new ids.new }
 {
     let done = progress.done;
-    let at = progress.at;
-    let arena = progress.arena;
     if done == MOST_RECORDS {
-        return SheetTurn::Refused {
-            number: TOO_MANY_RECORDS,
-            arena,
-        };
+        return Err(Refusal::TooManyRecords.number());
     }
-    let record = records::read(sheet, Cursor { at });
-    let body = record.body;
-    let next = record.next;
-    let performed = perform(sheet, body, ids, done, nodes, slots, arena);
-    let after = performed.arena;
-    let answer = performed.answer;
-    let noted = note(answer);
-    match noted {
-        Noted::Refused(number) => SheetTurn::Refused {
-            number,
-            arena: after,
-        },
-        Noted::Answered { id, spent } => {
-            ids[done] = id;
-            SheetTurn::More(SheetProgress {
-                done: done + 1,
-                at: next.at,
-                id,
-                spent,
-                arena: after,
-            })
-        }
-    }
+    let record = match records::read(sheet, Cursor { at: progress.at }) {
+        Ok(record) => record,
+        Err(refusal) => return Err(refusal.number()),
+    };
+    let performed = perform(sheet, record.body, ids, done, nodes, slots, progress.arena);
+    progress.arena = performed.arena;
+    let answer = note(performed.answer)?;
+    ids[done] = answer.id;
+    progress.done = done + 1;
+    progress.at = record.next.at;
+    progress.last = Some(answer);
+    Ok(())
 }
 
 // What a sheet without a refusal says.
-fn finished(progress: SheetProgress) -> SheetOutcome
-    ensures { result ≡ finished_as progress.done progress.id progress.spent }
+fn finished(last: Option<RecordAnswer>) -> SheetOutcome
+    ensures { result ≡ finished_as last }
 {
-    if progress.done == 0 {
-        return SheetOutcome::Empty;
+    match last {
+        None => SheetOutcome::Empty,
+        Some(answer) if answer.spent => SheetOutcome::Spent(answer.id),
+        Some(answer) => SheetOutcome::Ok(answer.id),
     }
-    if progress.spent {
-        return SheetOutcome::Spent(progress.id);
-    }
-    SheetOutcome::Ok(progress.id)
 }
 
-// All records from a place on, in a sound store.
+// All records from a place on, in a sound store. The loop goes by the place of the next record: no counter that a `for` would take.
 pub(crate) fn run_records(
     sheet: &[u8],
     start: usize,
@@ -135,34 +111,25 @@ pub(crate) fn run_records(
     let mut progress = SheetProgress {
         done: 0,
         at: start,
-        id: 0,
-        spent: false,
+        last: None,
         arena,
     };
     while progress.at < sheet.len() {
-        let turn = step(sheet, nodes, slots, &mut ids, progress);
-        match turn {
-            SheetTurn::Refused {
-                number,
-                arena: after,
-            } => {
+        match step(sheet, nodes, slots, &mut ids, &mut progress) {
+            Ok(()) => {}
+            Err(number) => {
                 return Ran {
                     outcome: SheetOutcome::Refused {
                         number,
                         at: progress.done as u64,
                     },
-                    arena: after,
+                    arena: progress.arena,
                 };
-            }
-            SheetTurn::More(next) => {
-                progress = next;
             }
         }
     }
-    let outcome = finished(progress);
-    let after = progress.arena;
     Ran {
-        outcome,
-        arena: after,
+        outcome: finished(progress.last),
+        arena: progress.arena,
     }
 }

@@ -8,9 +8,6 @@ use native.Mathlib.Nat.{mod-lt, mod-add-mod, add-mod-mod, add-mod_right, mod-eq_
 use native.Mathlib.Decide.{dec_lt}
 use Rattle.slots.specs.Table.{slot_from}
 
-pub round_next : (h d size : ℕ) → ((h + d) % size + 1) % size ≡ (h + (d + 1)) % size
-round_next h d size = mod-add-mod (h + d) size 1 ∙ ap (λ (x : ℕ). x % size) (let e : h + d + 1 ≡ h + (d + 1) = omega arith in e)
-
 -- so many places onward from a hash's own place
 pub round_from : (h home d size : ℕ) → home ≡ h % size → (home + d) % size ≡ (h + d) % size
 round_from h home d size is = ap (λ (x : ℕ). (x + d) % size) is ∙ mod-add-mod h size d

@@ -4,7 +4,7 @@ use Rattle.definitions.specs.Limits.{first_table_size}
 use Rattle.definitions.specs.Intern.{capacity}
 use Rattle.arena.specs.Node.{node_at}
 
--- 01: a table size is a "power of two from 64 up"
+-- a table size is a power of two from 64 up
 pub record TableSize (size : ℕ) : Type 0 where
   pub doublings : ℕ
   pub is : size ≡ first_table_size * 2 ^ doublings
@@ -28,7 +28,7 @@ free_place (suc more) slots size from = elim (eqb (get_or slots (from % size) 0)
 abbrev pub with_id : List ℕ → ℕ → ℕ → ℕ → List ℕ
 with_id slots size hash id = set slots (free_place size slots size hash) (suc id)
 
--- 02: "what inserting all nodes by ascending id into an empty table of the present size gives, each at its first free place"
+-- what inserting all nodes by ascending id into an empty table of the present size gives, each at its first free place
 unfoldable pub inserted : (ℕ → ℕ) → ℕ → ℕ → List ℕ
 inserted hash size zero = replicate size 0
 inserted hash size (suc id) = with_id (inserted hash size id) size (hash id) id
@@ -40,9 +40,9 @@ pub record Table (hash : ℕ → ℕ) (count : ℕ) (slots : List ℕ) (size : �
   pub load : count ≤ capacity size
   pub filled : take size slots ≡ inserted hash size count
 
--- ---- what 01 says of it, and the order
+-- ---- what holds of it, and the order
 
--- a value "met from its hash modulo the table size onward, round the end, before an empty one"; each slot before it holds a lower one
+-- a value met from its hash modulo the table size onward, round the end, before an empty one; each slot before it holds a lower one
 pub record Placed (slots : List ℕ) (size hash value : ℕ) : Type 0 where
   pub far : ℕ
   pub near : far < size
@@ -53,8 +53,7 @@ pub record Placed (slots : List ℕ) (size hash value : ℕ) : Type 0 where
 abbrev pub AllKnown : ℕ → List ℕ → ℕ → Type 0
 AllKnown known slots size = (p : ℕ) → p < size → get_or slots p 0 ≤ known
 
--- "each id has just one slot, met from its hash modulo the table size onward, round the end, before an empty one, and every other slot is
--- 0"
+-- each id has just one slot, met from its hash modulo the table size onward, round the end, before an empty one, and every other slot is 0
 pub record InOrder (hash : ℕ → ℕ) (count : ℕ) (slots : List ℕ) (size : ℕ) : Type 0 where
   pub placed : (i : ℕ) → i < count → Placed slots size (hash i) (suc i)
   pub single : (p q : ℕ) → p < size → q < size → (get_or slots p 0 ≡ 0 → ⊥) → get_or slots p 0 ≡ get_or slots q 0 → p ≡ q

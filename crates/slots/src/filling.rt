@@ -9,22 +9,22 @@ use crate::sizes::modulo_size;
 use crate::window::{FREE_WINDOW, first_empty};
 use arena::{HASH, NODE_WORDS};
 
-// The first free place from a place on, round the end. That the count of places passed stays below the size shows that
-// the loop ends.
+// The first free place from a place on, round the end.
 fn free_from(slots: &[u32], size: usize, home: usize) -> usize
     requires { (home < size) × Room slots.now size }
     ensures { FirstFree slots.now size home result }
 {
-    let mut at = home;
-    let mut passed: usize = 0;
-    while slots[at] != 0 {
-        at = modulo_size(at + 1, size);
-        passed += 1;
+    for far in 0..size {
+        let at = modulo_size(home + far, size);
+        if slots[at] == 0 {
+            return at;
+        }
     }
-    at
+    // Some slot is empty, so that the loop does not end here.
+    home
 }
 
-// The first free place from a hash on, round the end. A window that ends within the table is looked at first.
+/// The first free place from a hash on, round the end. A window that ends within the table is looked at first.
 pub fn free_place(slots: &[u32], size: usize, hash: u64) -> usize
     requires { Room slots.now size }
     ensures { FirstFree slots.now size hash result }
@@ -61,23 +61,16 @@ fn clear(slots: &mut [u32], n: usize)
     requires { n ≤ length slots.old }
     ensures { slots.new ≡ replicate n 0 ++ drop n slots.old }
 {
-    let mut i: usize = 0;
-    while i < n {
-        slots[i] = 0;
-        i += 1;
-    }
+    slots[..n].fill(0);
 }
 
-// The table anew, at a size: the nodes by rising id, each at its first free place.
+/// Fills the table anew, at a size: the nodes by rising id, each at its first free place.
 pub fn rehash(nodes: &[u64], slots: &mut [u32], size: usize, count: u64)
     requires { AllWellFormed nodes.now count × FitsTable count slots.old size }
     ensures { Rehashed (hash_at nodes.now) count slots.old size slots.new }
 {
     clear(slots, size);
-    let mut left = count;
-    while 0 < left {
-        let id = count - left;
+    for id in 0..count {
         place(slots, size, node_hash_at(nodes, id), id);
-        left -= 1;
     }
 }

@@ -1,5 +1,5 @@
-// The slots of the duplicate table (dedup.rs): its sizes, the first free place from a hash, and the ids put into slots. 01: "A slot is a
-// 32-bit id + 1, or 0."
+// The slots of the duplicate table: its sizes, the first free place from a hash, and the ids put into slots. A slot is an id + 1 of
+// 32 bits, or 0.
 #![tactic(auto)]
 
 ghost use Rattle.std.specs.Prelude.{◌≡◌, ◌-◌, ◌<◌};
@@ -11,10 +11,10 @@ pub mod window;
 pub use filling::{free_place, rehash};
 pub use sizes::{FIRST_SIZE, is_table_size, load_limit, modulo_size};
 
-// The id that a slot in use holds.
+/// The id that a slot in use holds.
 pub fn slot_id(slot: u32) -> u64
     requires { 0 < slot }
     ensures { result ≡ slot - 1 }
 {
-    (slot - 1) as u64
+    u64::from(slot - 1)
 }

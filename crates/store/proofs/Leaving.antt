@@ -7,7 +7,7 @@ use Rattle.definitions.specs.Limits.{most_doublings}
 use Rattle.definitions.specs.Refusals.{not_sound}
 use Rattle.definitions.specs.Intern.{table_size_from}
 use Rattle.definitions.specs.Machine.{Call, Answer, refused, After, call}
-use Rattle.store.specs.View.{lent, Kept}
+use Rattle.store.specs.View.{Kept}
 use Rattle.store.specs.Memory.{Memory, model, memory_after, changes_nothing, left, left_by, Leaves}
 use Rattle.store.proofs.Sizes.{grown_is}
 use Rattle.store.proofs.Keeping.{kept_refl}

@@ -12,3 +12,4 @@ pub mod Leaving
 pub mod Determined
 pub mod Staying
 pub mod Numbers
+pub mod Answering

@@ -6,7 +6,7 @@ use lib.ListN.{length, get_or-eq_default}
 use native.Mathlib.Omega.{arith}
 use Rattle.hash.specs.Fnv.{node_hash_of}
 use Rattle.arena.specs.Layout.{most_children}
-use Rattle.arena.specs.Node.{node_of, node_hash, Key, canonical}
+use Rattle.arena.specs.Node.{node_of, node_hash}
 use Rattle.arena.specs.Nodes.{WellFormed}
 use Rattle.arena.proofs.Places.{places_at, places_taken, places_length}
 use Rattle.definitions.specs.Node as N
@@ -35,6 +35,3 @@ module _ (count kind payload flags : ℕ) (children : List ℕ) (f : Fits count 
   pub new_places : length (node_of kind payload flags children).children ≡ most_children
   unfolding node_of
   new_places = places_length children f.few
-
-  pub new_key : (hash : ℕ) → hash ≡ node_hash_of kind payload children → Key kind payload hash children
-  new_key hash e = record { few = f.few; hashed = e }

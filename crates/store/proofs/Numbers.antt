@@ -11,7 +11,6 @@ use Rattle.arena.specs.declared.DagArena.{DagArena}
 use Rattle.arena.specs.Layout.{most_nodes}
 use Rattle.definitions.specs.Refusals.{no_slot_place}
 use Rattle.definitions.specs.Node as N
-use Rattle.definitions.specs.Intern as I
 use Rattle.definitions.proofs.Stopping.{NoPlace, StopsForPlace, intern_stops}
 use Rattle.store.specs.declared.NodeAnswer.{NodeAnswer}
 use Rattle.store.specs.declared.NodeAnswer.TheVariants.{Id, Refused}

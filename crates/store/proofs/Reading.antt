@@ -88,7 +88,7 @@ module _ (w slots : List ℕ) (s : DagArena) (h : Sound w slots s) (i : ℕ) (l 
       (subst (λ (p : ℕ). listed (N.at (nodes_in w s.count) i).kind p (get_or w (i * node_words + arity_word) 0) ≡ true) (payload_is w s.count i lookup_of)
       (subst (λ (x : ℕ). listed x (get_or w (i * node_words + payload_word) 0) (get_or w (i * node_words + arity_word) 0) ≡ true) (kind_is w s.count i lookup_of) (h.nodes.formed.each i l).kinds))
 
-  -- 02 (b): no constant of a sound store is a NaN
+  -- no constant of a sound store is a NaN
   pub number_at : N.nan_constant (N.at (nodes_in w s.count) i).kind (N.at (nodes_in w s.count) i).payload ≡ false
   number_at = listed_number _ _ _ listed_at
 

@@ -9,7 +9,7 @@ use lib.ListN.{length, drop, get_or-append}
 use lib.Dec.{leb, ltb}
 use native.Mathlib.Omega.{arith}
 use native.Mathlib.Numerals.{add-one}
-use borrow.Author.Tests.{leb-true, leb-false, ltb-true, ltb-false}
+use borrow.Author.Tests.{leb-true, leb-false, ltb-true, ltb-false, lt-ltb, le-ltb}
 use Rattle.arena.specs.declared.node.DagNode.{DagNode}
 use Rattle.arena.specs.declared.DagArena.{DagArena}
 use Rattle.arena.specs.Layout.{node_words, most_nodes, most_children}
@@ -18,34 +18,27 @@ use Rattle.arena.specs.Node.{put}
 use Rattle.arena.specs.Nodes.{WellFormed}
 use Rattle.arena.proofs.Putting.{put_past, put_old, put_new}
 use Rattle.arena.proofs.Finding.{found_at}
-use Rattle.dedup.specs.declared.Insertion as DA
-use Rattle.dedup.specs.declared.Insertion.TheVariants as DV
+use Rattle.std.proofs.Common.{Result, Ok, Err}
+use Rattle.refusal.specs.declared.Refusal.{Refusal}
+use Rattle.refusal.specs.declared.Refusal.TheVariants.{NoNodePlace, NoSlotPlace}
+use Rattle.refusal.specs.Number.{number_of}
+use Rattle.store.specs.Held.{node_answer}
 use Rattle.slots.specs.Table.{Table, hash_at}
 use Rattle.dedup.specs.Intern as D
 use Rattle.dedup.specs.Intern.{Interned, answered, new_answer, intern_answer, words_after}
 use Rattle.slots.proofs.Inserting.{slots_one}
 use Rattle.definitions.specs.Node as N
-use Rattle.definitions.specs.Refusals.{no_node_place, no_slot_place}
 use Rattle.definitions.specs.Intern as I
 use Rattle.definitions.specs.Intern.{capacity, no_place, found_or_new, add_new}
 use Rattle.store.specs.declared.Built.{Built}
-use Rattle.store.specs.declared.NodeAnswer.{NodeAnswer}
-use Rattle.store.specs.declared.NodeAnswer.TheVariants.{Id, Refused}
 use Rattle.store.specs.Sound.{Sound}
 use Rattle.store.specs.View.{plain_node, nodes_in, lent, Grown, plain_built, Low}
-use Rattle.store.specs.Memory.{memory}
 use Rattle.store.specs.Interning.{Interns}
 use Rattle.store.proofs.Viewing.{neat_of, find_is, plain_length, plain_more, plain_same}
 use Rattle.store.proofs.Sizes.{full_nodes, full_not, full_slots, full_double, grown_refl, grown_once}
 
--- the table's answer as the store's
-abbrev pub viewed : DA.Insertion → NodeAnswer
-viewed (DV.Old i) = Id i
-viewed (DV.New i) = Id i
-viewed (DV.Refused number) = Refused number
-
 abbrev pub out : Interned → Built
-out t = record { answer = viewed t.answer; arena = t.arena }
+out t = record { answer = node_answer t.answer; arena = t.arena }
 
 either : (x y : Bool) → x || y ≡ true → (x ≡ true) ⊎ (y ≡ true)
 either true y h = inl refl
@@ -86,23 +79,23 @@ module _ (w slots : List ℕ) (s : DagArena) (key : DagNode) (four : length key.
     sound : Sound w' slots' t.arena
     sound = record { nodes = i.nodes; table = i.table }
 
-    after : (a : DA.Insertion) → t.answer ≡ a → w' ≡ words_after a w key
-    after a e = i.words_then ∙ ap (λ (x : DA.Insertion). words_after x w key) e
+    after : (a : Result ℕ Refusal) → t.answer ≡ a → w' ≡ words_after a w c key
+    after a e = i.words_then ∙ ap (λ (x : Result ℕ Refusal). words_after x w c key) e
 
     -- no node more, at the same size, leaves every slot
-    same_slots : (a : DA.Insertion) → t ≡ answered a c z → w' ≡ w → slots' ≡ slots
+    same_slots : (a : Result ℕ Refusal) → t ≡ answered a c z → w' ≡ w → slots' ≡ slots
     same_slots a e q =
         slots_one (hash_at w) c slots slots' z h.table
         (subst (λ (x : List ℕ). Table (hash_at x) c slots' z) q (subst (λ (x : Interned). Table (hash_at w') x.arena.count slots' x.arena.size) e i.table))
         (subst (λ (x : Interned). drop x.arena.size slots' ≡ drop x.arena.size slots) e i.slots_past)
 
     -- the same nodes and slots
-    stays : (a : DA.Insertion) → t ≡ answered a s.count s.size → w' ≡ w → slots' ≡ slots → plain_built (viewed a) (nodes_in w c) ≡ plain → Low (viewed a) c → Goal
+    stays : (a : Result ℕ Refusal) → t ≡ answered a s.count s.size → w' ≡ w → slots' ≡ slots → plain_built (node_answer a) (nodes_in w c) ≡ plain → Low (node_answer a) c → Goal
     stays a e q r p low =
         subst (λ (x : Interned). Interns w slots s (plain_node key) w' slots' (out x)) (sym e)
         (record {
           builds = record {
-            answer = ap (λ (x : List ℕ). plain_built (viewed a) (nodes_in x c)) q ∙ p;
+            answer = ap (λ (x : List ℕ). plain_built (node_answer a) (nodes_in x c)) q ∙ p;
             kept = record {
               whole = subst (λ (x : Interned). Sound w' slots' x.arena) e sound;
               count = omega arith;
@@ -119,19 +112,22 @@ module _ (w slots : List ℕ) (s : DagArena) (key : DagNode) (four : length key.
           unchanged = λ number e'. rw (q, r) refl;
         })
 
-    old : (j : ℕ) → A.find w c key ≡ some j → t ≡ answered (DV.Old j) c z → Goal
+    old : (j : ℕ) → A.find w c key ≡ some j → t ≡ answered (Ok j) c z → Goal
     unfolding words_after
-    old j g e = let q : w' ≡ w = after (DV.Old j) (ap (λ (x : Interned). x.answer) e) in stays (DV.Old j) e q (same_slots (DV.Old j) e q) (sym (found (some j) g)) (found_at w key c j g).0
+    old j g e =
+        let low = (found_at w key c j g).0 in
+        let q : w' ≡ w = rw (lt-ltb j c low) at (after (Ok j) (ap (λ (x : Interned). x.answer) e)) in
+        stays (Ok j) e q (same_slots (Ok j) e q) (sym (found (some j) g)) low
 
     module _ (g : A.find w s.count key ≡ none) where
-      refuse : (number : ℕ) → no_place (lent w slots) c ≡ some number → t ≡ answered (DV.Refused number) c z → Goal
+      refuse : (r : Refusal) → no_place (lent w slots) c ≡ some (number_of r) → t ≡ answered (Err r) c z → Goal
       unfolding words_after
-      refuse number q e = let p : w' ≡ w = after (DV.Refused number) (ap (λ (x : Interned). x.answer) e) in stays (DV.Refused number) e p (same_slots (DV.Refused number) e p) (sym (fresh (some number) g q)) tt
+      refuse r q e = let p : w' ≡ w = after (Err r) (ap (λ (x : Interned). x.answer) e) in stays (Err r) e p (same_slots (Err r) e p) (sym (fresh (some (number_of r)) g q)) tt
 
-      add : (size : ℕ) → c * node_words + node_words ≤ length w → s.size ≤ size → Grown s.size (c + 1) size → no_place (lent w slots) c ≡ none → t ≡ answered (DV.New c) (c + 1) size → Goal
+      add : (size : ℕ) → c * node_words + node_words ≤ length w → s.size ≤ size → Grown s.size (c + 1) size → no_place (lent w slots) c ≡ none → t ≡ answered (Ok c) (c + 1) size → Goal
       unfolding words_after
       add size fits m d q e =
-          let p : w' ≡ put w c key = after (DV.New c) (ap (λ (x : Interned). x.answer) e) in
+          let p : w' ≡ put w c key = rw (le-ltb c c (omega arith)) at (after (Ok c) (ap (λ (x : Interned). x.answer) e)) in
           let ten : (c + 1) * node_words ≡ c * node_words + node_words = omega arith in
           let nodes : nodes_in w' (c + 1) ≡ nodes_in w c ++ (plain_node key ∷ []) = ap (λ (x : List ℕ). nodes_in x (c + 1)) p ∙ put_nodes fits in
           subst (λ (x : Interned). Interns w slots s (plain_node key) w' slots' (out x)) (sym e)
@@ -170,7 +166,7 @@ module _ (w slots : List ℕ) (s : DagArena) (key : DagNode) (four : length key.
       unfolding new_answer
       new = let d = h.table.doubled in let load = h.table.load in let sized = h.table.sized in
           pick (leb most_nodes c || ltb (length w) (c * node_words + node_words)) _ _
-          (λ y. refuse no_node_place (full_nodes L c z d load sized (⊎_elim
+          (λ y. refuse NoNodePlace (full_nodes L c z d load sized (⊎_elim
           (λ a. let b = leb-true most_nodes c a in omega arith)
           (λ a. let b = ltb-true (length w) (c * node_words + node_words) a in omega arith)
           (either (leb most_nodes c) (ltb (length w) (c * node_words + node_words)) y))))
@@ -182,7 +178,7 @@ module _ (w slots : List ℕ) (s : DagArena) (key : DagNode) (four : length key.
           (λ m. let k = leb-true (c + 1) (capacity z) m in add z fits (omega arith) (grown_refl z (c + 1)) (full_not L c z d load sized place k))
           (λ m. let k = leb-false (c + 1) (capacity z) m in
           pick (ltb (length slots) (z * 2)) _ _
-          (λ r. refuse no_slot_place (full_slots L c z d load sized place k (ltb-true (length slots) (z * 2) r)))
+          (λ r. refuse NoSlotPlace (full_slots L c z d load sized place k (ltb-true (length slots) (z * 2) r)))
           (λ r. add (z * 2) fits (omega arith) (grown_once z (c + 1) k) (full_double L c z d load sized place k (ltb-false (length slots) (z * 2) r)))))
 
     pub refined : Goal
@@ -194,5 +190,5 @@ module _ (w slots : List ℕ) (s : DagArena) (key : DagNode) (four : length key.
         go none e q = new e q
 
     -- with the answer taken apart
-    pub seen : (a : DA.Insertion) → t.answer ≡ a → Interns w slots s (plain_node key) w' slots' (record { answer = viewed a; arena = t.arena })
-    seen a e = subst (λ (x : DA.Insertion). Interns w slots s (plain_node key) w' slots' (record { answer = viewed x; arena = t.arena })) e refined
+    pub seen : (a : Result ℕ Refusal) → t.answer ≡ a → Interns w slots s (plain_node key) w' slots' (record { answer = node_answer a; arena = t.arena })
+    seen a e = subst (λ (x : Result ℕ Refusal). Interns w slots s (plain_node key) w' slots' (record { answer = node_answer x; arena = t.arena })) e refined

@@ -1,7 +1,9 @@
 pub mod Sound
+pub mod SoundProp
 pub mod View
 pub mod Lookup
 pub mod Stored
 pub mod Memory
 pub mod Interning
 pub mod Number
+pub mod Held

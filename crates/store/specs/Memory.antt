@@ -41,7 +41,7 @@ memory_after m ns =
     (inserted (hash_in ns) (size_for m ns) (length ns) ++ drop (size_for m ns) m.slots)
     (arena_of (length ns) (size_for m ns))
 
--- the store of the promise of demand 3
+-- the store of the promise that `Model` states
 abbrev pub model : Model
 model = record {
   Memory = Memory;
@@ -50,7 +50,7 @@ model = record {
   lent = λ m. lent m.words m.slots;
 }
 
--- 01's number and values for each answer of a store call
+-- the plain machine's answer for each answer of a store call
 abbrev pub answer_of : NodeAnswer → M.Answer
 answer_of (Id id) = M.stored id
 answer_of (Refused number) = M.refused number
@@ -108,7 +108,7 @@ pub record SameContent (m m' : Memory) : Type 0 where
   pub words_past : drop (m.arena.count * node_words) m.words ≡ drop (m'.arena.count * node_words) m'.words
   pub slots_past : drop m.arena.size m.slots ≡ drop m'.arena.size m'.slots
 
--- 02: "Two controllers compare memory after loading." Where both are sound, the same content is the same memory, word for word and slot for
+-- Two controllers compare memory after loading. Where both are sound, the same content is the same memory, word for word and slot for
 -- slot.
 abbrev pub TwoControllers : Type 0
 TwoControllers = (m m' : Memory) → model.Sound m → model.Sound m' → SameContent m m' → m ≡ m'

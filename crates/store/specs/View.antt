@@ -31,8 +31,8 @@ nodes_in words (suc count) = nodes_in words count ++ plain_node (node_at words c
 abbrev pub lent : List ℕ → List ℕ → I.Lent
 lent words slots = record { nodes = length words / node_words; slots = length slots }
 
--- 01: the table "doubles before an insertion that would make the count exceed floor(size·7/10)": the size after is the old one, doubled as
--- long as it holds fewer nodes than there are
+-- The table doubles before an insertion by which the count would exceed 7/10 of the size, rounded down: the size after is the old one, doubled
+-- as long as it holds fewer nodes than there are.
 pub record Grown (size count size' : ℕ) : Type 0 where
   pub doublings : ℕ
   pub is : size' ≡ size * 2 ^ doublings

@@ -1,4 +1,4 @@
-// The parts of a node, by its id, and its mark.
+// The parts of a node, by its id, and its mark, over slices: lookups need no slots, so that they are functions of the words and the count alone.
 ghost use Rattle.std.specs.Prelude.{◌≡◌, ℕ, ◌<◌, length, get_or};
 ghost use Rattle.definitions.specs.Node as N;
 ghost use Rattle.store.specs.View.{nodes_in};
@@ -6,7 +6,7 @@ ghost use Rattle.store.specs.Lookup.{Lookup, Marked};
 
 use arena::{ARITY, CANONICAL, CHILDREN, FLAGS, KIND, NODE_WORDS, PAYLOAD};
 
-// The kind of a node.
+/// The kind of a node.
 pub fn kind(nodes: &[u64], count: u64, id: u64) -> u64
     requires { Lookup nodes.now count id }
     ensures { result ≡ (N.at (nodes_in nodes.now count) id).kind }
@@ -14,7 +14,7 @@ pub fn kind(nodes: &[u64], count: u64, id: u64) -> u64
     nodes[id as usize * NODE_WORDS + KIND]
 }
 
-// The payload of a node.
+/// The payload of a node.
 pub fn payload(nodes: &[u64], count: u64, id: u64) -> u64
     requires { Lookup nodes.now count id }
     ensures { result ≡ (N.at (nodes_in nodes.now count) id).payload }
@@ -22,7 +22,7 @@ pub fn payload(nodes: &[u64], count: u64, id: u64) -> u64
     nodes[id as usize * NODE_WORDS + PAYLOAD]
 }
 
-// Whether a node is marked.
+/// Whether a node is marked.
 pub fn is_canonical(nodes: &[u64], count: u64, id: u64) -> bool
     requires { Lookup nodes.now count id }
     ensures { result ≡ (N.at (nodes_in nodes.now count) id).canonical }
@@ -30,7 +30,7 @@ pub fn is_canonical(nodes: &[u64], count: u64, id: u64) -> bool
     CANONICAL <= nodes[id as usize * NODE_WORDS + FLAGS]
 }
 
-// How many children a node has.
+/// How many children a node has.
 pub fn arity(nodes: &[u64], count: u64, id: u64) -> u64
     requires { Lookup nodes.now count id }
     ensures { result ≡ length (N.at (nodes_in nodes.now count) id).children }
@@ -38,7 +38,7 @@ pub fn arity(nodes: &[u64], count: u64, id: u64) -> u64
     nodes[id as usize * NODE_WORDS + ARITY]
 }
 
-// A child of a node.
+/// A child of a node.
 pub fn child(nodes: &[u64], count: u64, id: u64, place: usize) -> u64
     requires { (place < length (N.at (nodes_in nodes.now count) id).children) × Lookup nodes.now count id }
     ensures { result ≡ get_or (N.at (nodes_in nodes.now count) id).children place 0 }
@@ -46,7 +46,7 @@ pub fn child(nodes: &[u64], count: u64, id: u64, place: usize) -> u64
     nodes[id as usize * NODE_WORDS + CHILDREN + place]
 }
 
-// Whether a node's children are these, as many as it has.
+/// Whether a node's children are these, as many as it has.
 pub fn has_children(nodes: &[u64], count: u64, id: u64, children: &[u32]) -> bool
     requires { (length children.now ≡ length (N.at (nodes_in nodes.now count) id).children) × Lookup nodes.now count id }
     ensures { result ≡ N.same_children (N.at (nodes_in nodes.now count) id).children children.now }
@@ -54,7 +54,7 @@ pub fn has_children(nodes: &[u64], count: u64, id: u64, children: &[u32]) -> boo
     arena::has_children(nodes, id as usize * NODE_WORDS + CHILDREN, children)
 }
 
-// A node's mark set.
+/// A node's mark set.
 pub fn mark(nodes: &mut [u64], count: u64, id: u64)
     requires { Lookup nodes.old count id }
     ensures { Marked nodes.old count id nodes.new }

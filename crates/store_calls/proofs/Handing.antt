@@ -18,9 +18,9 @@ handed c m words slots a arena r k (same, kept) =
     (subst (λ (b : M.Answer). Leaves c m b (memory words slots arena)) (sym same) k)
 
 -- the plain machine's call done, and its answer handed on as the call's
-pub performed : (call x : Call) (operands : List ℕ) (m : Memory) (words slots : List ℕ) (a : M.Answer) (arena : DagArena) (r : Performed)
-    → call ≡ x → Leaves (call_of x operands) m a (memory words slots arena) → (answer_of r.answer ≡ a) × (r.arena ≡ arena)
-    → Leaves (call_of call operands) m (answer_of r.answer) (memory words slots r.arena)
-performed call x operands m words slots a arena r e k s =
-    subst (λ (c : Call). Leaves (call_of c operands) m (answer_of r.answer) (memory words slots r.arena)) (sym e)
-    (handed (call_of x operands) m words slots a arena r k s)
+pub performed : (call x : Call) (m : Memory) (words slots : List ℕ) (a : M.Answer) (arena : DagArena) (r : Performed)
+    → call ≡ x → Leaves (call_of x) m a (memory words slots arena) → (answer_of r.answer ≡ a) × (r.arena ≡ arena)
+    → Leaves (call_of call) m (answer_of r.answer) (memory words slots r.arena)
+performed call x m words slots a arena r e k s =
+    subst (λ (c : Call). Leaves (call_of c) m (answer_of r.answer) (memory words slots r.arena)) (sym e)
+    (handed (call_of x) m words slots a arena r k s)

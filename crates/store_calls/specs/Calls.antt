@@ -8,16 +8,26 @@ use Rattle.store_calls.specs.declared.Call.TheVariants.{Variable, Constant, Oper
 use Rattle.store_calls.specs.declared.answers.Answer.{Answer}
 use Rattle.store_calls.specs.declared.answers.Answer.TheVariants.{Stored, Simplified, Pruned, Refused}
 
--- a call over the operands beside it
-abbrev pub call_of : Call → List ℕ → M.Call
-call_of (Variable symbol) operands = M.store (M.variable symbol)
-call_of (Constant bits) operands = M.store (M.constant bits)
-call_of (Operator code flags) operands = M.store (M.operator code flags operands)
-call_of (Function number) operands = M.store (M.function number operands)
-call_of (Control code) operands = M.store (M.control code operands)
-call_of (Simplify mode root depth budget) operands = M.simplify (mode_of mode) root depth budget
-call_of (Prune root threshold) operands = M.prune root threshold
-call_of (PruneBySetting root setting) operands = M.prune_by_setting root setting
+abbrev pub call_of : Call → M.Call
+call_of (Variable symbol) = M.store (M.variable symbol)
+call_of (Constant bits) = M.store (M.constant bits)
+call_of (Operator code flags operands) = M.store (M.operator code flags operands.now)
+call_of (Function number operands) = M.store (M.function number operands.now)
+call_of (Control code operands) = M.store (M.control code operands.now)
+call_of (Simplify mode root depth budget) = M.simplify (mode_of mode) root depth budget
+call_of (Prune root threshold) = M.prune root threshold
+call_of (PruneBySetting root setting) = M.prune_by_setting root setting
+
+-- the same call over other operands, where it is one over operands
+abbrev pub call_over : Call → List ℕ → M.Call
+call_over (Variable symbol) operands = M.store (M.variable symbol)
+call_over (Constant bits) operands = M.store (M.constant bits)
+call_over (Operator code flags own) operands = M.store (M.operator code flags operands)
+call_over (Function number own) operands = M.store (M.function number operands)
+call_over (Control code own) operands = M.store (M.control code operands)
+call_over (Simplify mode root depth budget) operands = M.simplify (mode_of mode) root depth budget
+call_over (Prune root threshold) operands = M.prune root threshold
+call_over (PruneBySetting root setting) operands = M.prune_by_setting root setting
 
 abbrev pub answer_of : Answer → M.Answer
 answer_of (Stored id) = M.stored id

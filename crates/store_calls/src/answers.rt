@@ -6,102 +6,66 @@ ghost use Rattle.pruner.specs.Answers as Pruner;
 ghost use Rattle.store_calls.specs.Calls.{answer_of};
 
 use arena::DagArena;
-use store::Built;
+use pruner::{PruneOutcome, Pruned};
+use store::{Built, NodeAnswer};
+use walk::{Simplified, WalkOutcome};
 
-// What a walk answers: an id, whether the budget was used up with frames left, and the steps.
-#[derive(Clone, Copy)]
-pub struct WalkResult {
-    pub id: u64,
-    pub spent: bool,
-    pub steps: u64,
-}
-
-// What a prune answers: an id, and the numbers of terms kept and dropped.
-#[derive(Clone, Copy)]
-pub struct PruneResult {
-    pub id: u64,
-    pub kept: u64,
-    pub dropped: u64,
-}
-
-#[derive(Clone, Copy)]
+/// What a call of a store answers.
+#[derive(Clone, Copy, Debug, PartialEq, Eq)]
 pub enum Answer {
+    /// The id of a node.
     Stored(u64),
-    Simplified(WalkResult),
-    Pruned(PruneResult),
-    // The number of a refusal.
+    Simplified(Simplified),
+    Pruned(Pruned),
+    /// The number of a refusal.
     Refused(u64),
 }
 
-// An answer, and the store's count and size after it.
+/// An answer, and the store's count and size after it.
 #[derive(Clone, Copy)]
 pub struct Performed {
     pub answer: Answer,
     pub arena: DagArena,
 }
 
-// The answer of a call that makes a node.
+/// The answer of a call that makes a node.
 pub fn of_built(built: Built) -> Performed
     ensures { (answer_of result.answer ≡ Store.answer_of built.answer) × (result.arena ≡ built.arena) }
 {
-    let answer = built.answer;
-    let arena = built.arena;
-    match answer {
-        store::NodeAnswer::Id(id) => Performed {
-            answer: Answer::Stored(id),
-            arena,
-        },
-        store::NodeAnswer::Refused(number) => Performed {
-            answer: Answer::Refused(number),
-            arena,
-        },
+    let answer = match built.answer {
+        NodeAnswer::Id(id) => Answer::Stored(id),
+        NodeAnswer::Refused(number) => Answer::Refused(number),
+    };
+    Performed {
+        answer,
+        arena: built.arena,
     }
 }
 
-// The answer of a walk.
-pub fn of_walk(outcome: walk::WalkOutcome) -> Performed
+/// The answer of a walk.
+pub fn of_walk(outcome: WalkOutcome) -> Performed
     ensures { (answer_of result.answer ≡ Walk.meaning outcome.answer) × (result.arena ≡ outcome.arena) }
 {
-    let answer = outcome.answer;
-    let arena = outcome.arena;
-    match answer {
-        walk::WalkAnswer::Simplified { id, steps } => Performed {
-            answer: Answer::Simplified(WalkResult {
-                id,
-                spent: false,
-                steps,
-            }),
-            arena,
-        },
-        walk::WalkAnswer::Spent { id, steps } => Performed {
-            answer: Answer::Simplified(WalkResult {
-                id,
-                spent: true,
-                steps,
-            }),
-            arena,
-        },
-        walk::WalkAnswer::Refused(number) => Performed {
-            answer: Answer::Refused(number),
-            arena,
-        },
+    let answer = match outcome.answer {
+        Ok(simplified) => Answer::Simplified(simplified),
+        Err(refusal) => Answer::Refused(refusal.number()),
+    };
+    Performed {
+        answer,
+        arena: outcome.arena,
     }
 }
 
-// The answer of a prune.
-pub fn of_prune(outcome: pruner::PruneOutcome) -> Performed
+/// The answer of a prune.
+pub fn of_prune(outcome: PruneOutcome) -> Performed
     ensures { (answer_of result.answer ≡ Pruner.meaning outcome.answer) × (result.arena ≡ outcome.arena) }
 {
-    let answer = outcome.answer;
-    let arena = outcome.arena;
-    match answer {
-        pruner::PruneAnswer::Pruned { id, kept, dropped } => Performed {
-            answer: Answer::Pruned(PruneResult { id, kept, dropped }),
-            arena,
-        },
-        pruner::PruneAnswer::Refused(number) => Performed {
-            answer: Answer::Refused(number),
-            arena,
-        },
+    let answer = match outcome.answer {
+        Ok(pruned) => Answer::Pruned(pruned),
+        Err(refusal) => Answer::Refused(refusal.number()),
+    };
+    Performed {
+        answer,
+        arena: outcome.arena,
     }
 }

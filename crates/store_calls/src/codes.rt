@@ -21,5 +21,5 @@ pub const FOR_LOOP: u32 = 2;
 
 pub const NO_FLAGS: u32 = 0;
 
-// 01: "`add` and `mul` give flags 3, other constructors 0".
+// The flags of a sum or a product; the other operators that have a constructor of their own have none.
 pub const REORDERABLE: u32 = 3;

@@ -4,29 +4,37 @@
 pub mod answers;
 pub mod codes;
 
+ghost use Rattle.std.specs.Prelude.{◌≡◌};
 ghost use Rattle.store.specs.Memory.{memory, Leaves};
 ghost use Rattle.store.specs.Sound.{Sound};
 ghost use Rattle.store_calls.specs.Calls.{call_of, answer_of};
 
-pub use answers::{Answer, Performed, PruneResult, WalkResult, of_built, of_prune, of_walk};
+pub use answers::{Answer, Performed, of_built, of_prune, of_walk};
 use arena::DagArena;
 use building::{build_sound, is_operator};
 use definitions::mode::Mode;
 use definitions::refusals::NOT_SOUND;
 use kinds::{ADD, CONSTANT, CONTROL, FOR_LOOP, FUNCTION, VARIABLE};
 
-// A call, but for its operands, which stand beside it: an enum holds no list. An operator, function or control is over the operands; no
-// other call looks at them.
+/// A call of a store. An operator's code and flags, a control's code and a setting are numbers here, since the call itself refuses those
+/// that are not listed.
 #[derive(Clone, Copy)]
-pub enum Call {
+pub enum Call<'a> {
     Variable(u32),
     Constant(u64),
     Operator {
         code: u32,
         flags: u32,
+        operands: &'a [u32],
     },
-    Function(u32),
-    Control(u32),
+    Function {
+        number: u32,
+        operands: &'a [u32],
+    },
+    Control {
+        code: u32,
+        operands: &'a [u32],
+    },
     Simplify {
         mode: Mode,
         root: u32,
@@ -43,16 +51,30 @@ pub enum Call {
     },
 }
 
-// A call on a store that is known to be sound.
-pub fn perform_sound(
-    nodes: &mut [u64],
-    slots: &mut [u32],
-    arena: DagArena,
-    call: Call,
-    operands: &[u32],
-) -> Performed
+impl<'a> Call<'a> {
+    ghost use Rattle.store_calls.specs.Calls.{call_of, call_over};
+
+    /// The same call over these operands, where it is one over operands.
+    pub fn over(self, operands: &'a [u32]) -> Call<'a>
+        ensures { call_of result ≡ call_over self.entry operands.now }
+    {
+        match self {
+            Call::Operator { code, flags, .. } => Call::Operator {
+                code,
+                flags,
+                operands,
+            },
+            Call::Function { number, .. } => Call::Function { number, operands },
+            Call::Control { code, .. } => Call::Control { code, operands },
+            other => other,
+        }
+    }
+}
+
+/// A call on a store that is known to be sound.
+pub fn perform_sound(nodes: &mut [u64], slots: &mut [u32], arena: DagArena, call: Call) -> Performed
     requires { Sound nodes.old slots.old arena }
-    ensures { Leaves (call_of call operands.now) (memory nodes.old slots.old arena)
+    ensures { Leaves (call_of call.entry) (memory nodes.old slots.old arena)
         (answer_of result.answer) (memory nodes.new slots.new result.arena) }
 {
     match call {
@@ -62,7 +84,7 @@ pub fn perform_sound(
             arena,
             true,
             VARIABLE,
-            symbol as u64,
+            u64::from(symbol),
             0,
             &[],
         )),
@@ -76,24 +98,28 @@ pub fn perform_sound(
             0,
             &[],
         )),
-        Call::Operator { code, flags } => {
-            let code = code as u64;
-            let flags = flags as u64;
+        Call::Operator {
+            code,
+            flags,
+            operands,
+        } => {
+            let code = u64::from(code);
+            let flags = u64::from(flags);
             let listed = is_operator(code, flags);
             of_built(build_sound(nodes, slots, arena, listed, ADD + code, 0, flags, operands))
         }
-        Call::Function(number) => of_built(build_sound(
+        Call::Function { number, operands } => of_built(build_sound(
             nodes,
             slots,
             arena,
             true,
             FUNCTION,
-            number as u64,
+            u64::from(number),
             0,
             operands,
         )),
-        Call::Control(code) => {
-            let payload = code as u64;
+        Call::Control { code, operands } => {
+            let payload = u64::from(code);
             let listed = payload <= FOR_LOOP;
             of_built(build_sound(nodes, slots, arena, listed, CONTROL, payload, 0, operands))
         }
@@ -112,15 +138,9 @@ pub fn perform_sound(
     }
 }
 
-// A call on any store, which is audited first: 20, then the call on a sound store.
-pub fn perform(
-    nodes: &mut [u64],
-    slots: &mut [u32],
-    arena: DagArena,
-    call: Call,
-    operands: &[u32],
-) -> Performed
-    ensures { Leaves (call_of call operands.now) (memory nodes.old slots.old arena)
+/// A call on any store, which is audited first: refused with 20 where it is not sound, else the call on a sound store.
+pub fn perform(nodes: &mut [u64], slots: &mut [u32], arena: DagArena, call: Call) -> Performed
+    ensures { Leaves (call_of call.entry) (memory nodes.old slots.old arena)
         (answer_of result.answer) (memory nodes.new slots.new result.arena) }
 {
     if !store::audit(nodes, slots, arena) {
@@ -129,5 +149,5 @@ pub fn perform(
             arena,
         };
     }
-    perform_sound(nodes, slots, arena, call, operands)
+    perform_sound(nodes, slots, arena, call)
 }

@@ -1,5 +1,3 @@
-pub mod Numbers
-pub mod Decoding
 pub mod Halving
 pub mod Parts
 pub mod Resuming

@@ -13,19 +13,17 @@ use Rattle.definitions.specs.Intern.{Lent, built, then}
 use Rattle.definitions.specs.Patterns.{intern_add}
 use Rattle.definitions.specs.Prune.{sum_of_kept}
 use Rattle.arena.specs.declared.DagArena.{DagArena}
-use Rattle.arena.specs.Layout.{most_nodes}
-use Rattle.store.specs.declared.Built.{Built}
-use Rattle.store.specs.declared.NodeAnswer.{NodeAnswer}
-use Rattle.store.specs.declared.NodeAnswer.TheVariants.{Id, Refused}
-use Rattle.store.specs.View.{nodes_in, lent, Sound, Kept, Builds}
-use Rattle.store.specs.Number.{number_of}
-use Rattle.sums.specs.Number.{BuildsNumber}
+use Rattle.std.specs.Prelude.{Result, Ok, Err}
+use Rattle.refusal.specs.declared.Refusal.{Refusal}
+use Rattle.refusal.specs.Number.{number_of}
+use Rattle.store.specs.View.{nodes_in, lent, Sound, Kept}
+use Rattle.store.specs.Memory.{Memory, memory}
 use Rattle.store.proofs.Keeping.{kept_refl, kept_trans}
-use Rattle.sums.proofs.Decoding.{is_id, number_stays, refusal_stays}
-use Rattle.sums.specs.Sums.{most_pending, part, Inside, Summable, Zero, Sums, AddsNumber, SumsNumber, Splits, Summed, Joined, Joins}
+use Rattle.chains.specs.Terms.{AllBelow}
+use Rattle.sums.specs.Sums.{most_pending, part, Inside, BuildsIn, Zero, Adds, SumsTerms, Splits, Summed, Joined, JoinsAt, JoinStops, Joins}
 use Rattle.sums.proofs.Parts.{part_length, term_below, part_below}
 use Rattle.sums.proofs.Halving.{sum_of_none}
-use Rattle.sums.proofs.Resuming.{finish, resume, reached, reached_same, resume_same, finish_waiting, resume_stopped, Goes, Waiting, joined_shallow, joined_resumes, joined_waits}
+use Rattle.sums.proofs.Resuming.{finish, resume, reached, reached_same, resume_same, finish_waiting, resume_stopped, Waiting, joined_shallow, joined_resumes, joined_waits}
 use Rattle.sums.proofs.Splitting.{sum_of_one_part, sum_of_two_parts, agree_set, Sizes, sizes_put, Unfinished, before_end, splits, split_few}
 use Rattle.sums.proofs.Joining.{lent_same}
 
@@ -34,15 +32,14 @@ empty : (ids : List ℕ) → length ids ≡ 0 → ids ≡ []
 empty [] e = refl
 empty (a ∷ ids) e = absurd (omega arith)
 
-pub sums_none : (words slots : List ℕ) (s : DagArena) (ts : List ℕ) → length ts ≡ 0 → (words' slots' : List ℕ) (r : Built) → Zero words slots s words' slots' r
-    → Sums words slots s ts words' slots' r
-sums_none words slots s ts e words' slots' r =
-    let l = lent words slots in
-    let ns = nodes_in words s.count in
-    subst (λ (p : I.Built). Builds words slots s p words' slots' r) (sym (ap (sum_of_kept l ns) (empty ts e) ∙ sum_of_none l ns))
+pub sums_none : (m : Memory) (ts : List ℕ) → length ts ≡ 0 → (answer : Result ℕ Refusal) (m' : Memory) → Zero m answer m' → SumsTerms m ts answer m'
+sums_none m ts e answer m' =
+    let l = lent m.words m.slots in
+    let ns = nodes_in m.words m.arena.count in
+    subst (λ (p : I.Built). BuildsIn m p answer m') (sym (ap (sum_of_kept l ns) (empty ts e) ∙ sum_of_none l ns))
 
 -- ---- one or two terms
-module _ (words slots : List ℕ) (s : DagArena) (terms : List ℕ) (from n : ℕ) (some : 1 ≤ n) (inside : Inside terms from n) (sm : Summable words slots s (part terms from n)) where
+module _ (words slots : List ℕ) (s : DagArena) (sound : Sound words slots s) (terms : List ℕ) (from n : ℕ) (some : 1 ≤ n) (inside : Inside terms from n) (low : AllBelow s.count (part terms from n)) where
   abbrev first : ℕ
   first = get_or terms from 0
 
@@ -50,30 +47,25 @@ module _ (words slots : List ℕ) (s : DagArena) (terms : List ℕ) (from n : �
   second = get_or terms (from + 1) 0
 
   pub first_low : first < s.count
-  first_low = term_below terms from n inside s.count sm.below from (omega arith) (omega arith)
+  first_low = term_below terms from n inside s.count low from (omega arith) (omega arith)
 
-  pub sums_one : n ≡ 1 → SumsNumber words slots s (part terms from n) words slots first s
+  pub sums_one : n ≡ 1 → SumsTerms (memory words slots s) (part terms from n) (Ok first) (memory words slots s)
   sums_one one = record {
-    answer = Id first;
-    is = refl;
-    builds = record {
-      answer = sym (sum_of_one_part (lent words slots) (nodes_in words s.count) terms from n inside one);
-      kept = kept_refl words slots s sm.sound;
-      low = first_low;
-    };
+    answer = sym (sum_of_one_part (lent words slots) (nodes_in words s.count) terms from n inside one);
+    kept = kept_refl words slots s sound;
+    low = first_low;
   }
 
   module _ (few : n ≤ 2) (more : n ≡ 1 → ⊥) where
     two : n ≡ 2
     two = omega arith
 
-    pub addable : (first < s.count) × (second < s.count) × Sound words slots s
-    addable = (first_low, term_below terms from n inside s.count sm.below (from + 1) (omega arith) (omega (arith, two)), sm.sound)
+    pub addable : (first < s.count) × (second < s.count)
+    addable = (first_low, term_below terms from n inside s.count low (from + 1) (omega arith) (omega (arith, two)))
 
-    pub sums_two : (words' slots' : List ℕ) (number : ℕ) (t : DagArena) → AddsNumber words slots s first second words' slots' number t
-        → SumsNumber words slots s (part terms from n) words' slots' number t
-    sums_two words' slots' number t =
-        subst (λ (p : I.Built). BuildsNumber words slots s p words' slots' number t) (sym (sum_of_two_parts (lent words slots) (nodes_in words s.count) terms from n inside two))
+    pub sums_two : (answer : Result ℕ Refusal) (m' : Memory) → Adds (memory words slots s) first second answer m' → SumsTerms (memory words slots s) (part terms from n) answer m'
+    sums_two answer m' =
+        subst (λ (p : I.Built). BuildsIn (memory words slots s) p answer m') (sym (sum_of_two_parts (lent words slots) (nodes_in words s.count) terms from n inside two))
 
 -- ---- a second half comes next: its first half's sum takes its size's place
 module _ (l : Lent) (plain : I.Built) (terms : List ℕ) (end : ℕ) (rights lefts : List ℕ) (depth : ℕ) (sizes : Sizes rights depth) (long : length lefts ≡ most_pending) (place : ℕ) (inside : place < depth) (at : ℕ) (ends : reached depth rights at ≡ end) (ns : List Node) (number : ℕ) (w : Waiting rights depth place (built ns number)) (resumes : resume (suc place) l terms rights lefts at (built ns number) ≡ plain) where
@@ -124,16 +116,6 @@ module _ (l : Lent) (plain : I.Built) (terms : List ℕ) (end : ℕ) (rights lef
       below : Sizes rights place
       below = record { long = sizes.long; shallow = omega (arith, sizes.shallow); few = λ i less. sizes.few i (omega arith) }
 
--- an answer that is no refusal
-goes_id : (words slots : List ℕ) (s : DagArena) (plain : I.Built) (words' slots' : List ℕ) (number : ℕ) (t : DagArena) → BuildsNumber words slots s plain words' slots' number t → Goes plain
-    → (plain ≡ built (nodes_in words' t.count) number) × (number < t.count)
-goes_id words slots s plain words' slots' number t b goes = go b.answer b.is b.builds
-  where
-    go : (answer : NodeAnswer) → number ≡ number_of answer → Builds words slots s plain words' slots' (record { answer = answer; arena = t })
-        → (plain ≡ built (nodes_in words' t.count) number) × (number < t.count)
-    go (Id id) e h = (sym h.answer ∙ ap (built (nodes_in words' t.count)) (sym e), subst (λ (n : ℕ). n < t.count) (sym e) h.low)
-    go (Refused k) e h = absurd (subst Goes (sym h.answer) goes)
-
 -- between turns: some terms are summed, and the sum of those that are left is the whole one
 pub record Summing (words slots : List ℕ) (s : DagArena) (terms : List ℕ) (from n : ℕ) (words' slots' : List ℕ) (t : DagArena) (rights lefts : List ℕ) (depth at rest : ℕ) : Type 0 where
   pub kept : Kept words slots s words' slots' t
@@ -142,7 +124,7 @@ pub record Summing (words slots : List ℕ) (s : DagArena) (terms : List ℕ) (f
   pub unfinished :
       Unfinished (lent words slots) (sum_of_kept (lent words slots) (nodes_in words s.count) (part terms from n)) terms (from + n) (nodes_in words' t.count) t.count rights lefts depth at rest
 
-module _ (words slots : List ℕ) (s : DagArena) (terms : List ℕ) (from n : ℕ) (some : 1 ≤ n) (inside : Inside terms from n) (sm : Summable words slots s (part terms from n)) where
+module _ (words slots : List ℕ) (s : DagArena) (sound : Sound words slots s) (terms : List ℕ) (from n : ℕ) (some : 1 ≤ n) (inside : Inside terms from n) (low : AllBelow s.count (part terms from n)) where
   abbrev l : Lent
   l = lent words slots
 
@@ -151,7 +133,7 @@ module _ (words slots : List ℕ) (s : DagArena) (terms : List ℕ) (from n : �
 
   pub begins : (rights lefts : List ℕ) → length rights ≡ most_pending → length lefts ≡ most_pending → Summing words slots s terms from n words slots s rights lefts 0 from n
   begins rights lefts long long' = record {
-    kept = kept_refl words slots s sm.sound;
+    kept = kept_refl words slots s sound;
     after = omega arith;
     long = long';
     unfinished = record {
@@ -178,98 +160,100 @@ module _ (words slots : List ℕ) (s : DagArena) (terms : List ℕ) (from n : �
     pub place_inside : at + rest ≤ most_terms
     place_inside = omega (arith, before.1, inside.fits)
 
-    pub summable : (1 ≤ rest) × (rest ≤ 2) × Inside terms at rest × Summable words' slots' t (part terms at rest)
-    summable =
-        let within : Inside terms at rest = record { long = inside.long; fits = place_inside } in (
-          before.0,
-          split_few sp,
-          within,
-          record {
-            sound = i.kept.whole;
-            few = omega (arith, part_length terms at rest within, place_inside);
-            below = part_below terms from n inside s.count sm.below at rest i.after before.1 t.count i.kept.count;
-          },
-        )
+    pub summable : (1 ≤ rest) × (rest ≤ 2) × Inside terms at rest × AllBelow t.count (part terms at rest)
+    summable = (
+      before.0,
+      split_few sp,
+      record { long = inside.long; fits = place_inside },
+      part_below terms from n inside s.count low at rest i.after before.1 t.count i.kept.count,
+    )
 
     -- the first of them are summed
-    module _ (words₁ slots₁ : List ℕ) (number : ℕ) (v : DagArena) (b : SumsNumber words' slots' t (part terms at rest) words₁ slots₁ number v) where
+    module _ (words₁ slots₁ : List ℕ) (v : DagArena) (answer : Result ℕ Refusal) (b : SumsTerms (memory words' slots' t) (part terms at rest) answer (memory words₁ slots₁ v)) where
       resumes_sum : (m : I.Built) → m ≡ first_sum (lent words' slots') → resume depth l terms rights lefts (at + rest) m ≡ plain
       resumes_sum m e =
           ap (resume depth l terms rights lefts (at + rest)) (e ∙ ap first_sum (lent_same words slots s words' slots' t i.kept))
           ∙ split.resumes
 
-      kept₁ : Kept words slots s words₁ slots₁ v
-      kept₁ = kept_trans words slots s words' slots' t words₁ slots₁ v i.kept b.builds.kept
+      sums : (other : Result ℕ Refusal) → answer ≡ other → BuildsIn (memory words' slots' t) (first_sum (lent words' slots')) other (memory words₁ slots₁ v)
+      sums other e = subst (λ (x : Result ℕ Refusal). BuildsIn (memory words' slots' t) (first_sum (lent words' slots')) x (memory words₁ slots₁ v)) e b
 
-      pub stops : most_nodes ≤ number → SumsNumber words slots s (part terms from n) words₁ slots₁ number v
-      stops past = refusal_stays words' slots' t _ words slots s _ words₁ slots₁ v number b past
-          (λ k h. record {
-            answer = sym (resume_stopped l terms depth rights lefts (at + rest) _ k) ∙ resumes_sum _ h.answer;
-            kept = kept₁;
-            low = tt;
-          })
+      kept₁ : Kept words slots s words₁ slots₁ v
+      kept₁ = kept_trans words slots s words' slots' t words₁ slots₁ v i.kept b.kept
+
+      pub stops : (refusal : Refusal) → answer ≡ Err refusal → SumsTerms (memory words slots s) (part terms from n) (Err refusal) (memory words₁ slots₁ v)
+      stops refusal e = record {
+        answer = sym (resume_stopped l terms depth rights lefts (at + rest) _ (number_of refusal)) ∙ resumes_sum _ (sums (Err refusal) e).answer;
+        kept = kept₁;
+        low = tt;
+      }
 
       -- their sum is an id
-      module _ (below : number < most_nodes) where
+      module _ (id : ℕ) (e : answer ≡ Ok id) where
         abbrev ns : List Node
         ns = nodes_in words₁ v.count
 
         summed : Summed rights lefts depth v.count
-        summed place less none = omega (arith, split.summed place less none, b.builds.kept.count)
+        summed place less none = omega (arith, split.summed place less none, b.kept.count)
 
-        id_is : Builds words' slots' t (first_sum (lent words' slots')) words₁ slots₁ (record { answer = Id number; arena = v })
-        id_is = is_id words' slots' t _ words₁ slots₁ v number b below
-
-        pub joinable : (depth ≤ most_pending) × (length rights ≡ most_pending) × (length lefts ≡ most_pending) × Summed rights lefts depth v.count × (number < v.count) × Sound words₁ slots₁ v
-        joinable = (split.sizes.shallow, split.sizes.long, i.long, summed, id_is.low, b.builds.kept.whole)
+        pub joinable : (depth ≤ most_pending) × (length rights ≡ most_pending) × (length lefts ≡ most_pending) × Summed rights lefts depth v.count × (id < v.count)
+        joinable = (split.sizes.shallow, split.sizes.long, i.long, summed, (sums (Ok id) e).low)
 
         -- and is joined
-        module _ (words'' slots'' : List ℕ) (u : DagArena) (lefts' : List ℕ) (to : ℕ) (j : Joins words₁ slots₁ v rights lefts depth number words'' slots'' u lefts' to) where
-          kept'' : Kept words slots s words'' slots'' u
-          kept'' = kept_trans words slots s words₁ slots₁ v words'' slots'' u kept₁ j.builds.builds.kept
+        module _ (words'' slots'' : List ℕ) (u : DagArena) (lefts' : List ℕ) (joined : Result ℕ Refusal) (j : Joins (memory words₁ slots₁ v) rights lefts depth id (memory words'' slots'' u) lefts' joined) where
+          joins : (other : Result ℕ Refusal) → joined ≡ other → Joins (memory words₁ slots₁ v) rights lefts depth id (memory words'' slots'' u) lefts' other
+          joins other f = subst (λ (x : Result ℕ Refusal). Joins (memory words₁ slots₁ v) rights lefts depth id (memory words'' slots'' u) lefts' x) f j
 
-          joined : Joined l rights lefts depth (built ns number) to j.plain
-          joined = subst (λ (k : Lent). Joined k rights lefts depth (built ns number) to j.plain) (lent_same words slots s words₁ slots₁ v kept₁) j.joined
+          resumes : (to : ℕ) (m : I.Built) → Joined (lent words₁ slots₁) rights lefts depth (built ns id) to m → resume to l terms rights lefts (at + rest) m ≡ plain
+          resumes to m k =
+              joined_resumes l terms rights lefts (subst (λ (k : Lent). Joined k rights lefts depth (built ns id) to m) (lent_same words slots s words₁ slots₁ v kept₁) k) (at + rest)
+              ∙ resumes_sum _ (sums (Ok id) e).answer
 
-          resumes : resume to l terms rights lefts (at + rest) j.plain ≡ plain
-          resumes = joined_resumes l terms rights lefts joined (at + rest) ∙ resumes_sum _ id_is.answer
+          pub stops_joining : (refusal : Refusal) → joined ≡ Err refusal → SumsTerms (memory words slots s) (part terms from n) (Err refusal) (memory words'' slots'' u)
+          stops_joining refusal f =
+              let k : JoinStops (memory words₁ slots₁ v) rights lefts depth id (memory words'' slots'' u) refusal = joins (Err refusal) f in
+              record { answer = resumes 0 _ k.joined; kept = kept_trans words slots s words₁ slots₁ v words'' slots'' u kept₁ k.kept; low = tt }
 
-          pub shallow : to ≤ most_pending
-          shallow = omega (arith, joined_shallow l terms rights lefts joined, split.sizes.shallow)
+          module _ (to : ℕ) (f : joined ≡ Ok to) where
+            k : JoinsAt (memory words₁ slots₁ v) rights lefts depth id (memory words'' slots'' u) lefts' to
+            k = joins (Ok to) f
 
-          pub ends : to ≡ 0 → SumsNumber words slots s (part terms from n) words'' slots'' (get_or lefts' 0 0) u
-          ends none = subst (λ (number : ℕ). SumsNumber words slots s (part terms from n) words'' slots'' number u) (sym number_is)
-              (number_stays words₁ slots₁ v _ words slots s _ words'' slots'' u j.number j.builds
-              (λ answer h. record { answer = h.answer ∙ plain_is; kept = kept''; low = h.low }))
-            where
-              number_is : get_or lefts' 0 0 ≡ j.number
-              number_is =
-                  let first : to - 1 ≡ 0 = omega arith in
-                  ap (λ (a : List ℕ). get_or a 0 0) (j.put ∙ ap (λ (place : ℕ). set lefts place j.number) first)
-                  ∙ get_or-set_same lefts 0 j.number 0 (omega (arith, i.long))
+            kept'' : Kept words slots s words'' slots'' u
+            kept'' = kept_trans words slots s words₁ slots₁ v words'' slots'' u kept₁ k.kept
 
-              plain_is : j.plain ≡ plain
-              plain_is = subst (λ (d : ℕ). resume d l terms rights lefts (at + rest) j.plain ≡ plain) none resumes
+            pub shallow : to ≤ most_pending
+            shallow = omega (arith, joined_shallow (lent words₁ slots₁) terms rights lefts k.joined, split.sizes.shallow)
 
-          pub goes_on : (to ≡ 0 → ⊥) → Summing words slots s terms from n words'' slots'' u (set rights (to - 1) 0) lefts' to (at + rest) (get_or rights (to - 1) 0)
-          goes_on more = record {
-            kept = kept'';
-            after = omega (arith, i.after);
-            long = ap length j.put ∙ length-set lefts (to - 1) j.number ∙ i.long;
-            unfinished = rw j.put (next (to - 1) to_is);
-          }
-            where
-              to_is : to ≡ suc (to - 1)
-              to_is = omega arith
+            pub ends : to ≡ 0 → SumsTerms (memory words slots s) (part terms from n) (Ok (get_or lefts' 0 0)) (memory words'' slots'' u)
+            ends none = subst (λ (sum : ℕ). SumsTerms (memory words slots s) (part terms from n) (Ok sum) (memory words'' slots'' u)) (sym sum_is) record {
+              answer = subst (λ (d : ℕ). resume d l terms rights lefts (at + rest) (built (nodes_in words'' u.count) k.sum) ≡ plain) none (resumes to _ k.joined);
+              kept = kept'';
+              low = k.low;
+            }
+              where
+                sum_is : get_or lefts' 0 0 ≡ k.sum
+                sum_is =
+                    let first : to - 1 ≡ 0 = omega arith in
+                    ap (λ (a : List ℕ). get_or a 0 0) (k.put ∙ ap (λ (place : ℕ). set lefts place k.sum) first)
+                    ∙ get_or-set_same lefts 0 k.sum 0 (omega (arith, i.long))
 
-              next : (place : ℕ) → to ≡ suc place → Unfinished l plain terms (from + n) (nodes_in words'' u.count) u.count (set rights place 0) (set lefts place j.number) to (at + rest) (get_or rights place 0)
-              next place e =
-                  let k = subst (λ (d : ℕ). Joined l rights lefts depth (built ns number) d j.plain) e joined in
-                  let w = joined_waits l terms rights lefts k in
-                  let id = goes_id words₁ slots₁ v j.plain words'' slots'' j.number u j.builds w.goes in
-                  subst (λ (d : ℕ). Unfinished l plain terms (from + n) (nodes_in words'' u.count) u.count (set rights place 0) (set lefts place j.number) d (at + rest) (get_or rights place 0)) (sym e)
-                  (next_half l plain terms (from + n) rights lefts depth split.sizes i.long place (omega (arith, joined_shallow l terms rights lefts k)) (at + rest) split.ends
-                  (nodes_in words'' u.count) j.number
-                  (subst (Waiting rights depth place) id.0 w)
-                  (subst (λ (b : I.Built). resume (suc place) l terms rights lefts (at + rest) b ≡ plain) id.0 (subst (λ (d : ℕ). resume d l terms rights lefts (at + rest) j.plain ≡ plain) e resumes))
-                  v.count u.count j.builds.builds.kept.count summed id.1)
+            pub goes_on : (to ≡ 0 → ⊥) → Summing words slots s terms from n words'' slots'' u (set rights (to - 1) 0) lefts' to (at + rest) (get_or rights (to - 1) 0)
+            goes_on more = record {
+              kept = kept'';
+              after = omega (arith, i.after);
+              long = ap length k.put ∙ length-set lefts (to - 1) k.sum ∙ i.long;
+              unfinished = rw k.put (next (to - 1) to_is);
+            }
+              where
+                to_is : to ≡ suc (to - 1)
+                to_is = omega arith
+
+                next : (place : ℕ) → to ≡ suc place → Unfinished l plain terms (from + n) (nodes_in words'' u.count) u.count (set rights place 0) (set lefts place k.sum) to (at + rest) (get_or rights place 0)
+                next place g =
+                    let h = subst (λ (d : ℕ). Joined (lent words₁ slots₁) rights lefts depth (built ns id) d (built (nodes_in words'' u.count) k.sum)) g k.joined in
+                    subst (λ (d : ℕ). Unfinished l plain terms (from + n) (nodes_in words'' u.count) u.count (set rights place 0) (set lefts place k.sum) d (at + rest) (get_or rights place 0)) (sym g)
+                    (next_half l plain terms (from + n) rights lefts depth split.sizes i.long place (omega (arith, joined_shallow (lent words₁ slots₁) terms rights lefts h)) (at + rest) split.ends
+                    (nodes_in words'' u.count) k.sum
+                    (joined_waits (lent words₁ slots₁) terms rights lefts h)
+                    (subst (λ (d : ℕ). resume d l terms rights lefts (at + rest) (built (nodes_in words'' u.count) k.sum) ≡ plain) g (resumes to _ k.joined))
+                    v.count u.count k.kept.count summed k.low)

@@ -1,5 +1,7 @@
 -- What a sum of kept terms leans on, and what it builds.
-use Rattle.std.specs.Prelude.{ℕ, suc, ◌+◌, ◌-◌, ◌/◌, ◌^◌, ◌<◌, ◌≤◌, ◌≡◌, List, length, get_or, set, take, drop}
+use Rattle.std.specs.Prelude.{ℕ, suc, ◌+◌, ◌-◌, ◌/◌, ◌^◌, ◌<◌, ◌≤◌, ◌≡◌, List, length, get_or, set, take, drop, Result, Ok, Err}
+use Rattle.refusal.specs.declared.Refusal.{Refusal}
+use Rattle.refusal.specs.Number.{number_of}
 use Rattle.definitions.specs.Limits.{most_terms}
 use Rattle.definitions.specs.Node.{Node}
 use Rattle.definitions.specs.Intern as I
@@ -8,8 +10,9 @@ use Rattle.definitions.specs.Patterns.{zero64, intern_constant, intern_add}
 use Rattle.definitions.specs.Prune.{sum_of_kept}
 use Rattle.arena.specs.declared.DagArena.{DagArena}
 use Rattle.store.specs.declared.Built.{Built}
-use Rattle.store.specs.View.{nodes_in, lent, Sound, Builds}
-use Rattle.sums.specs.Number.{BuildsNumber}
+use Rattle.store.specs.View.{nodes_in, lent, Sound, Kept, Builds}
+use Rattle.store.specs.Memory.{Memory}
+use Rattle.store.specs.Held.{built_in}
 use Rattle.chains.specs.Terms.{AllBelow}
 
 -- ---- terms in an array
@@ -28,19 +31,24 @@ pub record Summable (words slots : List ℕ) (arena : DagArena) (terms : List �
   pub few : length terms ≤ most_terms
   pub below : AllBelow arena.count terms
 
--- the plain machine's 0.0, and sum of a list of terms
-abbrev pub Zero : List ℕ → List ℕ → DagArena → List ℕ → List ℕ → Built → Type 0
-Zero words slots arena = Builds words slots arena (intern_constant (lent words slots) (nodes_in words arena.count) zero64)
-
+-- the plain machine's sum of a list of terms, over lent lists
 abbrev pub Sums : List ℕ → List ℕ → DagArena → List ℕ → List ℕ → List ℕ → Built → Type 0
 Sums words slots arena terms = Builds words slots arena (sum_of_kept (lent words slots) (nodes_in words arena.count) terms)
 
--- the sum of two ids, and of a list of terms, with the answer as one number
-abbrev pub AddsNumber : List ℕ → List ℕ → DagArena → ℕ → ℕ → List ℕ → List ℕ → ℕ → DagArena → Type 0
-AddsNumber words slots arena left right = BuildsNumber words slots arena (intern_add (lent words slots) (nodes_in words arena.count) left right)
+-- ---- in the memory that a store holds
+-- an answer and the memory after it are what the plain machine says
+abbrev pub BuildsIn : Memory → I.Built → Result ℕ Refusal → Memory → Type 0
+BuildsIn m plain answer m' = Builds m.words m.slots m.arena plain m'.words m'.slots (built_in answer m')
 
-abbrev pub SumsNumber : List ℕ → List ℕ → DagArena → List ℕ → List ℕ → List ℕ → ℕ → DagArena → Type 0
-SumsNumber words slots arena terms = BuildsNumber words slots arena (sum_of_kept (lent words slots) (nodes_in words arena.count) terms)
+-- its 0.0, its sum of two ids, and of a list of terms
+abbrev pub Zero : Memory → Result ℕ Refusal → Memory → Type 0
+Zero m = BuildsIn m (intern_constant (lent m.words m.slots) (nodes_in m.words m.arena.count) zero64)
+
+abbrev pub Adds : Memory → ℕ → ℕ → Result ℕ Refusal → Memory → Type 0
+Adds m left right = BuildsIn m (intern_add (lent m.words m.slots) (nodes_in m.words m.arena.count) left right)
+
+abbrev pub SumsTerms : Memory → List ℕ → Result ℕ Refusal → Memory → Type 0
+SumsTerms m terms = BuildsIn m (sum_of_kept (lent m.words m.slots) (nodes_in m.words m.arena.count) terms)
 
 -- ---- halvings that are not done, by their depth: the size of the second half, or 0 if it is being summed, and then the sum of the first half
 -- at most so many halvings of at most 4,096 terms are not done at a time
@@ -71,10 +79,19 @@ pub data Joined (l : Lent) (rights lefts : List ℕ) : ℕ → I.Built → ℕ �
   added : {depth : ℕ} {ns : List Node} {id to : ℕ} {b : I.Built} → get_or rights depth 0 ≡ 0
       → Joined l rights lefts depth (intern_add l ns (get_or lefts depth 0) id) to b → Joined l rights lefts (suc depth) (built ns id) to b
 
--- the same in memory, from a sum on: the number that is the sum stands where its second half comes next, or first
-pub record Joins (words slots : List ℕ) (arena : DagArena) (rights lefts : List ℕ) (depth id : ℕ) (words' slots' : List ℕ) (arena' : DagArena) (lefts' : List ℕ) (to : ℕ) : Type 0 where
-  pub plain : I.Built
-  pub joined : Joined (lent words slots) rights lefts depth (built (nodes_in words arena.count) id) to plain
-  pub number : ℕ
-  pub builds : BuildsNumber words slots arena plain words' slots' number arena'
-  pub put : lefts' ≡ set lefts (to - 1) number
+-- the same in memory, from a sum on: the sum stands where its second half comes next, or first
+pub record JoinsAt (m : Memory) (rights lefts : List ℕ) (depth id : ℕ) (m' : Memory) (lefts' : List ℕ) (to : ℕ) : Type 0 where
+  pub sum : ℕ
+  pub joined : Joined (lent m.words m.slots) rights lefts depth (built (nodes_in m.words m.arena.count) id) to (built (nodes_in m'.words m'.arena.count) sum)
+  pub kept : Kept m.words m.slots m.arena m'.words m'.slots m'.arena
+  pub low : sum < m'.arena.count
+  pub put : lefts' ≡ set lefts (to - 1) sum
+
+-- or a refusal ends all
+pub record JoinStops (m : Memory) (rights lefts : List ℕ) (depth id : ℕ) (m' : Memory) (refusal : Refusal) : Type 0 where
+  pub joined : Joined (lent m.words m.slots) rights lefts depth (built (nodes_in m.words m.arena.count) id) 0 (stopped (nodes_in m'.words m'.arena.count) (number_of refusal))
+  pub kept : Kept m.words m.slots m.arena m'.words m'.slots m'.arena
+
+abbrev pub Joins : Memory → List ℕ → List ℕ → ℕ → ℕ → Memory → List ℕ → Result ℕ Refusal → Type 0
+Joins m rights lefts depth id m' lefts' (Ok to) = JoinsAt m rights lefts depth id m' lefts' to
+Joins m rights lefts depth id m' lefts' (Err refusal) = JoinStops m rights lefts depth id m' refusal

@@ -1,6 +1,6 @@
-// The sum of the terms that a prune keeps (01, "simplifier: pruning"), interned in a sound store.
+// The sum of the terms that a prune keeps, interned in a sound store.
 #![tactic(auto)]
 
 pub mod sum;
 
-pub use sum::balanced_add;
+pub use sum::{balanced_add, sum_of_terms};

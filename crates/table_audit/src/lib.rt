@@ -1,4 +1,4 @@
-// The audit of a store's nodes and slots, for refusal 20.
+// The audit of a store's nodes and slots.
 #![tactic(auto)]
 
 ghost use Rattle.std.specs.Prelude.{◌≡◌, suc, ◌≤◌, ◌<◌, length};
@@ -17,13 +17,11 @@ fn used_slots(slots: &[u32], size: usize) -> usize
     requires { size ≤ length slots.now }
     ensures { result ≡ used_slots slots.now size }
 {
-    let mut used: usize = 0;
-    let mut at: usize = 0;
-    while at < size {
-        if slots[at] != 0 {
+    let mut used = 0;
+    for slot in &slots[..size] {
+        if *slot != 0 {
             used += 1;
         }
-        at += 1;
     }
     used
 }
@@ -48,10 +46,9 @@ fn meets_own(nodes: &[u64], slots: &[u32], arena: DagArena, id: u64) -> bool
     let size = arena.size;
     let hash = nodes[id as usize * NODE_WORDS + HASH];
     let own = (id + 1) as u32;
-    let mut at = modulo_size(hash as usize, size);
-    let mut passed: usize = 0;
-    while passed < size {
-        let slot = slots[at];
+    let home = modulo_size(hash as usize, size);
+    for far in 0..size {
+        let slot = slots[modulo_size(home + far, size)];
         if slot == own {
             return true;
         }
@@ -64,8 +61,6 @@ fn meets_own(nodes: &[u64], slots: &[u32], arena: DagArena, id: u64) -> bool
         if is_one_with(nodes, slot, id, hash) {
             return false;
         }
-        at = modulo_size(at + 1, size);
-        passed += 1;
     }
     false
 }
@@ -75,19 +70,16 @@ fn all_meet_own(nodes: &[u64], slots: &[u32], arena: DagArena) -> bool
     requires { AllWellFormed nodes.now arena.count × Fit slots.now arena.size }
     ensures { Says result (AllMeetOwn nodes.now arena.count slots.now arena.size) }
 {
-    let count = arena.count;
-    let mut id: u64 = 0;
-    while id < count {
+    for id in 0..arena.count {
         if !meets_own(nodes, slots, arena, id) {
             return false;
         }
-        id += 1;
     }
     true
 }
 
-// Whether the nodes and the table are as 01 says of every sound store. Each id has a slot, and as many slots as
-// ids are in use: so no id has two, and every other slot is 0.
+/// Whether the nodes and the table are those of a sound store. Each id has a slot, and as many slots as
+/// ids are in use: so no id has two, and every other slot is 0.
 pub fn audit(nodes: &[u64], slots: &[u32], arena: DagArena) -> bool
     ensures { Says result (Nodes nodes.now arena.count × Table (hash_at nodes.now) arena.count
         slots.now arena.size) }

@@ -17,7 +17,7 @@ use Rattle.arena.specs.Node.{node_of, put, find}
 use Rattle.arena.specs.Nodes.{WellFormed}
 use Rattle.arena.proofs.Putting.{put_length}
 use Rattle.arena.proofs.Adding.{nodes_add}
-use Rattle.dedup.specs.declared.Insertion.TheVariants.{New}
+use Rattle.std.proofs.Common.{Ok}
 use Rattle.slots.specs.Table.{TableSize, hash_at, inserted}
 use Rattle.dedup.specs.Intern as Dedup
 use Rattle.dedup.specs.Intern.{Interned, answered, new_answer, intern_answer, words_after, Absent}
@@ -69,18 +69,18 @@ module _ (w slots : List ℕ) (s : DagArena) (key : DagNode) (places : length ke
       abbrev w' : List ℕ
       w' = put w count key
 
-      new_at : (z : ℕ) → TableSize z → z ≤ length slots → count + 1 ≤ capacity z → answered (New count) (count + 1) z ≡ new_answer (length w) (length slots) count size → Answers
+      new_at : (z : ℕ) → TableSize z → z ≤ length slots → count + 1 ≤ capacity z → answered (Ok count) (count + 1) z ≡ new_answer (length w) (length slots) count size → Answers
       unfolding intern_answer words_after
       new_at z doubled sized load e =
           let table = inserted (hash_at w') z (count + 1) in
           let long = inserted_length (hash_at w') z (count + 1) in
           record {
-            result = answered (New count) (count + 1) z;
+            result = answered (Ok count) (count + 1) z;
             words_then = w';
             slots_after = table ++ drop z slots;
             is = record {
               answer = rw none_is e;
-              words_then = refl;
+              words_then = rw (le-ltb count count (omega arith)) refl;
               slots_past = drop_at table (drop z slots) z long;
               nodes = nodes_add w count key many room places h.nodes formed none_is;
               table = record { doubled = doubled; sized = rw (length-append table (drop z slots), long) (omega arith); load = load; filled = take_at table (drop z slots) z long };

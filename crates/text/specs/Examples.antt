@@ -1,4 +1,4 @@
--- Readings of a text of request c, computed.
+-- Readings of a typed formula, computed.
 use Rattle.std.specs.Prelude.{ℕ, ◌≡◌, refl, true, false, List, [], ◌∷◌, ◌++◌}
 use Rattle.definitions.specs.Node.{Node, node, variable_kind, constant_kind, add_kind, sub_kind, mul_kind, pow_kind, both_flags}
 use Rattle.definitions.specs.Names.{same_name}

@@ -6,6 +6,8 @@ use Rattle.definitions.specs.Making as Plain
 use Rattle.definitions.specs.Making.{Controller, joined}
 use Rattle.store.specs.declared.NodeAnswer.{NodeAnswer}
 use Rattle.store.specs.declared.NodeAnswer.TheVariants.{Id, Refused}
+use Rattle.arena.specs.declared.DagArena.{DagArena}
+use Rattle.text.specs.declared.making.ReadOutcome.{ReadOutcome}
 use Rattle.names.specs.declared.NameReply as Named
 use Rattle.names.specs.declared.NameReply.TheVariants as named
 use Rattle.text_language.specs.Program.{Token, number, name, negate, join}
@@ -58,3 +60,7 @@ refusal_of (named.Refused r) = r
 unfoldable pub stack_of : List ℕ → ℕ → List ℕ
 stack_of stack zero = []
 stack_of stack (suc h) = get_or stack h 0 ∷ stack_of stack h
+
+-- a reading that is refused before any name or node is made
+abbrev pub refused_reading : ℕ → DagArena → ℕ → ReadOutcome
+refused_reading k arena names = record { answer = Refused k; arena = arena; names = names }

@@ -3,18 +3,34 @@
 
 mod making;
 
+ghost use Rattle.std.specs.Prelude.{◌≡◌};
+ghost use Rattle.refusal.specs.Number.{number_of};
+ghost use Rattle.text.specs.Making.{refused_reading};
 ghost use Rattle.text.specs.Memory.{controller_memory};
 ghost use Rattle.text.specs.Reading.{ReadsText};
 
 use arena::DagArena;
-use definitions::refusals::NOT_SOUND;
 pub use making::ReadOutcome;
 use making::run_program;
+use refusal::Refusal;
 use store::NodeAnswer;
-use text_language::{MOST_BYTES, NOT_A_NUMBER};
-use text_program::{Checked, any_nan, compile};
+use text_language::MOST_BYTES;
+use text_program::{any_nan, compile};
 
-// The node of a text, or 20, 1, 11, 12, 10, and then 24, 21 or 22 with the names and nodes made before.
+// A refusal before any name or node is made.
+fn refused(reason: Refusal, arena: DagArena, names: usize) -> ReadOutcome
+    ensures { result ≡ refused_reading (number_of reason) arena names }
+{
+    ReadOutcome {
+        answer: NodeAnswer::Refused(reason.number()),
+        arena,
+        names,
+    }
+}
+
+/// The node of a text. It is refused, in this order, where the store or the name list is not sound, where the text is empty or
+/// too long, outside the language, nested too deep or has a NaN, and where a name, a node or a slot finds no place: only then
+/// have names and nodes been made.
 pub fn read(
     text: &[u8],
     nodes: &mut [u64],
@@ -28,36 +44,20 @@ pub fn read(
         (controller_memory nodes.new slots.new result.arena entries.new result.names) }
 {
     if !store::audit(nodes, slots, arena) {
-        return ReadOutcome {
-            answer: NodeAnswer::Refused(NOT_SOUND),
-            arena,
-            names,
-        };
+        return refused(Refusal::NotSound, arena, names);
     }
     if !names::is_sound(entries, names) {
-        return ReadOutcome {
-            answer: NodeAnswer::Refused(NOT_SOUND),
-            arena,
-            names,
-        };
+        return refused(Refusal::NotSound, arena, names);
     }
     let mut program = [0u16; MOST_BYTES];
-    let checked = compile(text, &mut program);
-    match checked {
-        Checked::Program(size) => {
-            if any_nan(text, &program, size) {
-                return ReadOutcome {
-                    answer: NodeAnswer::Refused(NOT_A_NUMBER),
-                    arena,
-                    names,
-                };
+    match compile(text, &mut program) {
+        Ok(size) => {
+            let words = &program[..size];
+            if any_nan(text, words) {
+                return refused(Refusal::NotANumber, arena, names);
             }
-            run_program(text, &program, size, nodes, slots, arena, entries, names)
+            run_program(text, words, nodes, slots, arena, entries, names)
         }
-        Checked::Refused(number) => ReadOutcome {
-            answer: NodeAnswer::Refused(number),
-            arena,
-            names,
-        },
+        Err(reason) => refused(reason, arena, names),
     }
 }

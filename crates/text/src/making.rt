@@ -1,5 +1,5 @@
 // A program run over the lent lists: each token is one name call, one store call, or a name call and then a store call.
-ghost use Rattle.std.specs.Prelude.{◌≡◌, [], ◌-◌, ◌≤◌, ◌<◌, length, get_or, drop};
+ghost use Rattle.std.specs.Prelude.{◌≡◌, [], ◌≤◌, ◌<◌, length, get_or, drop};
 ghost use Rattle.definitions.specs.Machine as M;
 ghost use Rattle.store.specs.Memory.{memory, answer_of};
 ghost use Rattle.store.specs.Sound.{Sound};
@@ -43,7 +43,16 @@ fn variable(nodes: &mut [u64], slots: &mut [u32], arena: DagArena, symbol: u32) 
     ensures { BuildsSound (M.requested (M.variable symbol)) (memory nodes.old slots.old arena)
         (answer_of result.answer) (memory nodes.new slots.new result.arena) }
 {
-    build_sound(nodes, slots, arena, true, VARIABLE, symbol as u64, 0, &[])
+    build_sound(
+        nodes,
+        slots,
+        arena,
+        true,
+        VARIABLE,
+        u64::from(symbol),
+        0,
+        &[],
+    )
 }
 
 // The flags of a kind whose operands may be swapped and regrouped.
@@ -53,13 +62,10 @@ const BOTH_FLAGS: u64 = 3;
 fn flags_of(kind: u64) -> u64
     ensures { result ≡ flags_of kind }
 {
-    if kind == ADD {
-        return BOTH_FLAGS;
+    match kind {
+        ADD | MUL => BOTH_FLAGS,
+        _ => 0,
     }
-    if kind == MUL {
-        return BOTH_FLAGS;
-    }
-    0
 }
 
 // The node of an operator over the last results, `first` the very last.
@@ -76,14 +82,13 @@ fn operator(
         (memory nodes.old slots.old arena) (answer_of result.answer)
         (memory nodes.new slots.new result.arena) }
 {
-    if kind < ADD {
-        return build_sound(nodes, slots, arena, true, NEG, 0, 0, &[first]);
+    match kind {
+        ADD..=POW => {
+            let flags = flags_of(kind);
+            build_sound(nodes, slots, arena, true, kind, 0, flags, &[second, first])
+        }
+        _ => build_sound(nodes, slots, arena, true, NEG, 0, 0, &[first]),
     }
-    if POW < kind {
-        return build_sound(nodes, slots, arena, true, NEG, 0, 0, &[first]);
-    }
-    let flags = flags_of(kind);
-    build_sound(nodes, slots, arena, true, kind, 0, flags, &[second, first])
 }
 
 // The number of the refusal that a name call gave.
@@ -123,11 +128,9 @@ fn named(
         };
     };
     let built = variable(nodes, slots, arena, symbol);
-    let id = built.answer;
-    let grown = built.arena;
     ReadOutcome {
-        answer: id,
-        arena: grown,
+        answer: built.answer,
+        arena: built.arena,
         names: after,
     }
 }
@@ -154,11 +157,9 @@ fn leaf(
     }
     let bits = bits_at(text, at);
     let built = number(nodes, slots, arena, bits);
-    let id = built.answer;
-    let grown = built.arena;
     ReadOutcome {
-        answer: id,
-        arena: grown,
+        answer: built.answer,
+        arena: built.arena,
         names: count,
     }
 }
@@ -183,18 +184,16 @@ fn perform(
     if word < FIRST_OPERATOR {
         return leaf(text, word as usize, nodes, slots, arena, entries, count);
     }
-    let kind = (word - FIRST_OPERATOR) as u64;
+    let kind = u64::from(word - FIRST_OPERATOR);
     let built = operator(nodes, slots, arena, kind, first, second);
-    let id = built.answer;
-    let grown = built.arena;
     ReadOutcome {
-        answer: id,
-        arena: grown,
+        answer: built.answer,
+        arena: built.arena,
         names: count,
     }
 }
 
-// The last result but so many, or 0.
+// The last result but so many, or 0. An array and a height, as the memory is fixed: no heap in the library.
 fn waiting(stack: &[u32; MOST_WAITING], height: usize, back: usize) -> u32
     requires { (length stack.now ≡ most_waiting) × (height ≤ most_waiting) }
     ensures { result ≡ get_or (stack_of stack.now height) back 0 }
@@ -210,16 +209,15 @@ fn waiting(stack: &[u32; MOST_WAITING], height: usize, back: usize) -> u32
 pub(crate) fn run_program(
     text: &[u8],
     program: &[u16],
-    size: usize,
     nodes: &mut [u64],
     slots: &mut [u32],
     arena: DagArena,
     entries: &mut [u8],
     names: usize,
 ) -> ReadOutcome
-    requires { BothSound (controller_memory nodes.old slots.old arena entries.old names)
-        × (size ≤ length program.now) × FitsProgram 0 (tokens text.now program.now size) }
-    ensures { RunsProgram (tokens text.now program.now size)
+    requires sound { BothSound (controller_memory nodes.old slots.old arena entries.old names) }
+    requires fits { FitsProgram 0 (tokens text.now program.now (length program.now)) }
+    ensures { RunsProgram (tokens text.now program.now (length program.now))
         (controller_memory nodes.old slots.old arena entries.old names) result.answer
         (controller_memory nodes.new slots.new result.arena entries.new result.names) }
 {
@@ -227,30 +225,24 @@ pub(crate) fn run_program(
     let mut height: usize = 0;
     let mut store = arena;
     let mut count = names;
-    let mut i: usize = 0;
-    while i < size {
-        let word = program[i];
+    for word in program {
         let first = waiting(&stack, height, 0);
         let second = waiting(&stack, height, 1);
         let made = perform(
-            text, word, first, second, nodes, slots, store, entries, count,
+            text, *word, first, second, nodes, slots, store, entries, count,
         );
-        let answer = made.answer;
-        let NodeAnswer::Id(id) = answer else {
+        let NodeAnswer::Id(id) = made.answer else {
             return made;
         };
-        let grown = made.arena;
-        let known = made.names;
-        store = grown;
-        count = known;
-        let place = height - operand_count(word);
+        store = made.arena;
+        count = made.names;
+        let place = height - operand_count(*word);
         stack[place] = id as u32;
         height = place + 1;
-        i += 1;
     }
     let last = waiting(&stack, height, 0);
     ReadOutcome {
-        answer: NodeAnswer::Id(last as u64),
+        answer: NodeAnswer::Id(u64::from(last)),
         arena: store,
         names: count,
     }

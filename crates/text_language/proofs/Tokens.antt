@@ -125,7 +125,7 @@ word_take p (suc k) (c ∷ t) = go (p c) (word_take p k t)
     go true h = ap (λ (x : List ℕ). c ∷ x) h
     go false h = refl
 
-module _ (s : List ℕ) (at j : ℕ) (low : at < length s) (l : is_letter (get_or s at 0) ≡ true) (r : ScanRan s (at + 1) 1 31 j) where
+module _ (s : List ℕ) (at j : ℕ) (low : at < length s) (l : is_letter (get_or s at 0) ≡ true) (r : ScanRan s (at + 1) is_word 31 j) where
   abbrev typed : List ℕ
   typed = get_or s at 0 ∷ word is_word 31 (drop (at + 1) s)
 

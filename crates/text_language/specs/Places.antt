@@ -1,7 +1,7 @@
 -- Where the parts of a text stand in its bytes.
-use Rattle.std.specs.Prelude.{ℕ, zero, suc, ◌+◌, ◌-◌, ◌*◌, ◌≤◌, ◌<◌, ◌≡◌, Bool, true, false, cond, List, [], ◌∷◌, length, drop, get_or, eqb}
+use Rattle.std.specs.Prelude.{ℕ, zero, suc, ◌+◌, ◌-◌, ◌*◌, ◌≤◌, ◌<◌, ◌≡◌, Bool, true, false, List, [], ◌∷◌, length, drop, get_or}
 use Rattle.std.proofs.Math.Option.{Option, none, some}
-use Rattle.text_language.specs.Grammar.{Expr, is_digit, is_word, is_hex, Level, chain, sums, products, power, factor}
+use Rattle.text_language.specs.Grammar.{Expr, Level, chain, sums, products, power, factor}
 use Rattle.text_language.specs.Reader.{lead, skip, past, word, beyond, Got, got, bad, level, read}
 
 -- the first byte that is no blank, and where
@@ -13,12 +13,10 @@ pub record AtSpot (s : List ℕ) (i at byte : ℕ) : Type 0 where
   pub high : at ≤ length s
   pub inside : (byte ≡ 0 → ⊥) → at < length s
 
-abbrev pub test : ℕ → ℕ → Bool
-test k c = cond (eqb k 0) (is_digit c) (cond (eqb k 1) (is_word c) (is_hex c))
-
-pub record ScanRan (s : List ℕ) (i k n j : ℕ) : Type 0 where
-  pub rests : beyond (test k) n (drop i s) ≡ drop j s
-  pub counts : i + length (word (test k) n (drop i s)) ≡ j
+-- as many bytes as pass p, at most n, stand from i to j
+pub record ScanRan (s : List ℕ) (i : ℕ) (p : ℕ → Bool) (n j : ℕ) : Type 0 where
+  pub rests : beyond p n (drop i s) ≡ drop j s
+  pub counts : i + length (word p n (drop i s)) ≡ j
   pub high : j ≤ length s
   pub low : i ≤ j
 

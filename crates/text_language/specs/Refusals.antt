@@ -1,4 +1,4 @@
--- The numbers of the refusals that a text meets (02 c, and 10 of 02 b), by what they say.
+-- The numbers of the refusals that a text meets, by what they say.
 use Rattle.std.specs.Prelude.{ℕ}
 
 -- 1: a text of 0 or over 8,192 bytes

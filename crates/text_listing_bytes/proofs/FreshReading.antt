@@ -17,9 +17,8 @@ use Rattle.store.specs.declared.NodeAnswer.{NodeAnswer}
 use Rattle.store.specs.declared.NodeAnswer.TheVariants.{Id, Refused}
 use Rattle.store.specs.Memory.{memory, model}
 use Rattle.store.specs.View.{lent}
-use Rattle.builder.specs.declared.opening.FreshStore.{FreshStore}
-use Rattle.builder.specs.declared.opening.FreshStore.TheVariants as fresh
-use Rattle.builder.specs.Opens.{Opens, fresh_answer, fresh_slots}
+use Rattle.std.proofs.Common.{Ok, Err}
+use Rattle.builder.specs.Opens.{FreshStore, Opens, fresh_answer, fresh_slots}
 use Rattle.names.specs.Memory.{name_memory, name_model}
 use Rattle.name_entries.specs.Sound.{lent_entries}
 use Rattle.names.proofs.Modelled.{no_names}
@@ -37,15 +36,15 @@ fresh_long true slots l = refl
 fresh_long false slots l = length-append {A = ℕ} (replicate 64 0) (drop 64 slots) ∙ ap₂ (λ (x y : ℕ). x + y) (length-replicate {A = ℕ} 64 0) (length-drop 64 slots) ∙ omega arith
 
 abbrev is_store : FreshStore → Bool
-is_store (fresh.Store arena) = true
-is_store (fresh.Refused number) = false
+is_store (Ok arena) = true
+is_store (Err number) = false
 
-pub never_refused : (words slots slots₁ : List ℕ) (o : FreshStore) (number : ℕ) → 64 ≤ length slots → Opens words slots o slots₁ → o ≡ fresh.Refused number → ⊥
+pub never_refused : (words slots slots₁ : List ℕ) (o : FreshStore) (number : ℕ) → 64 ≤ length slots → Opens words slots o slots₁ → o ≡ Err number → ⊥
 never_refused words slots slots₁ o number l h e =
     false≢true (sym (ap is_store e) ∙ ap is_store h.answer ∙ ap (λ (b : Bool). is_store (fresh_answer b)) (le-ltb (length slots) 64 l))
 
 pub read_fresh : (s words slots slots₁ entries : List ℕ) (o : FreshStore) (arena : DagArena) (a : NodeAnswer) (d : ControllerMemory) → 64 ≤ length slots → Opens words slots o slots₁
-    → o ≡ fresh.Store arena → ReadsText s (controller_memory words slots₁ arena entries 0) a d → ReadsFresh s (lent_lists words slots entries) a d
+    → o ≡ Ok arena → ReadsText s (controller_memory words slots₁ arena entries 0) a d → ReadsFresh s (lent_lists words slots entries) a d
 unfolding lent_lists
 read_fresh s words slots slots₁ entries o arena a d l h e r =
     let both = fresh_beside model name_model (memory words slots₁ arena) (name_memory entries 0) (h.fresh arena e) (no_names entries) in

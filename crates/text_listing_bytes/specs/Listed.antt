@@ -1,4 +1,4 @@
--- The listing of a formula typed as text: 01's listing of the reading's answer and nodes, and after it a line a name.
+-- The listing of a formula typed as text: the listing of the reading's answer and nodes, and after it a line a name.
 use Rattle.std.specs.Prelude.{ℕ, ◌+◌, ◌*◌, ◌≤◌, ◌≡◌, cond, List, [], ◌∷◌, ◌++◌, length, take, drop, replicate, eqb}
 use Rattle.std.proofs.Math.Option.{none, some}
 use Rattle.definitions.specs.Node.{Node}
@@ -22,7 +22,7 @@ use Rattle.text_place.specs.Stopping.{StopsAt}
 use Rattle.text_listing_bytes.specs.declared.TextListing.{TextListing}
 use Rattle.text_listing_bytes.specs.Names.{name_lines}
 
--- a fresh store of 512 nodes and 1,024 slots, as 01's listing program has it, and an empty list of 128 names
+-- a fresh store of 512 nodes and 1,024 slots, as the listing program has it, and an empty list of 128 names
 abbrev pub text_lent : LentLists
 text_lent = record { store = record { nodes = 512; slots = 1024 }; names = 128 }
 
@@ -34,7 +34,7 @@ text_listing_bytes = (text_lent.store.nodes + text_lent.names + 1) * line_bytes
 unfoldable pub lent_lists : List ℕ → List ℕ → List ℕ → LentLists
 lent_lists words slots entries = record { store = lent words slots; names = lent_entries entries }
 
--- what the plain machine of 02 (c) does with a text on fresh lists
+-- what the plain machine does with a text on fresh lists
 abbrev pub read_text : LentLists → List ℕ → AfterCall
 read_text l s = controller_call l empty_controller (reading s)
 
@@ -54,7 +54,7 @@ abbrev pub outcome_of : NodeAnswer → ℕ → Outcome.SheetOutcome
 outcome_of (Id id) place = outcome.Ok id
 outcome_of (Refused number) place = outcome.Refused number place
 
--- a reading as 01's listing shows a sheet of one record
+-- a reading as the listing shows a sheet of one record
 abbrev pub ran_of : NodeAnswer → ℕ → List Node → Ran
 ran_of (Id id) place ns = record { answers = M.stored id ∷ []; refusal = none; left = state ns }
 ran_of (Refused number) place ns = record { answers = []; refusal = some (number, place); left = state ns }

@@ -9,7 +9,7 @@ use Rattle.listing_lines.specs.Outcome.{joined}
 abbrev pub name_word : List ℕ
 name_word = 110 ∷ 97 ∷ 109 ∷ 101 ∷ []
 
--- each line ends with the byte 0A (hex), as 01's do
+-- each line ends with a line feed, as the others do
 abbrev pub name_line : List (List ℕ) → ℕ → List ℕ
 name_line names i = name_word ++ space ∷ decimal i ++ space ∷ get_or names i [] ++ line_feed ∷ []
 

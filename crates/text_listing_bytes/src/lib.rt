@@ -1,4 +1,5 @@
-// A formula typed as text, read into a fresh store and an empty name list: its listing as bytes, 01's lines and after them a line a name.
+// A formula typed as text, read into a fresh store and an empty name list: its listing as bytes, the lines of the nodes and after them a line a
+// name.
 #![tactic(auto)]
 
 mod naming;
@@ -15,7 +16,7 @@ use naming::put_names;
 use reading::{outcome_of, place_of, read_fresh};
 use store::NodeAnswer;
 
-// A fresh store of 512 nodes and 1,024 slots, as 01's listing program has it, and an empty list of 128 names.
+// A fresh store of 512 nodes and 1,024 slots, as the listing program has it, and an empty list of 128 names.
 const NODES: usize = 512;
 
 const SLOTS: usize = 1_024;
@@ -25,10 +26,10 @@ const NAMES: usize = 128;
 // A name list's entry: a length byte, then 32 bytes.
 const ENTRY_BYTES: usize = 33;
 
-// Room for the first line, the line of each node and that of each name.
+/// Room for the first line, the line of each node and that of each name.
 pub const TEXT_LISTING_BYTES: usize = (NODES + NAMES + 1) * LINE_BYTES;
 
-// A listing at the start of an array, whose other bytes are 0; the reading's answer, and the place of refusal 11 in the text.
+/// A listing at the start of an array, whose other bytes are 0; the reading's answer, and the place where the text leaves the language.
 #[derive(Drop)]
 pub struct TextListing {
     pub bytes: [u8; TEXT_LISTING_BYTES],
@@ -60,7 +61,7 @@ fn lines(
     }
 }
 
-// The listing of a text.
+/// The listing of a text.
 pub fn list(text: &[u8]) -> TextListing
     ensures { ListedText text.now result }
 {
@@ -68,9 +69,13 @@ pub fn list(text: &[u8]) -> TextListing
     let mut slots = [0u32; SLOTS];
     let mut entries = [0u8; NAMES * ENTRY_BYTES];
     let made = read_fresh(text, &mut nodes, &mut slots, &mut entries);
-    let answer = made.answer;
-    let arena = made.arena;
-    let names = made.names;
-    let place = place_of(text, answer);
-    lines(answer, place, &nodes, arena.count, &entries, names)
+    let place = place_of(text, made.answer);
+    lines(
+        made.answer,
+        place,
+        &nodes,
+        made.arena.count,
+        &entries,
+        made.names,
+    )
 }

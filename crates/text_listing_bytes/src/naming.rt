@@ -26,10 +26,9 @@ fn name_line(entries: &[u8], count: usize, number: u32) -> Line
     ensures { Holds (name_line (names_of entries.now count) number) result }
 {
     let found = names::name(entries, count, number);
-    let answer = found.answer;
     let bytes = found.bytes;
-    let length = name_length(answer);
-    let numbered = with_number(with_bytes(new(), b"name"), number as u64);
+    let length = name_length(found.answer);
+    let numbered = with_number(with_bytes(new(), b"name"), u64::from(number));
     let spaced = with_bytes(numbered, b" ");
     let named = with_bytes(spaced, &bytes[..length]);
     with_bytes(named, b"\n")
@@ -39,13 +38,11 @@ fn name_line(entries: &[u8], count: usize, number: u32) -> Line
 pub(crate) fn put_names(entries: &[u8], count: usize, out: &mut [u8], at: usize) -> usize
     requires { SoundNames entries.now count × (at + count * line_bytes ≤ length out.old) }
     ensures puts_line { PutsLine (name_lines (names_of entries.now count)) at out.old result out.new }
-    ensures upper_bound { result ≤ length out.new }
+    ensures in_array { result ≤ length out.new }
 {
     let mut place = at;
-    let mut i: usize = 0;
-    while i < count {
+    for i in 0..count {
         place = put_line(out, place, name_line(entries, count, i as u32));
-        i += 1;
     }
     place
 }

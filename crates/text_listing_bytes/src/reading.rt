@@ -5,7 +5,6 @@ ghost use Rattle.text.specs.Memory.{controller_memory};
 ghost use Rattle.text_listing_bytes.specs.Listed.{lent_lists, ReadsFresh, PlaceOf, outcome_of};
 
 use arena::DagArena;
-use builder::FreshStore;
 use listing_lines::SheetOutcome;
 use store::NodeAnswer;
 use text::ReadOutcome;
@@ -23,18 +22,17 @@ pub(crate) fn read_fresh(
     ensures { ReadsFresh text.now (lent_lists nodes.old slots.old entries.old) result.answer
         (controller_memory nodes.new slots.new result.arena entries.new result.names) }
 {
-    let opened = builder::fresh(nodes, slots);
-    match opened {
-        FreshStore::Store(arena) => text::read(text, nodes, slots, arena, entries, 0),
-        FreshStore::Refused(number) => ReadOutcome {
-            answer: NodeAnswer::Refused(number),
+    match builder::fresh(nodes, slots) {
+        Ok(arena) => text::read(text, nodes, slots, arena, entries, 0),
+        Err(refusal) => ReadOutcome {
+            answer: NodeAnswer::Refused(refusal.number()),
             arena: DagArena { count: 0, size: 0 },
             names: 0,
         },
     }
 }
 
-// The place in a text of refusal 11, and 0 for any other answer.
+// The place where a text leaves the language, and 0 for any other answer.
 pub(crate) fn place_of(text: &[u8], answer: NodeAnswer) -> usize
     ensures { PlaceOf text.now answer result }
 {

@@ -12,37 +12,36 @@ use Rattle.text_language.specs.Grammar.{is_digit, is_letter, is_word, is_hex}
 use Rattle.text_language.specs.Scan.{joins}
 use Rattle.text_place.specs.declared.ScanProgress.{ScanProgress}
 use Rattle.text_place.specs.declared.ScanProgress.TheVariants.{Wanted, Digits, Name, Bits, Ended}
-use Rattle.text_place.specs.declared.Step.{Step}
-use Rattle.text_place.specs.declared.Step.TheVariants.{On, Stop}
-use Rattle.text_place.specs.Progress.{most_digits, longest_name, bits_digits, open_in, operand_byte, closed, byte_after, longer, bits_byte, advance, reach}
+use Rattle.std.specs.Prelude.{Option, Some, None}
+use Rattle.text_place.specs.Progress.{most_digits, longest_name, bits_digits, open_in, closed, byte_after, longer, advance, reach}
 use Rattle.text_place.specs.Stopping.{begun, StopsAt}
 
-pub stays_stopped : (v : List ℕ) → reach Stop v ≡ Stop
+pub stays_stopped : (v : List ℕ) → reach None v ≡ None
 unfolding reach
 stays_stopped [] = refl
 stays_stopped (c ∷ v) = refl
 
-pub reach_append : (p : Step) (u v : List ℕ) → reach p (u ++ v) ≡ reach (reach p u) v
+pub reach_append : (p : Option ScanProgress) (u v : List ℕ) → reach p (u ++ v) ≡ reach (reach p u) v
 unfolding reach
 reach_append p [] v = refl
-reach_append Stop (c ∷ u) v = sym (stays_stopped v)
-reach_append (On p) (c ∷ u) v = reach_append (advance p c) u v
+reach_append None (c ∷ u) v = sym (stays_stopped v)
+reach_append (Some p) (c ∷ u) v = reach_append (advance p c) u v
 
-abbrev is_on : Step → Bool
-is_on (On p) = true
-is_on Stop = false
+abbrev is_on : Option ScanProgress → Bool
+is_on (Some p) = true
+is_on None = false
 
-pub on_not_stop : (p : ScanProgress) → On p ≡ Stop → ⊥
+pub on_not_stop : (p : ScanProgress) → Some p ≡ None → ⊥
 on_not_stop p e = false≢true (sym (ap is_on e))
 
 -- ---- the open brackets
 
 -- a step has at most so many open brackets
-abbrev AtMost : ℕ → Step → Type 0
-AtMost n (On p) = open_in p ≤ n
-AtMost n Stop = Unit {0}
+abbrev AtMost : ℕ → Option ScanProgress → Type 0
+AtMost n (Some p) = open_in p ≤ n
+AtMost n None = Unit {0}
 
-either : (n : ℕ) (b : Bool) (x y : Step) → AtMost n x → AtMost n y → AtMost n (cond b x y)
+either : (n : ℕ) (b : Bool) (x y : Option ScanProgress) → AtMost n x → AtMost n y → AtMost n (cond b x y)
 either n true x y h k = h
 either n false x y h k = k
 
@@ -67,7 +66,7 @@ advance_few (Ended b) c = after_few b c
 -- ---- the loop
 
 pub record Begun (s : List ℕ) (p : ScanProgress) (i : ℕ) : Type 0 where
-  pub is : begun (take i s) ≡ On p
+  pub is : begun (take i s) ≡ Some p
   pub within : i ≤ length s
   pub few : open_in p ≤ i
 
@@ -75,22 +74,25 @@ pub starts : (s : List ℕ) → Begun s (Wanted 0) 0
 unfolding reach
 starts s = record { is = refl; within = omega arith; few = omega arith }
 
-module _ (s : List ℕ) (p : ScanProgress) (i : ℕ) (h : Begun s p i) (l : i < length s) (r : Step) (e : r ≡ advance p (get_or s i 0)) where
+module _ (s : List ℕ) (p : ScanProgress) (i : ℕ) (h : Begun s p i) (l : i < length s) (r : Option ScanProgress) (e : r ≡ advance p (get_or s i 0)) where
   one_more : begun (take (suc i) s) ≡ r
   unfolding reach
   one_more =
-      ap begun (take-suc s i 0 l) ∙ reach_append (On (Wanted 0)) (take i s) (get_or s i 0 ∷ [])
-      ∙ ap (λ (x : Step). reach x (get_or s i 0 ∷ [])) h.is ∙ sym e
+      ap begun (take-suc s i 0 l) ∙ reach_append (Some (Wanted 0)) (take i s) (get_or s i 0 ∷ [])
+      ∙ ap (λ (x : Option ScanProgress). reach x (get_or s i 0 ∷ [])) h.is ∙ sym e
 
-  pub goes_on : (q : ScanProgress) → r ≡ On q → Begun s q (i + 1)
+  pub goes_on : (q : ScanProgress) → r ≡ Some q → Begun s q (i + 1)
   goes_on q f = record {
     is = ap (λ (k : ℕ). begun (take k s)) (add-one i) ∙ one_more ∙ f;
     within = omega arith;
     few = let o = h.few in let m : open_in q ≤ suc (open_in p) = subst (AtMost (suc (open_in p))) (sym e ∙ f) (advance_few p (get_or s i 0)) in omega arith;
   }
 
-  pub stops : r ≡ Stop → StopsAt s i
+  pub stops : r ≡ None → StopsAt s i
   stops f = record { within = h.within; before = λ z. on_not_stop p (sym h.is ∙ z); there = λ _. one_more ∙ f }
 
-pub ends : (s : List ℕ) (p : ScanProgress) (i : ℕ) → Begun s p i → length s ≤ i → StopsAt s i
-ends s p i h l = record { within = h.within; before = λ z. on_not_stop p (sym h.is ∙ z); there = λ m. absurd (omega arith) }
+pub ends : (s : List ℕ) (p : ScanProgress) (i : ℕ) → Begun s p i → length s ≤ i → StopsAt s (length s)
+ends s p i h l =
+    let w = h.within in
+    let e : i ≡ length s = omega arith in
+    subst (StopsAt s) e (record { within = w; before = λ z. on_not_stop p (sym h.is ∙ z); there = λ m. absurd (omega arith) })

@@ -1,20 +1,18 @@
 -- No text of the language begins with bytes that stop: every text is read to its end.
-use Prim.Native.Nat.{ℕ, zero, suc, ◌+◌, ◌≤◌, ◌<◌}
+use Prim.Native.Nat.{ℕ, suc, ◌+◌, ◌≤◌}
 use mathlib.Core.Path.{◌≡◌, refl, sym, ap, ◌∙◌, subst}
 use mathlib.Core.Bool.{Bool, true, false, cond, ◌&&◌, false≢true}
 use mathlib.Core.List.{List, [], ◌∷◌, ◌++◌, append_assoc}
 use lib.ListN.{length}
-use lib.Dec.{eqb, ltb, leb}
+use lib.Dec.{ltb}
 use native.Mathlib.Omega.{arith}
-use borrow.Author.Tests.{lt-ltb, lt-leb, le-leb, eqb-true, eqb-false, eq-eqb}
-use Rattle.text_language.specs.Grammar.{Chain, sums, products, Expr, is_digit, is_letter, is_word, is_hex, Run, stop, more, Atom, Sign, sign, Level, chain, Reads, one, next, base, raise, atom, minus, bracket, Blanks, Text}
-use Rattle.text_language.specs.Scan.{joins}
+use borrow.Author.Tests.{lt-ltb, lt-leb}
+use Rattle.text_language.specs.Grammar.{Chain, sums, products, Expr, is_digit, is_letter, is_word, is_hex, Run, stop, more, Atom, Sign, sign, Level, Reads, one, next, base, raise, atom, minus, bracket, Blanks, Text}
 use Rattle.text_place.specs.declared.ScanProgress.{ScanProgress}
 use Rattle.text_place.specs.declared.ScanProgress.TheVariants.{Wanted, Digits, Name, Bits, Ended}
-use Rattle.text_place.specs.declared.Step.{Step}
-use Rattle.text_place.specs.declared.Step.TheVariants.{On, Stop}
-use Rattle.text_place.specs.Progress.{most_digits, longest_name, operand_byte, byte_after, longer, bits_byte, advance, reach}
-use Rattle.text_place.specs.Stopping.{begun, NoTextBegins}
+use Rattle.std.specs.Prelude.{Option, Some}
+use Rattle.text_place.specs.Progress.{most_digits, longest_name, operand_byte, byte_after, advance, reach}
+use Rattle.text_place.specs.Stopping.{NoTextBegins}
 use Rattle.text_language.proofs.Tokens.{letter_no_digit}
 use Rattle.text_place.proofs.Bytes.{wanted_digit, wanted_letter}
 use Rattle.text_place.proofs.Reaching.{reach_append, stays_stopped, on_not_stop}
@@ -23,21 +21,21 @@ use Rattle.text_place.proofs.Reaching.{reach_append, stays_stopped, on_not_stop}
 pub record Passes (p : ScanProgress) (s : List ℕ) (q : ScanProgress) (r : List ℕ) : Type 0 where
   pub bytes : List ℕ
   pub split : s ≡ bytes ++ r
-  pub goes : reach (On p) bytes ≡ On q
+  pub goes : reach (Some p) bytes ≡ Some q
 
 none : (p : ScanProgress) (s : List ℕ) → Passes p s p s
 unfolding reach
 none p s = record { bytes = []; split = refl; goes = refl }
 
-first : (p m q : ScanProgress) (c : ℕ) (s r : List ℕ) → advance p c ≡ On m → Passes m s q r → Passes p (c ∷ s) q r
+first : (p m q : ScanProgress) (c : ℕ) (s r : List ℕ) → advance p c ≡ Some m → Passes m s q r → Passes p (c ∷ s) q r
 unfolding reach
-first p m q c s r e h = record { bytes = c ∷ h.bytes; split = ap (λ (x : List ℕ). c ∷ x) h.split; goes = ap (λ (x : Step). reach x h.bytes) e ∙ h.goes }
+first p m q c s r e h = record { bytes = c ∷ h.bytes; split = ap (λ (x : List ℕ). c ∷ x) h.split; goes = ap (λ (x : Option ScanProgress). reach x h.bytes) e ∙ h.goes }
 
 both : (p m q : ScanProgress) (s t r : List ℕ) → Passes p s m t → Passes m t q r → Passes p s q r
 both p m q s t r g h = record {
   bytes = g.bytes ++ h.bytes;
   split = g.split ∙ ap (λ (x : List ℕ). g.bytes ++ x) h.split ∙ sym (append_assoc g.bytes h.bytes r);
-  goes = reach_append (On p) g.bytes h.bytes ∙ ap (λ (x : Step). reach x h.bytes) g.goes ∙ h.goes;
+  goes = reach_append (Some p) g.bytes h.bytes ∙ ap (λ (x : Option ScanProgress). reach x h.bytes) g.goes ∙ h.goes;
 }
 
 -- an operand is whole, with so many brackets open
@@ -85,21 +83,21 @@ no_word shut = refl
 
 after_whole : (b c : ℕ) (p : ScanProgress) → After c → Whole b p → advance p c ≡ byte_after b c
 unfolding advance
-after_whole b c p a (digits {l}) = ap (λ (x : Bool). cond (x && ltb l most_digits) (On (Digits (suc l) b)) (byte_after b c)) (no_digit a)
-after_whole b c p a (name {l}) = ap (λ (x : Bool). cond (x && ltb l longest_name) (On (Name (suc l) b)) (byte_after b c)) (no_word a)
+after_whole b c p a (digits {l}) = ap (λ (x : Bool). cond (x && ltb l most_digits) (Some (Digits (suc l) b)) (byte_after b c)) (no_digit a)
+after_whole b c p a (name {l}) = ap (λ (x : Bool). cond (x && ltb l longest_name) (Some (Name (suc l) b)) (byte_after b c)) (no_word a)
 after_whole b c p a bits = refl
 after_whole b c p a ended = refl
 
 -- a sign that joins, blanks before it
-module _ (k : ℕ) (a : After k) (b : ℕ) (m : ScanProgress) (e : byte_after b k ≡ On m) where
+module _ (k : ℕ) (a : After k) (b : ℕ) (m : ScanProgress) (e : byte_after b k ≡ Some m) where
   pub to_sign : {s r : List ℕ} → (p : ScanProgress) → Whole b p → Sign k s r → Passes p s m r
   unfolding byte_after
   to_sign p w (Sign.blank {c} {s} {r} z h) =
-      first p (Ended b) m c s r (subst (λ (x : ℕ). advance p x ≡ On (Ended b)) (sym z) (after_whole b 32 p blank w)) (to_sign (Ended b) ended h)
-  to_sign p w (Sign.here {c} {s} z) = first p m m c s s (subst (λ (x : ℕ). advance p x ≡ On m) (sym z) (after_whole b k p a w ∙ e)) (none m s)
+      first p (Ended b) m c s r (subst (λ (x : ℕ). advance p x ≡ Some (Ended b)) (sym z) (after_whole b 32 p blank w)) (to_sign (Ended b) ended h)
+  to_sign p w (Sign.here {c} {s} z) = first p m m c s s (subst (λ (x : ℕ). advance p x ≡ Some m) (sym z) (after_whole b k p a w ∙ e)) (none m s)
 
 -- a sign where an operand is wanted
-module _ (k : ℕ) (b : ℕ) (m : ScanProgress) (e : operand_byte b k ≡ On m) where
+module _ (k : ℕ) (b : ℕ) (m : ScanProgress) (e : operand_byte b k ≡ Some m) where
   pub to_operand : {s r : List ℕ} → Sign k s r → Passes (Wanted b) s m r
   unfolding advance
   to_operand (Sign.blank {c} {s} {r} z h) = first (Wanted b) (Wanted b) m c s r (ap (λ (x : ℕ). operand_byte b x) z) (to_operand h)
@@ -132,10 +130,10 @@ all_hex b l (more {c} {s} {w} {r} p g) h =
 not_byte : (p : ℕ → Bool) (c k : ℕ) → p c ≡ true → p k ≡ false → c ≡ k → ⊥
 not_byte p c k h f z = false≢true (sym f ∙ sym (ap p z) ∙ h)
 
-digit_first : (b c : ℕ) → is_digit c ≡ true → operand_byte b c ≡ On (Digits 1 b)
+digit_first : (b c : ℕ) → is_digit c ≡ true → operand_byte b c ≡ Some (Digits 1 b)
 digit_first b c h = sym (wanted_digit b c (not_byte is_digit c 32 h refl) (not_byte is_digit c 45 h refl) (not_byte is_digit c 40 h refl) h)
 
-letter_first : (b c : ℕ) → is_letter c ≡ true → operand_byte b c ≡ On (Name 1 b)
+letter_first : (b c : ℕ) → is_letter c ≡ true → operand_byte b c ≡ Some (Name 1 b)
 letter_first b c h =
     sym (wanted_letter b c (not_byte is_letter c 32 h refl) (not_byte is_letter c 45 h refl) (not_byte is_letter c 40 h refl) (letter_no_digit c h) h)
 
@@ -161,31 +159,31 @@ join_after sums true = dash
 join_after products false = star
 join_after products true = slash
 
-join_wants : (b : ℕ) (k : Chain) (x : Bool) → byte_after b (sign k x) ≡ On (Wanted b)
+join_wants : (b : ℕ) (k : Chain) (x : Bool) → byte_after b (sign k x) ≡ Some (Wanted b)
 unfolding byte_after
 join_wants b sums false = refl
 join_wants b sums true = refl
 join_wants b products false = refl
 join_wants b products true = refl
 
-caret_wants : (b : ℕ) → byte_after b 94 ≡ On (Wanted b)
+caret_wants : (b : ℕ) → byte_after b 94 ≡ Some (Wanted b)
 unfolding byte_after
 caret_wants b = refl
 
-bracket_ends : (b : ℕ) → byte_after (suc b) 41 ≡ On (Ended b)
+bracket_ends : (b : ℕ) → byte_after (suc b) 41 ≡ Some (Ended b)
 unfolding byte_after
 bracket_ends b = refl
 
-minus_wants : (b : ℕ) → operand_byte b 45 ≡ On (Wanted b)
+minus_wants : (b : ℕ) → operand_byte b 45 ≡ Some (Wanted b)
 unfolding operand_byte
 minus_wants b = refl
 
-bracket_wants : (b : ℕ) → operand_byte b 40 ≡ On (Wanted (suc b))
+bracket_wants : (b : ℕ) → operand_byte b 40 ≡ Some (Wanted (suc b))
 unfolding operand_byte
 bracket_wants b = refl
 
 -- a left operand, a sign, and a right one
-joined : (b k : ℕ) → After k → byte_after b k ≡ On (Wanted b) → (s r t u : List ℕ) → Operand b s r → Sign k r t → Operand b t u → Operand b s u
+joined : (b k : ℕ) → After k → byte_after b k ≡ Some (Wanted b) → (s r t u : List ℕ) → Operand b s r → Sign k r t → Operand b t u → Operand b s u
 joined b k a e s r t u left h right = record {
   at = right.at;
   whole = right.whole;
@@ -213,14 +211,14 @@ reads_pass b (bracket {s} {t} {r} {u} p h q) =
 -- blanks at the end
 pub record Goes (p : ScanProgress) (s : List ℕ) : Type 0 where
   pub at : ScanProgress
-  pub is : reach (On p) s ≡ On at
+  pub is : reach (Some p) s ≡ Some at
 
 blanks_pass : (b : ℕ) (p : ScanProgress) → Whole b p → {s : List ℕ} → Blanks s → Goes p s
 unfolding reach byte_after
 blanks_pass b p w Blanks.none = record { at = p; is = refl }
 blanks_pass b p w (Blanks.more {c} {s} z h) =
     let g = blanks_pass b (Ended b) ended h in
-    record { at = g.at; is = ap (λ (x : Step). reach x s) (subst (λ (x : ℕ). advance p x ≡ On (Ended b)) (sym z) (after_whole b 32 p blank w)) ∙ g.is }
+    record { at = g.at; is = ap (λ (x : Option ScanProgress). reach x s) (subst (λ (x : ℕ). advance p x ≡ Some (Ended b)) (sym z) (after_whole b 32 p blank w)) ∙ g.is }
 
 pub text_goes : {s : List ℕ} {e : Expr} {d : ℕ} → Text s e d → Goes (Wanted 0) s
 text_goes {s} t =
@@ -229,10 +227,10 @@ text_goes {s} t =
     let p = o.passes in
     record {
       at = g.at;
-      is = ap (λ (x : List ℕ). reach (On (Wanted 0)) x) p.split ∙ reach_append (On (Wanted 0)) p.bytes t.left ∙ ap (λ (x : Step). reach x t.left) p.goes ∙ g.is;
+      is = ap (λ (x : List ℕ). reach (Some (Wanted 0)) x) p.split ∙ reach_append (Some (Wanted 0)) p.bytes t.left ∙ ap (λ (x : Option ScanProgress). reach x t.left) p.goes ∙ g.is;
     }
 
 pub no_text_begins : NoTextBegins
 no_text_begins u v e d h t =
     let g = text_goes t in
-    on_not_stop g.at (sym g.is ∙ reach_append (On (Wanted 0)) u v ∙ ap (λ (x : Step). reach x v) h ∙ stays_stopped v)
+    on_not_stop g.at (sym g.is ∙ reach_append (Some (Wanted 0)) u v ∙ ap (λ (x : Option ScanProgress). reach x v) h ∙ stays_stopped v)

@@ -7,7 +7,7 @@ ghost use Rattle.text_place.specs.Stopping.{StopsAt};
 
 use text_bytes::{is_digit, is_hex, is_letter, is_word, joins};
 
-// 02 (c): "1 to 9 digits", names of "32 at most", "16 hex digits".
+// A number has 1 to 9 digits, a name at most 32 bytes, a constant's bits 16 hex digits.
 const MOST_DIGITS: usize = 9;
 
 const LONGEST_NAME: usize = 32;
@@ -26,7 +26,7 @@ const HASH: u8 = b'#';
 
 // How far a text is read: an operand is wanted; so many digits of a whole number, bytes of a name or hex digits after # stand; or an
 // operand has ended. Beside it how many brackets are open.
-#[derive(Clone, Copy)]
+#[derive(Clone, Copy, Debug, PartialEq, Eq)]
 pub enum ScanProgress {
     Wanted(usize),
     Digits { length: usize, brackets: usize },
@@ -35,92 +35,85 @@ pub enum ScanProgress {
     Ended(usize),
 }
 
-// One byte further, or that no text has the byte there.
-#[derive(Clone, Copy)]
-pub enum Step {
-    On(ScanProgress),
-    Stop,
-}
-
-// The byte where an operand is wanted.
-fn operand_byte(brackets: usize, byte: u8) -> Step
+// The progress after the byte where an operand is wanted, or none if no text has the byte there.
+fn operand_byte(brackets: usize, byte: u8) -> Option<ScanProgress>
     requires { brackets < 18446744073709551615 }
     ensures { result ≡ operand_byte brackets byte }
 {
     if byte == BLANK {
-        return Step::On(ScanProgress::Wanted(brackets));
+        return Some(ScanProgress::Wanted(brackets));
     }
     if byte == MINUS {
-        return Step::On(ScanProgress::Wanted(brackets));
+        return Some(ScanProgress::Wanted(brackets));
     }
     if byte == OPEN {
-        return Step::On(ScanProgress::Wanted(brackets + 1));
+        return Some(ScanProgress::Wanted(brackets + 1));
     }
     if is_digit(byte) {
-        return Step::On(ScanProgress::Digits {
+        return Some(ScanProgress::Digits {
             length: 1,
             brackets,
         });
     }
     if is_letter(byte) {
-        return Step::On(ScanProgress::Name {
+        return Some(ScanProgress::Name {
             length: 1,
             brackets,
         });
     }
     if byte == HASH {
-        return Step::On(ScanProgress::Bits {
+        return Some(ScanProgress::Bits {
             length: 0,
             brackets,
         });
     }
-    Step::Stop
+    None
 }
 
-// The byte after an operand.
-fn byte_after(brackets: usize, byte: u8) -> Step
+// The same after an operand.
+fn byte_after(brackets: usize, byte: u8) -> Option<ScanProgress>
     ensures { result ≡ byte_after brackets byte }
 {
     if byte == BLANK {
-        return Step::On(ScanProgress::Ended(brackets));
+        return Some(ScanProgress::Ended(brackets));
     }
     if joins(byte) {
-        return Step::On(ScanProgress::Wanted(brackets));
+        return Some(ScanProgress::Wanted(brackets));
     }
     if byte != CLOSE {
-        return Step::Stop;
+        return None;
     }
     if brackets == 0 {
-        return Step::Stop;
+        return None;
     }
-    Step::On(ScanProgress::Ended(brackets - 1))
+    Some(ScanProgress::Ended(brackets - 1))
 }
 
 // Whether a number or a name has one byte more.
 fn longer(passes: bool, length: usize, most: usize) -> bool
     ensures { result ≡ longer passes length most }
 {
-    if passes { length < most } else { false }
+    passes && length < most
 }
 
-// The byte after so many hex digits.
-fn bits_byte(length: usize, brackets: usize, byte: u8) -> Step
+// The same after so many hex digits.
+fn bits_byte(length: usize, brackets: usize, byte: u8) -> Option<ScanProgress>
     ensures { result ≡ bits_byte length brackets byte }
 {
     if length >= BITS_DIGITS {
         return byte_after(brackets, byte);
     }
     if is_hex(byte) {
-        return Step::On(ScanProgress::Bits {
+        return Some(ScanProgress::Bits {
             length: length + 1,
             brackets,
         });
     }
-    Step::Stop
+    None
 }
 
-// One byte of a text.
-fn advance(progress: ScanProgress, byte: u8) -> Step
+// The progress after one byte more, or none if no text has the byte there.
+fn advance(progress: ScanProgress, byte: u8) -> Option<ScanProgress>
     requires { open_in progress < 18446744073709551615 }
     ensures { result ≡ advance progress byte }
 {
@@ -128,7 +121,7 @@ fn advance(progress: ScanProgress, byte: u8) -> Step
         ScanProgress::Wanted(brackets) => operand_byte(brackets, byte),
         ScanProgress::Digits { length, brackets } => {
             if longer(is_digit(byte), length, MOST_DIGITS) {
-                return Step::On(ScanProgress::Digits {
+                return Some(ScanProgress::Digits {
                     length: length + 1,
                     brackets,
                 });
@@ -137,7 +130,7 @@ fn advance(progress: ScanProgress, byte: u8) -> Step
         }
         ScanProgress::Name { length, brackets } => {
             if longer(is_word(byte), length, LONGEST_NAME) {
-                return Step::On(ScanProgress::Name {
+                return Some(ScanProgress::Name {
                     length: length + 1,
                     brackets,
                 });
@@ -149,23 +142,16 @@ fn advance(progress: ScanProgress, byte: u8) -> Step
     }
 }
 
-// The first byte with which no text of the language goes on, or the length of the text if more is wanted or nothing is wrong.
+/// The place of the first byte with which no text of the language goes on, or the length of the text if more is wanted or nothing is wrong.
 pub fn stops_at(text: &[u8]) -> usize
     ensures { StopsAt text.now result }
 {
     let mut progress = ScanProgress::Wanted(0);
-    let mut i: usize = 0;
-    while i < text.len() {
-        let step = advance(progress, text[i]);
-        match step {
-            Step::On(further) => {
-                progress = further;
-            }
-            Step::Stop => {
-                return i;
-            }
+    for i in 0..text.len() {
+        match advance(progress, text[i]) {
+            Some(further) => progress = further,
+            None => return i,
         }
-        i += 1;
     }
-    i
+    text.len()
 }

@@ -12,15 +12,18 @@ use Rattle.text_language.specs.Grammar.{variable, chain, sums, is_letter}
 use Rattle.text_language.specs.Reader.{Got, got, bad, atom_of}
 use Rattle.text_language.specs.Scan.{is_text}
 use Rattle.text_language.specs.Program.{Token, number, postfix, first_operator, token_of, atom_token, operator_token, token_at, tokens}
-use Rattle.text_language.specs.Refusals.{outside_language, nested_too_deep}
+use Rattle.text_language.specs.Refusals.{outside_language}
 use Rattle.text_language.specs.Reading.{most_bytes, most_nested, Sized, nan_token, any_nan, Refuses, outside, deep}
 use Rattle.text_language.proofs.Sound.{absurd_bool}
 use Rattle.text_language.proofs.Complete.{text_read}
 use Rattle.text_language.proofs.Scanning.{InLanguage, is_text_lem, text_is}
 use Rattle.text_language.proofs.Tokens.{place_token, kind_token, letter_inside, letter_no_digit}
 use Rattle.text_language.proofs.Atoms.{names_are}
-use Rattle.text_program.specs.declared.readers.Parse.{Parse}
-use Rattle.text_program.specs.declared.readers.Parse.TheVariants.{Ended, Outside, TooDeep}
+use Rattle.std.specs.Prelude.{Result, Ok, Err}
+use Rattle.refusal.specs.declared.Refusal.{Refusal}
+use Rattle.refusal.specs.Number.{number_of}
+use Rattle.text_program.specs.declared.readers.Parsed.{Parsed}
+use Rattle.text_program.specs.Readers as R
 use Rattle.text_program.specs.Readers.{ReaderStarts, AgreesWith, Agrees}
 use Rattle.text_program.specs.Compiling.{Compiled}
 
@@ -44,22 +47,23 @@ module _ (s : List ℕ) (z : Sized s) (e : is_text s ≡ true) (program : List �
   abbrev found : InLanguage s
   found = is_text_lem s e
 
-  agrees : (r : Parse) → Agrees s 0 most_nested (chain sums) program 0 program' r → AgreesWith s most_nested 0 program 0 (got found.expr found.depth found.text.left) program' r
+  agrees : (r : Result Parsed Refusal) → Agrees s 0 most_nested (chain sums) program 0 program' r → AgreesWith s most_nested 0 program 0 (got found.expr found.depth found.text.left) program' r
   agrees r h = subst (λ (g : Got). AgreesWith s most_nested 0 program 0 g program' r) (text_read found.text) (h.agrees (4 * length s + 4) (omega arith))
 
-  pub parse_outside : (r : Parse) → r ≡ Outside → Agrees s 0 most_nested (chain sums) program 0 program' r → Refuses s outside_language
-  parse_outside r q h = absurd (never (subst (λ (x : Parse). AgreesWith s most_nested 0 program 0 (got found.expr found.depth found.text.left) program' x) q (agrees r h)))
+  pub parse_refused : (r : Refusal) → Agrees s 0 most_nested (chain sums) program 0 program' (Err r) → Refuses s (number_of r)
+  parse_refused r h = go r (agrees (Err r) h)
     where
       never : got found.expr found.depth found.text.left ≡ bad → ⊥
       never p = let y : ◌≡◌ {A = ℕ} 0 1 = cc in omega arith
 
-  pub parse_too_deep : (r : Parse) → r ≡ TooDeep → Agrees s 0 most_nested (chain sums) program 0 program' r → Refuses s nested_too_deep
-  parse_too_deep r q h = deep z found.text (subst (λ (x : Parse). AgreesWith s most_nested 0 program 0 (got found.expr found.depth found.text.left) program' x) q (agrees r h))
+      go : (r : Refusal) → R.GivesUp most_nested (got found.expr found.depth found.text.left) r → Refuses s (number_of r)
+      go r (R.outside p) = absurd (never p)
+      go r (R.deep p) = deep z found.text p
 
-  pub parse_ended : (r : Parse) (i n : ℕ) → r ≡ Ended i n → Agrees s 0 most_nested (chain sums) program 0 program' r → length program' ≡ most_bytes → Compiled s program' n
+  pub parse_ended : (r : Parsed) → Agrees s 0 most_nested (chain sums) program 0 program' (Ok r) → length program' ≡ most_bytes → Compiled s program' r.size
   unfolding tokens
-  parse_ended r i n q h long =
-      let a = subst (λ (x : Parse). AgreesWith s most_nested 0 program 0 (got found.expr found.depth found.text.left) program' x) q (agrees r h) in
+  parse_ended r h long =
+      let a = agrees (Ok r) h in
       let p = a.is in
       let b = a.appends in
       let m = b.room in

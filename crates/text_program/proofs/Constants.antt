@@ -17,6 +17,7 @@ use Rattle.text_language.proofs.Sound.{word_short, and_both}
 use Rattle.text_language.proofs.Place.{word_cons}
 use Rattle.text_language.proofs.Atoms.{atom_none, atom_other, digits_are, bits_are, bits_short}
 use Rattle.text_program.specs.declared.numbers.Digits.{Digits}
+use Rattle.text_program.specs.declared.numbers.Radix.TheVariants.{Decimal, Hexadecimal}
 use Rattle.text_program.specs.Numbers.{DigitsRead}
 use Rattle.text_program.proofs.Digits.{digit_ten}
 
@@ -43,7 +44,7 @@ module _ (s : List ℕ) (at : ℕ) where
   number_past l = number_none (atom_of (drop at s)) (atom_none s at l)
 
   module _ (l : at < length s) where
-    pub number_whole : (r : Digits) (bits : ℕ) → is_digit (get_or s at 0) ≡ true → DigitsRead s at 0 9 r → bits ≡ whole_bits r.value → atom_token (atom_of (drop at s)) ≡ number bits
+    pub number_whole : (r : Digits) (bits : ℕ) → is_digit (get_or s at 0) ≡ true → DigitsRead s at Decimal 9 r → bits ≡ whole_bits r.value → atom_token (atom_of (drop at s)) ≡ number bits
     unfolding atom_token token_of decimal
     number_whole r bits d y e =
         let w : word is_digit 9 (drop at s) ≡ get_or s at 0 ∷ word is_digit 8 (drop (at + 1) s) =
@@ -55,15 +56,15 @@ module _ (s : List ℕ) (at : ℕ) where
       pub number_other : (get_or s at 0 ≡ 35 → ⊥) → atom_token (atom_of (drop at s)) ≡ number 0
       number_other z = number_none (atom_of (drop at s)) (atom_other s at l d n z)
 
-      pub number_short : (r : Digits) → get_or s at 0 ≡ 35 → DigitsRead s (at + 1) 2 16 r → (r.count ≡ 16 → ⊥) → atom_token (atom_of (drop at s)) ≡ number 0
+      pub number_short : (r : Digits) → get_or s at 0 ≡ 35 → DigitsRead s (at + 1) Hexadecimal 16 r → (r.count ≡ 16 → ⊥) → atom_token (atom_of (drop at s)) ≡ number 0
       number_short r z y m = number_none (atom_of (drop at s)) (bits_short s at l d n z (λ e. m (y.count ∙ e)))
 
-      pub number_bits : (r : Digits) → get_or s at 0 ≡ 35 → DigitsRead s (at + 1) 2 16 r → r.count ≡ 16 → atom_token (atom_of (drop at s)) ≡ number r.value
+      pub number_bits : (r : Digits) → get_or s at 0 ≡ 35 → DigitsRead s (at + 1) Hexadecimal 16 r → r.count ≡ 16 → atom_token (atom_of (drop at s)) ≡ number r.value
       unfolding atom_token token_of hexadecimal
       number_bits r z y m = ap atom_token (bits_are s at l d n z (sym y.count ∙ m)) ∙ ap number (sym y.value)
 
 -- nine digits are below 2^32
-pub whole_low : (s : List ℕ) (at : ℕ) (r : Digits) → DigitsRead s at 0 9 r → r.value < 4294967296
+pub whole_low : (s : List ℕ) (at : ℕ) (r : Digits) → DigitsRead s at Decimal 9 r → r.value < 4294967296
 whole_low s at r y =
     let w = word_short is_digit 9 (drop at s) in
     let c = y.count in

@@ -3,6 +3,5 @@ pub mod Whole
 pub mod Constants
 pub mod Emitting
 pub mod Steps
-pub mod Tags
 pub mod Scans
 pub mod Compiling

@@ -10,16 +10,13 @@ use native.Mathlib.Omega.{arith}
 use native.Mathlib.Numerals.{add-one}
 use borrow.Author.Tests.{eq-eqb, ne_eqb}
 use Rattle.text_language.specs.Grammar.{Expr}
-use Rattle.text_language.specs.Reader.{lead, skip, past, Got, got, atom_of}
-use Rattle.text_language.specs.Places.{AtSpot}
+use Rattle.text_language.specs.Reader.{lead, skip, past, Got, got, bad, atom_of}
+use Rattle.text_language.specs.Places.{AtSpot, Behind}
 use Rattle.text_language.specs.Scan.{Want, operand, operator, ended, joins, onto, pop, scan, is_text}
 use Rattle.text_language.proofs.Sound.{absurd_bool, OkA, skipped}
 use Rattle.text_language.proofs.Complete.{atom_length, positive}
 use Rattle.text_language.proofs.Scanning.{scan_minus, scan_open, scan_atom, scan_join, scan_close, scan_end, scan_is}
-use Rattle.text_program.specs.declared.places.End.{End}
-use Rattle.text_program.specs.declared.places.End.TheVariants.{At, Nowhere}
 use Rattle.text_program.specs.declared.scanning.ScanState.{ScanState}
-use Rattle.text_program.specs.Readers.{AtomEnds}
 use Rattle.text_program.specs.Scanning.{wanted, ScanSteps}
 use Rattle.text_program.proofs.Steps.{not_zero}
 
@@ -65,10 +62,9 @@ module _ (s : List ℕ) (t : ScanState) (j c : ℕ) (low : t.at ≤ length s) (f
         ap (λ (x : Bool). scan (suc n) (wanted x) t.brackets (drop t.at s)) w ∙ scan_atom n t.brackets (drop t.at s) (no_sign 45 y) (no_sign 40 z)
         ∙ ap (λ (x : List ℕ). onto (atom_of x) (λ r. scan n operator t.brackets r)) p.skips
 
-    pub step_atom : (k : ℕ) (r : End) → r ≡ At k → (c ≡ 45 → ⊥) → (c ≡ 40 → ⊥) → AtomEnds s j r → ScanSteps s t (record { at = k; operand = false; brackets = t.brackets })
+    pub step_atom : (k : ℕ) → (c ≡ 45 → ⊥) → (c ≡ 40 → ⊥) → Behind s 0 (atom_of (drop j s)) k → ScanSteps s t (record { at = k; operand = false; brackets = t.brackets })
     unfolding onto
-    step_atom k r e y z a =
-        let b = subst (AtomEnds s j) e a in
+    step_atom k y z b =
         let g : atom_of (skip (drop t.at s)) ≡ got b.expr b.depth (drop k s) = ap atom_of p.skips ∙ b.is in
         let m = grown b.expr b.depth (drop k s) (subst (OkA (drop t.at s)) g (skipped (drop t.at s))) in
         let x = length-drop t.at s in
@@ -84,9 +80,9 @@ module _ (s : List ℕ) (t : ScanState) (j c : ℕ) (low : t.at ≤ length s) (f
         grown : (e : Expr) (d : ℕ) (r : List ℕ) → OkA (drop t.at s) (got e d r) → length r < length (drop t.at s)
         grown e d r (OkA.ok w) = atom_length w
 
-    pub step_none : (r : End) → r ≡ Nowhere → (c ≡ 45 → ⊥) → (c ≡ 40 → ⊥) → AtomEnds s j r → (n : ℕ) → scan (suc n) (wanted t.operand) t.brackets (drop t.at s) ≡ false
+    pub step_none : (c ≡ 45 → ⊥) → (c ≡ 40 → ⊥) → atom_of (drop j s) ≡ bad → (n : ℕ) → scan (suc n) (wanted t.operand) t.brackets (drop t.at s) ≡ false
     unfolding onto
-    step_none r e y z a n = at_atom n y z ∙ ap (λ (u : Got). onto u (λ r. scan n operator t.brackets r)) (subst (AtomEnds s j) e a)
+    step_none y z a n = at_atom n y z ∙ ap (λ (u : Got). onto u (λ r. scan n operator t.brackets r)) a
 
   module _ (w : t.operand ≡ false) where
     pub step_join : joins c ≡ true → ScanSteps s t (record { at = j + 1; operand = true; brackets = t.brackets })

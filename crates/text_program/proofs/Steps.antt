@@ -11,64 +11,63 @@ use native.Mathlib.Numerals.{add-one}
 use borrow.Author.Tests.{eq-eqb, ne_eqb}
 use Rattle.text_language.specs.Grammar.{Expr, negated, linked, raised, Chain, sums, Level, chain, power, factor, under, Reads}
 use Rattle.text_language.specs.Reader.{lead, skip, past, Got, got, bad, after, atom_of, which, level, onward, read, rank, is_some}
-use Rattle.text_language.specs.Places as Places
-use Rattle.text_language.specs.Places.{AtSpot, Behind}
+use Rattle.text_language.specs.Places.{AtSpot, Behind, TooDeep}
 use Rattle.text_language.specs.Program.{join, join_of, token_at}
-use Rattle.text_language.proofs.Sound.{split, fork, OkA, atom_of_lem, Ok, sound}
+use Rattle.text_language.proofs.Sound.{split, fork, OkA, atom_of_lem, Ok as Sounds, sound}
 use Rattle.text_language.proofs.Complete.{shorter, atom_length, rank_under, step_none, positive}
 use Rattle.text_language.proofs.Signs.{none_of, some_of, sign_nonzero}
-use Rattle.text_program.specs.declared.places.End.{End}
-use Rattle.text_program.specs.declared.places.End.TheVariants.{At, Nowhere}
-use Rattle.text_program.specs.declared.readers.Parse.{Parse}
-use Rattle.text_program.specs.declared.readers.Parse.TheVariants.{Ended, Outside, TooDeep}
+use Rattle.std.specs.Prelude.{Result, Ok, Err}
+use Rattle.refusal.specs.declared.Refusal.{Refusal}
+use Rattle.refusal.specs.declared.Refusal.TheVariants.{OutsideLanguage, NestedTooDeep}
+use Rattle.text_program.specs.declared.readers.Parsed.{Parsed}
+use Rattle.text_program.specs.declared.readers.ChainKind.{ChainKind}
+use Rattle.text_program.specs.declared.readers.ChainKind.TheVariants.{Sums, Products}
 use Rattle.text_language.specs.Reading.{most_bytes}
-use Rattle.text_program.specs.Readers.{AtomEnds, ReaderStarts, AppendsWords, Emitted, AgreesWith, Agrees}
+use Rattle.text_program.specs.Readers.{ReaderStarts, AppendsWords, Emitted, outside, deep, AgreesWith, Agrees}
 use Rattle.text_program.specs.Words.{raise_word, negate_word, join_word}
 use Rattle.text_program.proofs.Emitting.{join_token, appends_negated, appends_linked, appends_power, appends_around, appends_atom}
 
-abbrev pub NotEnded : Parse → Type 0
-NotEnded (Ended i n) = ⊥
-NotEnded Outside = Unit {0}
-NotEnded TooDeep = Unit {0}
+-- a level was read up to i, and its program has m words
+abbrev pub ended : ℕ → ℕ → Result Parsed Refusal
+ended i m = Ok (record { next = i; size = m })
 
 -- ---- answers
 
-deep_after : (p q : ℕ) (g : Got) (f : Expr → ℕ → List ℕ → Got) → Places.TooDeep p g → ((e : Expr) (d : ℕ) (u : List ℕ) → p < d → Places.TooDeep q (f e d u)) → Places.TooDeep q (after g f)
+deep_after : (p q : ℕ) (g : Got) (f : Expr → ℕ → List ℕ → Got) → TooDeep p g → ((e : Expr) (d : ℕ) (u : List ℕ) → p < d → TooDeep q (f e d u)) → TooDeep q (after g f)
 unfolding after
 deep_after p q bad f h k = tt
 deep_after p q (got e d u) f h k = k e d u h
 
-deep_any : (q : ℕ) (g : Got) (f : Expr → ℕ → List ℕ → Got) → ((e : Expr) (d : ℕ) (u : List ℕ) → Places.TooDeep q (f e d u)) → Places.TooDeep q (after g f)
+deep_any : (q : ℕ) (g : Got) (f : Expr → ℕ → List ℕ → Got) → ((e : Expr) (d : ℕ) (u : List ℕ) → TooDeep q (f e d u)) → TooDeep q (after g f)
 unfolding after
 deep_any q bad f k = tt
 deep_any q (got e d u) f k = k e d u
 
 -- an answer that stops a reader stops its caller
-push : (s : List ℕ) (p q at₁ at : ℕ) (P₁ : List ℕ) (n₁ : ℕ) (P : List ℕ) (n : ℕ) (Q : List ℕ) (g : Got) (f : Expr → ℕ → List ℕ → Got) (r : Parse) → NotEnded r → AgreesWith s p at₁ P₁ n₁ g Q r
-    → ((e : Expr) (d : ℕ) (u : List ℕ) → p < d → Places.TooDeep q (f e d u)) → AgreesWith s q at P n (after g f) Q r
+push : (s : List ℕ) (p q at₁ at : ℕ) (P₁ : List ℕ) (n₁ : ℕ) (P : List ℕ) (n : ℕ) (Q : List ℕ) (g : Got) (f : Expr → ℕ → List ℕ → Got) (r : Refusal) → AgreesWith s p at₁ P₁ n₁ g Q (Err r)
+    → ((e : Expr) (d : ℕ) (u : List ℕ) → p < d → TooDeep q (f e d u)) → AgreesWith s q at P n (after g f) Q (Err r)
 unfolding after
-push s p q at₁ at P₁ n₁ P n Q g f (Ended i m) z a k = absurd z
-push s p q at₁ at P₁ n₁ P n Q g f Outside z a k = ap (λ (x : Got). after x f) a
-push s p q at₁ at P₁ n₁ P n Q g f TooDeep z a k = deep_after p q g f a k
+push s p q at₁ at P₁ n₁ P n Q g f r (outside a) k = outside (ap (λ (x : Got). after x f) a)
+push s p q at₁ at P₁ n₁ P n Q g f r (deep a) k = deep (deep_after p q g f a k)
 
 -- an answer stands for every equal reading
-same : (s : List ℕ) (q at : ℕ) (P : List ℕ) (n : ℕ) (Q : List ℕ) (r : Parse) {g h : Got} → g ≡ h → AgreesWith s q at P n h Q r → AgreesWith s q at P n g Q r
+same : (s : List ℕ) (q at : ℕ) (P : List ℕ) (n : ℕ) (Q : List ℕ) (r : Result Parsed Refusal) {g h : Got} → g ≡ h → AgreesWith s q at P n h Q r → AgreesWith s q at P n g Q r
 same s q at P n Q r e a = subst (λ (x : Got). AgreesWith s q at P n x Q r) (sym e) a
 
 -- ---- a reading moves on, and its program grows no faster
 
 reads_of : {l : Level} {s : List ℕ} {e : Expr} {d : ℕ} {r : List ℕ} (n : ℕ) → read n (level l) s ≡ got e d r → Reads l s e d r
-reads_of {l} {s} {e} {d} {r} n h = out (subst (Ok (level l) s) h (sound n (level l) s))
+reads_of {l} {s} {e} {d} {r} n h = out (subst (Sounds (level l) s) h (sound n (level l) s))
   where
-    out : Ok (level l) s (got e d r) → Reads l s e d r
-    out (Ok.ok w) = w
+    out : Sounds (level l) s (got e d r) → Reads l s e d r
+    out (Sounds.ok w) = w
 
 pub record Moved (s : List ℕ) (at n i m : ℕ) : Type 0 where
   pub later : at < i
   pub within : i ≤ length s
   pub room : m + at ≤ n + i
 
-pub moved : (s : List ℕ) (at left : ℕ) (l : Level) (P : List ℕ) (n : ℕ) (Q : List ℕ) (i m : ℕ) → Agrees s at left l P n Q (Ended i m) → Moved s at n i m
+pub moved : (s : List ℕ) (at left : ℕ) (l : Level) (P : List ℕ) (n : ℕ) (Q : List ℕ) (i m : ℕ) → Agrees s at left l P n Q (ended i m) → Moved s at n i m
 moved s at left l P n Q i m h =
     let f = 4 * (length s - at) + rank l in
     let b = h.agrees f (omega arith) in
@@ -78,16 +77,13 @@ moved s at left l P n Q i m h =
     let hi = b.high in
     record { later = omega arith; within = b.high; room = b.appends.room }
 
-pub ended_of : {s : List ℕ} {at left : ℕ} {l : Level} {P : List ℕ} {n : ℕ} {Q : List ℕ} {r : Parse} {i m : ℕ} → r ≡ Ended i m → Agrees s at left l P n Q r → Agrees s at left l P n Q (Ended i m)
-ended_of {s} {at} {left} {l} {P} {n} {Q} e h = subst (Agrees s at left l P n Q) e h
-
 -- ---- deeper and deeper
 
-onward_deep : (q n : ℕ) (k : Chain) (a : Expr) (d : ℕ) (s : List ℕ) → q < d → Places.TooDeep q (read n (onward k a d) s)
+onward_deep : (q n : ℕ) (k : Chain) (a : Expr) (d : ℕ) (s : List ℕ) → q < d → TooDeep q (read n (onward k a d) s)
 unfolding read
 onward_deep q zero k a d s h = tt
 onward_deep q (suc n) k a d s h =
-    fork (Places.TooDeep q) (which k (lead s)) (got a d s) (λ x. after (read n (level (under k)) (past s)) (λ b f r. read n (onward k (linked k x a b) (max d f)) r)) (λ z. h)
+    fork (TooDeep q) (which k (lead s)) (got a d s) (λ x. after (read n (level (under k)) (past s)) (λ b f r. read n (onward k (linked k x a b) (max d f)) r)) (λ z. h)
     (λ x z. deep_any q (read n (level (under k)) (past s)) (λ b f r. read n (onward k (linked k x a b) (max d f)) r)
     (λ b f r. onward_deep q n k (linked k x a b) (max d f) r (omega arith)))
 
@@ -110,9 +106,9 @@ module _ (n : ℕ) (s : List ℕ) where
   unfolding read
   power_is = refl
 
-  tail_deep : (q : ℕ) (a : Expr) (d : ℕ) (r : List ℕ) → q < d → Places.TooDeep q (tail a d r)
+  tail_deep : (q : ℕ) (a : Expr) (d : ℕ) (r : List ℕ) → q < d → TooDeep q (tail a d r)
   tail_deep q a d r h =
-      split (Places.TooDeep q) (eqb (lead r) 94) (after (read n (level power) (past r)) (λ b f u. got (raised a b) (max d (suc f)) u)) (got a d r)
+      split (TooDeep q) (eqb (lead r) 94) (after (read n (level power) (past r)) (λ b f u. got (raised a b) (max d (suc f)) u)) (got a d r)
       (λ z. deep_any q (read n (level power) (past r)) (λ b f u. got (raised a b) (max d (suc f)) u) (λ b f u. omega arith)) (λ z. h)
 
   minus_is : eqb (lead s) 45 ≡ true → read (suc n) (level factor) s ≡ after (read n (level factor) (past s)) (λ a d r. got (negated a) (suc d) r)
@@ -140,16 +136,16 @@ not_zero c k e h z = omega arith
 -- ---- powers
 
 module _ (s : List ℕ) (at left : ℕ) (P : List ℕ) (n : ℕ) (ready : ReaderStarts s at P n) where
-  pub power_stuck : (Q : List ℕ) (r : Parse) → Agrees s at left factor P n Q r → NotEnded r → Agrees s at left power P n Q r
-  power_stuck Q r h z = record {
+  pub power_stuck : (Q : List ℕ) (r : Refusal) → Agrees s at left factor P n Q (Err r) → Agrees s at left power P n Q (Err r)
+  power_stuck Q r h = record {
     agrees = λ fuel q.
         let (m, e) = positive fuel (omega arith) in
-        same s left at P n Q r (ap (λ (x : ℕ). read x (level power) (drop at s)) e ∙ power_is m (drop at s))
-        (push s left left at at P n P n Q (read m (level factor) (drop at s)) (tail m (drop at s)) r z (h.agrees m (omega arith)) (λ a d u l. tail_deep m (drop at s) left a d u l));
+        same s left at P n Q (Err r) (ap (λ (x : ℕ). read x (level power) (drop at s)) e ∙ power_is m (drop at s))
+        (push s left left at at P n P n Q (read m (level factor) (drop at s)) (tail m (drop at s)) r (h.agrees m (omega arith)) (λ a d u l. tail_deep m (drop at s) left a d u l));
   }
 
-  module _ (Q : List ℕ) (i n₁ : ℕ) (h : Agrees s at left factor P n Q (Ended i n₁)) (j c : ℕ) (p : AtSpot s i j c) where
-    pub power_base : (c ≡ 94 → ⊥) → Agrees s at left power P n Q (Ended i n₁)
+  module _ (Q : List ℕ) (i n₁ : ℕ) (h : Agrees s at left factor P n Q (ended i n₁)) (j c : ℕ) (p : AtSpot s i j c) where
+    pub power_base : (c ≡ 94 → ⊥) → Agrees s at left power P n Q (ended i n₁)
     power_base z = record {
       agrees = λ fuel q.
           let (m, e) = positive fuel (omega arith) in
@@ -191,18 +187,18 @@ module _ (s : List ℕ) (at left : ℕ) (P : List ℕ) (n : ℕ) (ready : Reader
           ∙ ap (λ (x : Bool). elim x as (λ y. Got) [ true ↦ after (read m (level power) (past (drop i s))) (λ v f u. got (raised b.expr v) (max b.depth (suc f)) u) | false ↦ got b.expr b.depth (drop i s) ]) w
           ∙ ap (λ (x : List ℕ). after (read m (level power) x) (λ v f u. got (raised b.expr v) (max b.depth (suc f)) u)) y
 
-      pub power_full : left ≡ 0 → Agrees s at left power P n Q TooDeep
+      pub power_full : left ≡ 0 → Agrees s at left power P n Q (Err NestedTooDeep)
       power_full o = record {
         agrees = λ fuel q.
             let (m, e) = positive fuel (omega arith) in
             let b = h.agrees m (omega arith) in
-            same s left at P n Q TooDeep (ap (λ (x : ℕ). read x (level power) (drop at s)) e ∙ raise_is m b)
-            (deep_any left (read m (level power) (drop (j + 1) s)) (λ v f u. got (raised b.expr v) (max b.depth (suc f)) u) (λ v f u. omega arith));
+            same s left at P n Q (Err NestedTooDeep) (ap (λ (x : ℕ). read x (level power) (drop at s)) e ∙ raise_is m b)
+            (deep (deep_any left (read m (level power) (drop (j + 1) s)) (λ v f u. got (raised b.expr v) (max b.depth (suc f)) u) (λ v f u. omega arith)));
       }
 
       module _ (o : 0 < left) where
-        pub power_on_stuck : (R : List ℕ) (r : Parse) → Agrees s (j + 1) (left - 1) power Q n₁ R r → NotEnded r → Agrees s at left power P n R r
-        power_on_stuck R r k np = record {
+        pub power_on_stuck : (R : List ℕ) (r : Refusal) → Agrees s (j + 1) (left - 1) power Q n₁ R (Err r) → Agrees s at left power P n R (Err r)
+        power_on_stuck R r k = record {
           agrees = λ fuel q.
               let (m, e) = positive fuel (omega arith) in
               let b = h.agrees m (omega arith) in
@@ -210,11 +206,11 @@ module _ (s : List ℕ) (at left : ℕ) (P : List ℕ) (n : ℕ) (ready : Reader
               let l = v.later in
               let y = p.low in
               let x = p.inside nonzero in
-              same s left at P n R r (ap (λ (x : ℕ). read x (level power) (drop at s)) e ∙ raise_is m b)
-              (push s (left - 1) left (j + 1) at Q n₁ P n R (read m (level power) (drop (j + 1) s)) (λ v f u. got (raised b.expr v) (max b.depth (suc f)) u) r np (k.agrees m (omega arith)) (λ v f u l. omega arith));
+              same s left at P n R (Err r) (ap (λ (x : ℕ). read x (level power) (drop at s)) e ∙ raise_is m b)
+              (push s (left - 1) left (j + 1) at Q n₁ P n R (read m (level power) (drop (j + 1) s)) (λ v f u. got (raised b.expr v) (max b.depth (suc f)) u) r (k.agrees m (omega arith)) (λ v f u l. omega arith));
         }
 
-        pub power_raise : (R : List ℕ) (t n₂ : ℕ) → Agrees s (j + 1) (left - 1) power Q n₁ R (Ended t n₂) → n₂ < length R → Agrees s at left power P n (set R n₂ raise_word) (Ended t (n₂ + 1))
+        pub power_raise : (R : List ℕ) (t n₂ : ℕ) → Agrees s (j + 1) (left - 1) power Q n₁ R (ended t n₂) → n₂ < length R → Agrees s at left power P n (set R n₂ raise_word) (ended t (n₂ + 1))
         power_raise R t n₂ k room = record {
           agrees = λ fuel q.
               let (m, e) = positive fuel (omega arith) in
@@ -258,25 +254,25 @@ module _ (s : List ℕ) (at left : ℕ) (P : List ℕ) (n : ℕ) (ready : Reader
   bracket_at : (m : ℕ) → (c ≡ 45 → ⊥) → c ≡ 40 → read (suc m) (level factor) (drop at s) ≡ after (read m (level (chain sums)) (drop (j + 1) s)) (close m (drop at s))
   bracket_at m y z = bracket_is m (drop at s) (no_sign 45 y) (is_sign 40 z) ∙ ap (λ (x : List ℕ). after (read m (level (chain sums)) x) (close m (drop at s))) (rest_is (not_zero c 40 z (omega arith)))
 
-  pub minus_full : (Q : List ℕ) → c ≡ 45 → left ≡ 0 → Agrees s at left factor P n Q TooDeep
+  pub minus_full : (Q : List ℕ) → c ≡ 45 → left ≡ 0 → Agrees s at left factor P n Q (Err NestedTooDeep)
   minus_full Q z o = record {
     agrees = λ fuel q.
         let (m, e) = positive fuel (omega arith) in
-        same s left at P n Q TooDeep (ap (λ (x : ℕ). read x (level factor) (drop at s)) e ∙ minus_at m z)
-        (deep_any left (read m (level factor) (drop (j + 1) s)) (λ a d r. got (negated a) (suc d) r) (λ v f u. omega arith));
+        same s left at P n Q (Err NestedTooDeep) (ap (λ (x : ℕ). read x (level factor) (drop at s)) e ∙ minus_at m z)
+        (deep (deep_any left (read m (level factor) (drop (j + 1) s)) (λ a d r. got (negated a) (suc d) r) (λ v f u. omega arith)));
   }
 
-  pub minus_stuck : (Q : List ℕ) (r : Parse) → c ≡ 45 → 0 < left → Agrees s (j + 1) (left - 1) factor P n Q r → NotEnded r → Agrees s at left factor P n Q r
-  minus_stuck Q r z o k np = record {
+  pub minus_stuck : (Q : List ℕ) (r : Refusal) → c ≡ 45 → 0 < left → Agrees s (j + 1) (left - 1) factor P n Q (Err r) → Agrees s at left factor P n Q (Err r)
+  minus_stuck Q r z o k = record {
     agrees = λ fuel q.
         let (m, e) = positive fuel (omega arith) in
         let y = p.low in
         let x = p.inside (not_zero c 45 z (omega arith)) in
-        same s left at P n Q r (ap (λ (x : ℕ). read x (level factor) (drop at s)) e ∙ minus_at m z)
-        (push s (left - 1) left (j + 1) at P n P n Q (read m (level factor) (drop (j + 1) s)) (λ a d r. got (negated a) (suc d) r) r np (k.agrees m (omega arith)) (λ v f u l. omega arith));
+        same s left at P n Q (Err r) (ap (λ (x : ℕ). read x (level factor) (drop at s)) e ∙ minus_at m z)
+        (push s (left - 1) left (j + 1) at P n P n Q (read m (level factor) (drop (j + 1) s)) (λ a d r. got (negated a) (suc d) r) r (k.agrees m (omega arith)) (λ v f u l. omega arith));
   }
 
-  pub minus_on : (Q : List ℕ) (i n₁ : ℕ) → c ≡ 45 → 0 < left → Agrees s (j + 1) (left - 1) factor P n Q (Ended i n₁) → n₁ < length Q → Agrees s at left factor P n (set Q n₁ negate_word) (Ended i (n₁ + 1))
+  pub minus_on : (Q : List ℕ) (i n₁ : ℕ) → c ≡ 45 → 0 < left → Agrees s (j + 1) (left - 1) factor P n Q (ended i n₁) → n₁ < length Q → Agrees s at left factor P n (set Q n₁ negate_word) (ended i (n₁ + 1))
   minus_on Q i n₁ z o k room = record {
     agrees = λ fuel q.
         let (m, e) = positive fuel (omega arith) in
@@ -294,29 +290,29 @@ module _ (s : List ℕ) (at left : ℕ) (P : List ℕ) (n : ℕ) (ready : Reader
         };
   }
 
-  close_deep : (m q : ℕ) (e : Expr) (d : ℕ) (r : List ℕ) → q < suc d → Places.TooDeep q (close m (drop at s) e d r)
-  close_deep m q e d r h = split (Places.TooDeep q) (eqb (lead r) 41) (got e (suc d) (past r)) bad (λ z. h) (λ z. tt)
+  close_deep : (m q : ℕ) (e : Expr) (d : ℕ) (r : List ℕ) → q < suc d → TooDeep q (close m (drop at s) e d r)
+  close_deep m q e d r h = split (TooDeep q) (eqb (lead r) 41) (got e (suc d) (past r)) bad (λ z. h) (λ z. tt)
 
-  pub bracket_full : (Q : List ℕ) → (c ≡ 45 → ⊥) → c ≡ 40 → left ≡ 0 → Agrees s at left factor P n Q TooDeep
+  pub bracket_full : (Q : List ℕ) → (c ≡ 45 → ⊥) → c ≡ 40 → left ≡ 0 → Agrees s at left factor P n Q (Err NestedTooDeep)
   bracket_full Q y z o = record {
     agrees = λ fuel q.
         let (m, e) = positive fuel (omega arith) in
-        same s left at P n Q TooDeep (ap (λ (x : ℕ). read x (level factor) (drop at s)) e ∙ bracket_at m y z)
-        (deep_any left (read m (level (chain sums)) (drop (j + 1) s)) (close m (drop at s)) (λ v f u. close_deep m left v f u (omega arith)));
+        same s left at P n Q (Err NestedTooDeep) (ap (λ (x : ℕ). read x (level factor) (drop at s)) e ∙ bracket_at m y z)
+        (deep (deep_any left (read m (level (chain sums)) (drop (j + 1) s)) (close m (drop at s)) (λ v f u. close_deep m left v f u (omega arith))));
   }
 
   module _ (y : c ≡ 45 → ⊥) (z : c ≡ 40) (o : 0 < left) where
-    pub bracket_stuck : (Q : List ℕ) (r : Parse) → Agrees s (j + 1) (left - 1) (chain sums) P n Q r → NotEnded r → Agrees s at left factor P n Q r
-    bracket_stuck Q r k np = record {
+    pub bracket_stuck : (Q : List ℕ) (r : Refusal) → Agrees s (j + 1) (left - 1) (chain sums) P n Q (Err r) → Agrees s at left factor P n Q (Err r)
+    bracket_stuck Q r k = record {
       agrees = λ fuel q.
           let (m, e) = positive fuel (omega arith) in
           let lo = p.low in
           let x = p.inside (not_zero c 40 z (omega arith)) in
-          same s left at P n Q r (ap (λ (x : ℕ). read x (level factor) (drop at s)) e ∙ bracket_at m y z)
-          (push s (left - 1) left (j + 1) at P n P n Q (read m (level (chain sums)) (drop (j + 1) s)) (close m (drop at s)) r np (k.agrees m (omega arith)) (λ v f u l. close_deep m left v f u (omega arith)));
+          same s left at P n Q (Err r) (ap (λ (x : ℕ). read x (level factor) (drop at s)) e ∙ bracket_at m y z)
+          (push s (left - 1) left (j + 1) at P n P n Q (read m (level (chain sums)) (drop (j + 1) s)) (close m (drop at s)) r (k.agrees m (omega arith)) (λ v f u l. close_deep m left v f u (omega arith)));
     }
 
-    module _ (Q : List ℕ) (i n₁ h b : ℕ) (k : Agrees s (j + 1) (left - 1) (chain sums) P n Q (Ended i n₁)) (a : AtSpot s i h b) where
+    module _ (Q : List ℕ) (i n₁ h b : ℕ) (k : Agrees s (j + 1) (left - 1) (chain sums) P n Q (ended i n₁)) (a : AtSpot s i h b) where
       -- the byte after the sum
       closing : (m : ℕ) (x : Bool) → (g : Emitted s (left - 1) (j + 1) P n (read m (level (chain sums)) (drop (j + 1) s)) i Q n₁) → eqb b 41 ≡ x
           → read (suc m) (level factor) (drop at s) ≡ elim x [ true ↦ got g.expr (suc g.depth) (past (drop i s)) | false ↦ bad ]
@@ -324,7 +320,7 @@ module _ (s : List ℕ) (at left : ℕ) (P : List ℕ) (n : ℕ) (ready : Reader
           bracket_at m y z ∙ after_got (close m (drop at s)) (read m (level (chain sums)) (drop (j + 1) s)) g.is
           ∙ ap (λ (x : Bool). elim x as (λ y. Got) [ true ↦ got g.expr (suc g.depth) (past (drop i s)) | false ↦ bad ]) (ap (λ (x : ℕ). eqb x 41) a.leads ∙ f)
 
-      pub bracket_on : b ≡ 41 → Agrees s at left factor P n Q (Ended (h + 1) n₁)
+      pub bracket_on : b ≡ 41 → Agrees s at left factor P n Q (ended (h + 1) n₁)
       bracket_on f = record {
         agrees = λ fuel q.
             let (m, e) = positive fuel (omega arith) in
@@ -346,31 +342,28 @@ module _ (s : List ℕ) (at left : ℕ) (P : List ℕ) (n : ℕ) (ready : Reader
             };
       }
 
-      pub bracket_open : (b ≡ 41 → ⊥) → Agrees s at left factor P n Q Outside
+      pub bracket_open : (b ≡ 41 → ⊥) → Agrees s at left factor P n Q (Err OutsideLanguage)
       bracket_open f = record {
         agrees = λ fuel q.
             let (m, e) = positive fuel (omega arith) in
             let lo = p.low in
             let x = p.inside (not_zero c 40 z (omega arith)) in
             let g = k.agrees m (omega arith) in
-            ap (λ (x : ℕ). read x (level factor) (drop at s)) e ∙ closing m false g (ne_eqb b 41 f);
+            outside (ap (λ (x : ℕ). read x (level factor) (drop at s)) e ∙ closing m false g (ne_eqb b 41 f));
       }
 
   module _ (y : c ≡ 45 → ⊥) (z : c ≡ 40 → ⊥) where
     atom_at : (m : ℕ) → read (suc m) (level factor) (drop at s) ≡ atom_of (drop j s)
     atom_at m = atom_is m (drop at s) (no_sign 45 y) (no_sign 40 z) ∙ ap atom_of p.skips
 
-    pub atom_none : (Q : List ℕ) (x : End) → x ≡ Nowhere → AtomEnds s j x → Agrees s at left factor P n Q Outside
-    atom_none Q x e a = record {
+    pub atom_none : (Q : List ℕ) → atom_of (drop j s) ≡ bad → Agrees s at left factor P n Q (Err OutsideLanguage)
+    atom_none Q a = record {
       agrees = λ fuel q.
           let (m, o) = positive fuel (omega arith) in
-          ap (λ (x : ℕ). read x (level factor) (drop at s)) o ∙ atom_at m ∙ subst (AtomEnds s j) e a;
+          outside (ap (λ (x : ℕ). read x (level factor) (drop at s)) o ∙ atom_at m ∙ a);
     }
 
-    module _ (x : End) (i : ℕ) (e : x ≡ At i) (a : AtomEnds s j x) where
-      behind : Behind s 0 (atom_of (drop j s)) i
-      behind = subst (AtomEnds s j) e a
-
+    module _ (i : ℕ) (behind : Behind s 0 (atom_of (drop j s)) i) where
       pub atom_place : (j < length s) × (j < 65536)
       atom_place =
           let b = behind in
@@ -382,7 +375,7 @@ module _ (s : List ℕ) (at left : ℕ) (P : List ℕ) (n : ℕ) (ready : Reader
           grown : (e : Expr) (d : ℕ) (r : List ℕ) → OkA (drop j s) (got e d r) → length r < length (drop j s)
           grown e d r (OkA.ok w) = atom_length w
 
-      pub atom_on : n < length P → Agrees s at left factor P n (set P n j) (Ended i (n + 1))
+      pub atom_on : n < length P → Agrees s at left factor P n (set P n j) (ended i (n + 1))
       atom_on room = record {
         agrees = λ fuel q.
             let (m, o) = positive fuel (omega arith) in
@@ -418,16 +411,16 @@ pub record Walking (s : List ℕ) (at left : ℕ) (k : Chain) (P : List ℕ) (n 
   pub long : length Q ≡ length P
 
 module _ (s : List ℕ) (at left : ℕ) (k : Chain) (P : List ℕ) (n : ℕ) (ready : ReaderStarts s at P n) where
-  pub chain_stuck : (Q : List ℕ) (r : Parse) → Agrees s at left (under k) P n Q r → NotEnded r → Agrees s at left (chain k) P n Q r
-  chain_stuck Q r h z = record {
+  pub chain_stuck : (Q : List ℕ) (r : Refusal) → Agrees s at left (under k) P n Q (Err r) → Agrees s at left (chain k) P n Q (Err r)
+  chain_stuck Q r h = record {
     agrees = λ fuel q.
         let u = rank_under k in
         let (m, e) = positive fuel (omega arith) in
-        same s left at P n Q r (ap (λ (x : ℕ). read x (level (chain k)) (drop at s)) e ∙ chain_is m (drop at s) k)
-        (push s left left at at P n P n Q (read m (level (under k)) (drop at s)) (λ a d r. read m (onward k a d) r) r z (h.agrees m (omega arith)) (λ a d u l. onward_deep left m k a d u l));
+        same s left at P n Q (Err r) (ap (λ (x : ℕ). read x (level (chain k)) (drop at s)) e ∙ chain_is m (drop at s) k)
+        (push s left left at at P n P n Q (read m (level (under k)) (drop at s)) (λ a d r. read m (onward k a d) r) r (h.agrees m (omega arith)) (λ a d u l. onward_deep left m k a d u l));
   }
 
-  pub chain_start : (Q : List ℕ) (i n₁ : ℕ) → Agrees s at left (under k) P n Q (Ended i n₁) → length Q ≡ length P → Walking s at left k P n i Q n₁
+  pub chain_start : (Q : List ℕ) (i n₁ : ℕ) → Agrees s at left (under k) P n Q (ended i n₁) → length Q ≡ length P → Walking s at left k P n i Q n₁
   chain_start Q i n₁ h long =
       let u = rank_under k in
       let v = moved s at left (under k) P n Q i n₁ h in
@@ -452,7 +445,7 @@ module _ (s : List ℕ) (at left : ℕ) (k : Chain) (P : List ℕ) (n : ℕ) (re
       }
 
   module _ (Q : List ℕ) (i n₁ j b : ℕ) (t : Bool) (w : Walking s at left k P n i Q n₁) (p : AtSpot s i j b) (tested : t ≡ is_some (which k b)) where
-    pub loop_end : t ≡ false → Agrees s at left (chain k) P n Q (Ended i n₁)
+    pub loop_end : t ≡ false → Agrees s at left (chain k) P n Q (ended i n₁)
     loop_end none_left = record {
       agrees = λ fuel q.
           let u = rank_under k in
@@ -502,8 +495,8 @@ module _ (s : List ℕ) (at left : ℕ) (k : Chain) (P : List ℕ) (n : ℕ) (re
           ∙ link_is m (drop i s) k c.expr c.depth x (ap (which k) p.leads ∙ z)
           ∙ ap (λ (t : List ℕ). after (read m (level (under k)) t) (λ v f r. read m (onward k (linked k x c.expr v) (max c.depth f)) r)) (p.pasts nz ∙ ap (λ (y : ℕ). drop y s) (sym (add-one j)))
 
-      pub loop_stuck : (R : List ℕ) (r : Parse) → Agrees s (j + 1) left (under k) Q n₁ R r → NotEnded r → Agrees s at left (chain k) P n R r
-      loop_stuck R r h np = record {
+      pub loop_stuck : (R : List ℕ) (r : Refusal) → Agrees s (j + 1) left (under k) Q n₁ R (Err r) → Agrees s at left (chain k) P n R (Err r)
+      loop_stuck R r h = record {
         agrees = λ fuel q.
             let u = rank_under k in
             let c = w.come fuel q in
@@ -513,12 +506,12 @@ module _ (s : List ℕ) (at left : ℕ) (k : Chain) (P : List ℕ) (n : ℕ) (re
             let pi = p.inside nz in
             let mo = c.more in
             let (m, e) = positive c.fuel (omega arith) in
-            same s left at P n R r (link_at fuel m c e)
-            (push s left left (j + 1) at Q n₁ P n R (read m (level (under k)) (drop (j + 1) s)) (λ v f r. read m (onward k (linked k x c.expr v) (max c.depth f)) r) r np (h.agrees m (omega arith))
+            same s left at P n R (Err r) (link_at fuel m c e)
+            (push s left left (j + 1) at Q n₁ P n R (read m (level (under k)) (drop (j + 1) s)) (λ v f r. read m (onward k (linked k x c.expr v) (max c.depth f)) r) r (h.agrees m (omega arith))
             (λ a d t l. onward_deep left m k (linked k x c.expr a) (max c.depth d) t (omega arith)));
       }
 
-      module _ (R : List ℕ) (i₂ n₂ : ℕ) (h : Agrees s (j + 1) left (under k) Q n₁ R (Ended i₂ n₂)) (long : length R ≡ length Q) where
+      module _ (R : List ℕ) (i₂ n₂ : ℕ) (h : Agrees s (j + 1) left (under k) Q n₁ R (ended i₂ n₂)) (long : length R ≡ length Q) where
         -- there is a place for the sign's word
         pub loop_room : (n₂ < length R) × (n₂ < most_bytes)
         loop_room =
@@ -578,30 +571,10 @@ module _ (s : List ℕ) (at left : ℕ) (k : Chain) (P : List ℕ) (n : ℕ) (re
             word_token : token_at s word ≡ join (join_of k x)
             word_token = ap (token_at s) same_word ∙ join_token s k b x z
 
--- ---- the loop of a chain: the first operand stands before it
-
-pub record Started (s : List ℕ) (at left : ℕ) (k : Chain) (P : List ℕ) (n : ℕ) (Q : List ℕ) (i m : ℕ) : Type 0 where
-  pub ready : ReaderStarts s at P n
-  pub first : Agrees s at left (under k) P n Q (Ended i m)
-  pub long : length Q ≡ length P
-
--- from any program before the first operand
-pub record Looping (s : List ℕ) (at left : ℕ) (k : Chain) (n : ℕ) (Q : List ℕ) (i m : ℕ) (R : List ℕ) (i₂ m₂ : ℕ) : Type 0 where
-  pub walk : (P : List ℕ) → Started s at left k P n Q i m → Walking s at left k P n i₂ R m₂
-
-pub looping_start : (s : List ℕ) (at left : ℕ) (k : Chain) (n : ℕ) (Q : List ℕ) (i m : ℕ) → Looping s at left k n Q i m Q i m
-looping_start s at left k n Q i m = record { walk = λ P st. chain_start s at left k P n st.ready Q i m st.first st.long }
-
-pub looping_on : (s : List ℕ) (at left : ℕ) (k : Chain) (n : ℕ) (Q : List ℕ) (i m : ℕ) (R : List ℕ) (i₂ m₂ : ℕ) → Looping s at left k n Q i m R i₂ m₂
-    → (j b : ℕ) (t : Bool) → AtSpot s i₂ j b → t ≡ is_some (which k b) → t ≡ true
-    → (S : List ℕ) (i₃ m₃ : ℕ) → Agrees s (j + 1) left (under k) R m₂ S (Ended i₃ m₃) → length S ≡ length R → (word : ℕ) → word ≡ join_word b → Looping s at left k n Q i m (set S m₃ word) i₃ (m₃ + 1)
-looping_on s at left k n Q i m R i₂ m₂ w j b t p tested so S i₃ m₃ h long word e =
-    record { walk = λ P st. loop_on s at left k P n st.ready R i₂ m₂ j b t (w.walk P st) p tested so S i₃ m₃ h long word e }
-
 -- ---- places for words
 
 -- after an operand that starts one byte on
-pub room_on : (s : List ℕ) (at : ℕ) (P : List ℕ) (n : ℕ) → ReaderStarts s at P n → (j c : ℕ) → AtSpot s at j c → (c ≡ 0 → ⊥) → (left : ℕ) (l : Level) (Q : List ℕ) (i n₁ : ℕ) → Agrees s (j + 1) left l P n Q (Ended i n₁) → length Q ≡ length P → (n₁ < length Q) × (n₁ < most_bytes)
+pub room_on : (s : List ℕ) (at : ℕ) (P : List ℕ) (n : ℕ) → ReaderStarts s at P n → (j c : ℕ) → AtSpot s at j c → (c ≡ 0 → ⊥) → (left : ℕ) (l : Level) (Q : List ℕ) (i n₁ : ℕ) → Agrees s (j + 1) left l P n Q (ended i n₁) → length Q ≡ length P → (n₁ < length Q) × (n₁ < most_bytes)
 room_on s at P n ready j c p z left l Q i n₁ k long =
     let v = moved s (j + 1) left l P n Q i n₁ k in
     let a = v.room in
@@ -614,8 +587,8 @@ room_on s at P n ready j c p z left l Q i n₁ k long =
     (omega (arith, a, b, d, lo, x, r, long), omega (arith, a, b, d, lo, x, r, q))
 
 -- after a factor, a ^ and a power
-pub room_raised : (s : List ℕ) (at left : ℕ) (P : List ℕ) (n : ℕ) → ReaderStarts s at P n → (Q : List ℕ) (i n₁ : ℕ) → Agrees s at left factor P n Q (Ended i n₁) → (j c : ℕ) → AtSpot s i j c → c ≡ 94
-    → (R : List ℕ) (t n₂ : ℕ) → Agrees s (j + 1) (left - 1) power Q n₁ R (Ended t n₂) → length Q ≡ length P → length R ≡ length Q → (n₂ < length R) × (n₂ < most_bytes)
+pub room_raised : (s : List ℕ) (at left : ℕ) (P : List ℕ) (n : ℕ) → ReaderStarts s at P n → (Q : List ℕ) (i n₁ : ℕ) → Agrees s at left factor P n Q (ended i n₁) → (j c : ℕ) → AtSpot s i j c → c ≡ 94
+    → (R : List ℕ) (t n₂ : ℕ) → Agrees s (j + 1) (left - 1) power Q n₁ R (ended t n₂) → length Q ≡ length P → length R ≡ length Q → (n₂ < length R) × (n₂ < most_bytes)
 room_raised s at left P n ready Q i n₁ h j c p z R t n₂ k long wide =
     let u = moved s at left factor P n Q i n₁ h in
     let v = moved s (j + 1) (left - 1) power Q n₁ R t n₂ k in
@@ -630,6 +603,11 @@ room_raised s at left P n ready Q i n₁ h j c p z R t n₂ k long wide =
     let q = ready.small in
     (omega (arith, a, b, d, e, f, lo, x, r, long, wide), omega (arith, a, b, d, e, f, lo, x, r, q))
 
--- lengths through two calls and a word
-pub long_set : (S R Q : List ℕ) (m w : ℕ) → length S ≡ length R → length R ≡ length Q → length (set S m w) ≡ length Q
-long_set S R Q m w e f = length-set S m w ∙ e ∙ f
+-- the calls' order where none has moved on: an operand is one level below its chain
+abbrev pub operand_rank : ChainKind → ℕ
+operand_rank Products = 3
+operand_rank Sums = 5
+
+pub operand_ranks : (k : ChainKind) → (3 ≤ operand_rank k) × (operand_rank k ≤ 5)
+operand_ranks Products = (omega arith, omega arith)
+operand_ranks Sums = (omega arith, omega arith)

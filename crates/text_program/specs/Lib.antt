@@ -1,4 +1,3 @@
-pub mod Kinds
 pub mod Words
 pub mod Readers
 pub mod Numbers

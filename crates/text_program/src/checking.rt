@@ -1,43 +1,30 @@
-// The check of a text, all before any name or node is made: 1, 11, 12, and 10 over its program.
-ghost use Rattle.std.specs.Prelude.{◌≡◌, ◌≤◌, length};
+// The check of a text, all before any name or node is made: its length, the language, its depth, and the NaNs of its program.
+ghost use Rattle.std.specs.Prelude.{◌≡◌, length};
 ghost use Rattle.text_language.specs.Program.{token_at, tokens};
 ghost use Rattle.text_language.specs.Reading.{nan_token, any_nan, most_bytes};
 ghost use Rattle.text_program.specs.Compiling.{Compiles};
 
 use crate::numbers::bits_at;
 use crate::places::name_starts;
-use crate::readers::{Parse, sum};
+use crate::readers::{ChainKind, chain};
 use crate::scanning::scan;
 use crate::words::FIRST_OPERATOR;
-use text_language::{BAD_TEXT, MOST_BYTES, MOST_NESTED, NESTED_TOO_DEEP, OUTSIDE_LANGUAGE, is_nan};
+use refusal::Refusal;
+use text_language::{MOST_BYTES, MOST_NESTED, is_nan};
 
-// The size of a text's program, or the number of a refusal.
-#[derive(Clone, Copy)]
-pub enum Checked {
-    Program(usize),
-    Refused(u64),
-}
-
-// The program of a text, or 1, 11 or 12.
-pub fn compile(text: &[u8], program: &mut [u16]) -> Checked
+/// The size of a text's program, whose words stand at the start of `program`; or why the text has none.
+pub fn compile(text: &[u8], program: &mut [u16]) -> Result<usize, Refusal>
     requires { length program.old ≡ most_bytes }
     ensures { Compiles text.now program.new result }
 {
-    if text.len() == 0 {
-        return Checked::Refused(BAD_TEXT);
-    }
-    if text.len() > MOST_BYTES {
-        return Checked::Refused(BAD_TEXT);
+    if text.is_empty() || text.len() > MOST_BYTES {
+        return Err(Refusal::BadInput);
     }
     if !scan(text) {
-        return Checked::Refused(OUTSIDE_LANGUAGE);
+        return Err(Refusal::OutsideLanguage);
     }
-    let parse = sum(text, 0, MOST_NESTED, program, 0);
-    match parse {
-        Parse::Ended { next: _, size } => Checked::Program(size),
-        Parse::Outside => Checked::Refused(OUTSIDE_LANGUAGE),
-        Parse::TooDeep => Checked::Refused(NESTED_TOO_DEEP),
-    }
+    let whole = chain(ChainKind::Sums, text, 0, MOST_NESTED, program, 0)?;
+    Ok(whole.size)
 }
 
 // Whether a word is a number's whose bits are a NaN.
@@ -51,21 +38,18 @@ fn nan_word(text: &[u8], word: u16) -> bool
     if name_starts(text, at) {
         return false;
     }
-    is_nan(bits_at(text, at))
+    let bits = bits_at(text, at);
+    is_nan(bits)
 }
 
-// Whether a program has such a word: 10.
-pub fn any_nan(text: &[u8], program: &[u16], size: usize) -> bool
-    requires { size ≤ length program.now }
-    ensures { result ≡ any_nan (tokens text.now program.now size) }
+/// Whether a program has a number whose bits are a NaN.
+pub fn any_nan(text: &[u8], program: &[u16]) -> bool
+    ensures { result ≡ any_nan (tokens text.now program.now (length program.now)) }
 {
-    let mut i: usize = 0;
-    while i < size {
-        let word = program[i];
-        if nan_word(text, word) {
+    for word in program {
+        if nan_word(text, *word) {
             return true;
         }
-        i += 1;
     }
     false
 }

@@ -1,7 +1,6 @@
-// A typed text as a program: the scan says whether it is in the language, and four readers that call each other emit its words.
+// A typed text as a program: the scan says whether it is in the language, and readers that call each other emit its words.
 #![tactic(auto)]
 
-mod bytes;
 mod checking;
 mod numbers;
 mod places;
@@ -9,7 +8,7 @@ mod readers;
 mod scanning;
 mod words;
 
-pub use checking::{Checked, any_nan, compile};
+pub use checking::{any_nan, compile};
 pub use numbers::bits_at;
 pub use places::{name_end, name_starts};
 pub use words::{FIRST_OPERATOR, operand_count};

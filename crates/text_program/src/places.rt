@@ -1,31 +1,23 @@
 // Where the parts of a text stand.
-ghost use Rattle.std.specs.Prelude.{◌≡◌, ◌+◌, ◌≤◌, ◌<◌, length, get_or};
-ghost use Rattle.text_language.specs.Grammar.{is_letter};
+ghost use Rattle.std.specs.Prelude.{◌≡◌, ◌+◌, ◌≤◌, ◌<◌, ℕ, Bool, length, get_or};
+ghost use Rattle.text_language.specs.Grammar.{is_letter, is_word};
 ghost use Rattle.text_language.specs.Places.{AtSpot, ScanRan};
-ghost use Rattle.text_program.specs.Kinds.{letter_or_digit_kind, later_name_bytes};
-ghost use Rattle.text_program.specs.Readers.{AtomEnds};
+ghost use Rattle.text_program.specs.Readers.{AtomEnds, Decides, later_name_bytes};
 
-use crate::bytes::{DIGIT, HEX_DIGIT, LETTER_OR_DIGIT, is_digit, is_letter, passes};
+use text_bytes::{is_digit, is_hex, is_letter, is_word};
 
 // A number has 1 to 9 digits, so that 8 may follow the first.
 const LATER_DIGITS: usize = 8;
 
-// "Names are a letter, then letters or digits, 32 at most": 31 may follow the letter.
+// A name has at most 32 bytes, so that 31 may follow its letter.
 const LATER_NAME_BYTES: usize = 31;
 
 // A constant's bits have 16 hex digits.
 pub(crate) const BITS_DIGITS: usize = 16;
 
-// The end of a number or a name, if there is one.
-#[derive(Clone, Copy)]
-pub enum End {
-    At(usize),
-    Nowhere,
-}
-
 // The first byte that is no blank, 0 at the end, and its place.
 #[derive(Clone, Copy)]
-pub struct NextByte {
+pub(crate) struct NextByte {
     pub at: usize,
     pub byte: u8,
 }
@@ -34,77 +26,70 @@ pub(crate) fn next_byte(text: &[u8], from: usize) -> NextByte
     requires { from ≤ length text.now }
     ensures { AtSpot text.now from result.at result.byte }
 {
-    let mut i = from;
-    while i < text.len() {
-        let c = text[i];
-        if c != b' ' {
-            return NextByte { at: i, byte: c };
+    for at in from..text.len() {
+        let byte = text[at];
+        if byte != b' ' {
+            return NextByte { at, byte };
         }
-        i += 1;
     }
-    NextByte { at: i, byte: 0 }
+    NextByte {
+        at: text.len(),
+        byte: 0,
+    }
 }
 
-// The end of as many bytes of a kind as there are, at most so many.
-pub(crate) fn run_end(text: &[u8], from: usize, kind: u8, most: usize) -> usize
-    requires { from ≤ length text.now }
-    ensures { ScanRan text.now from kind most result }
+// The end of as many bytes that pass a test as there are from a place on, at most so many.
+pub(crate) fn run_end<F: Fn(u8) -> bool>(text: &[u8], from: usize, passes: F, most: usize) -> usize
+    requires inside { from ≤ length text.now }
+    requires callable { F.IsAlwaysCallable passes }
+    ensures { (p : ℕ → Bool) → Decides (F.post passes) p → ScanRan text.now from p most result }
 {
-    let mut i = from;
-    let mut left = most;
-    while left > 0 {
-        if i >= text.len() {
-            return i;
+    for passed in 0..most {
+        let at = from + passed;
+        if at >= text.len() || !passes(text[at]) {
+            return at;
         }
-        if !passes(kind, text[i]) {
-            return i;
-        }
-        i += 1;
-        left -= 1;
     }
-    i
+    from + most
 }
 
-// The end of the number or name that starts at a place.
-pub(crate) fn atom(text: &[u8], at: usize) -> End
+// The end of the number or name that starts at a place, if there is one.
+pub(crate) fn atom_end(text: &[u8], at: usize) -> Option<usize>
     requires { at ≤ length text.now }
     ensures { AtomEnds text.now at result }
 {
     if at >= text.len() {
-        return End::Nowhere;
+        return None;
     }
-    let c = text[at];
-    if is_digit(c) {
-        return End::At(run_end(text, at + 1, DIGIT, LATER_DIGITS));
+    let first = text[at];
+    if is_digit(first) {
+        return Some(run_end(text, at + 1, is_digit, LATER_DIGITS));
     }
-    if is_letter(c) {
-        return End::At(run_end(text, at + 1, LETTER_OR_DIGIT, LATER_NAME_BYTES));
+    if is_letter(first) {
+        return Some(name_end(text, at));
     }
-    if c != b'#' {
-        return End::Nowhere;
+    if first != b'#' {
+        return None;
     }
-    let end = run_end(text, at + 1, HEX_DIGIT, BITS_DIGITS);
+    let end = run_end(text, at + 1, is_hex, BITS_DIGITS);
     if end - (at + 1) == BITS_DIGITS {
-        End::At(end)
+        Some(end)
     } else {
-        End::Nowhere
+        None
     }
 }
 
-// Whether a letter stands at a place.
+/// Whether a letter stands at a place.
 pub fn name_starts(text: &[u8], at: usize) -> bool
     ensures { result ≡ is_letter (get_or text.now at 0) }
 {
-    if at >= text.len() {
-        return false;
-    }
-    is_letter(text[at])
+    at < text.len() && is_letter(text[at])
 }
 
-// The end of the name that starts at a place.
+/// The end of the name that starts at a place.
 pub fn name_end(text: &[u8], at: usize) -> usize
     requires { at < length text.now }
-    ensures { ScanRan text.now (at + 1) letter_or_digit_kind later_name_bytes result }
+    ensures { ScanRan text.now (at + 1) is_word later_name_bytes result }
 {
-    run_end(text, at + 1, LETTER_OR_DIGIT, LATER_NAME_BYTES)
+    run_end(text, at + 1, is_word, LATER_NAME_BYTES)
 }

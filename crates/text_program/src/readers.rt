@@ -1,162 +1,159 @@
-// The four readers: each reads one level of a text, counts what nests, and emits the words of its program.
-ghost use Rattle.text_language.specs.Grammar.{chain, sums, products, power, factor};
-ghost use Rattle.text_program.specs.Readers.{ReaderStarts, Agrees};
+// The readers: each reads one level of a text, counts what nests, and emits the words of its program.
+ghost use Rattle.std.specs.Prelude.{◌≡◌};
+ghost use Rattle.text_language.specs.Grammar.{chain, under, power, factor};
+ghost use Rattle.text_language.specs.Reader.{which, is_some};
+ghost use Rattle.text_program.specs.Readers.{ReaderStarts, Agrees, chain_of};
 
-use crate::bytes::{adds, multiplies};
-use crate::places::{End, atom, next_byte};
+use crate::places::{atom_end, next_byte};
 use crate::words::{NEGATE, RAISE, join_word};
+use refusal::Refusal;
+use text_bytes::{adds, multiplies};
 
-// Where a level of a text ends, with the size of its program; or why it has none.
+// A level of a text that was read: the text goes on here, and the program has so many words.
 #[derive(Clone, Copy)]
-pub enum Parse {
-    // The text goes on here, and the program has so many words.
-    Ended { next: usize, size: usize },
-    // The text is outside the language.
-    Outside,
-    // It nests deeper than was allowed.
-    TooDeep,
+pub(crate) struct Parsed {
+    pub next: usize,
+    pub size: usize,
 }
 
-// Products joined by + or -.
-#[cycle(factor_power_product_sum)]
-pub(crate) fn sum(text: &[u8], at: usize, left: usize, program: &mut [u16], size: usize) -> Parse
-    requires { ReaderStarts text.now at program.old size }
-    ensures { Agrees text.now at left (chain sums) program.old size program.new result }
-{
-    let first = product(text, at, left, program, size);
-    let Parse::Ended { next, size: grown } = first else {
-        return first;
-    };
-    let mut i = next;
-    let mut n = grown;
-    loop {
-        let mark = next_byte(text, i);
-        let byte = mark.byte;
-        let place = mark.at;
-        if !adds(byte) {
-            return Parse::Ended { next: i, size: n };
+// What two operands are joined by: sums are products joined by + or -, products are powers joined by * or /.
+#[derive(Clone, Copy, Debug, PartialEq, Eq)]
+pub(crate) enum ChainKind {
+    Sums,
+    Products,
+}
+
+impl ChainKind {
+    // Whether a byte is one of its signs.
+    fn links(self, byte: u8) -> bool
+        ensures { result ≡ is_some (which (chain_of self) byte) }
+    {
+        match self {
+            ChainKind::Sums => adds(byte),
+            ChainKind::Products => multiplies(byte),
         }
-        let more = product(text, place + 1, left, program, n);
-        let Parse::Ended { next: k, size: m } = more else {
-            return more;
-        };
-        program[m] = join_word(byte);
-        i = k;
-        n = m + 1;
     }
 }
 
-// Powers joined by * or /.
-#[cycle(factor_power_product_sum)]
-pub(crate) fn product(
+// Operands that are joined by a chain's signs, and group left.
+#[cycle(chain_factor_operand_power)]
+pub(crate) fn chain(
+    kind: ChainKind,
     text: &[u8],
     at: usize,
     left: usize,
     program: &mut [u16],
     size: usize,
-) -> Parse
+) -> Result<Parsed, Refusal>
     requires { ReaderStarts text.now at program.old size }
-    ensures { Agrees text.now at left (chain products) program.old size program.new result }
+    ensures { Agrees text.now at left (chain (chain_of kind)) program.old size program.new result }
 {
-    let first = power(text, at, left, program, size);
-    let Parse::Ended { next, size: grown } = first else {
-        return first;
-    };
-    let mut i = next;
-    let mut n = grown;
+    let mut read = operand(kind, text, at, left, program, size)?;
     loop {
-        let mark = next_byte(text, i);
-        let byte = mark.byte;
-        let place = mark.at;
-        if !multiplies(byte) {
-            return Parse::Ended { next: i, size: n };
+        let sign = next_byte(text, read.next);
+        if !kind.links(sign.byte) {
+            return Ok(read);
         }
-        let more = power(text, place + 1, left, program, n);
-        let Parse::Ended { next: k, size: m } = more else {
-            return more;
+        let more = operand(kind, text, sign.at + 1, left, program, read.size)?;
+        program[more.size] = join_word(sign.byte);
+        read = Parsed {
+            next: more.next,
+            size: more.size + 1,
         };
-        program[m] = join_word(byte);
-        i = k;
-        n = m + 1;
+    }
+}
+
+// An operand of a chain: of a sum a product, of a product a power.
+#[cycle(chain_factor_operand_power)]
+pub(crate) fn operand(
+    of: ChainKind,
+    text: &[u8],
+    at: usize,
+    left: usize,
+    program: &mut [u16],
+    size: usize,
+) -> Result<Parsed, Refusal>
+    requires { ReaderStarts text.now at program.old size }
+    ensures { Agrees text.now at left (under (chain_of of)) program.old size program.new result }
+{
+    match of {
+        ChainKind::Sums => chain(ChainKind::Products, text, at, left, program, size),
+        ChainKind::Products => power(text, at, left, program, size),
     }
 }
 
 // A factor with an optional ^ and power.
-#[cycle(factor_power_product_sum)]
-pub(crate) fn power(text: &[u8], at: usize, left: usize, program: &mut [u16], size: usize) -> Parse
+#[cycle(chain_factor_operand_power)]
+pub(crate) fn power(
+    text: &[u8],
+    at: usize,
+    left: usize,
+    program: &mut [u16],
+    size: usize,
+) -> Result<Parsed, Refusal>
     requires { ReaderStarts text.now at program.old size }
     ensures { Agrees text.now at left power program.old size program.new result }
 {
-    let first = factor(text, at, left, program, size);
-    let Parse::Ended { next, size: n } = first else {
-        return first;
-    };
-    let mark = next_byte(text, next);
-    let byte = mark.byte;
-    let place = mark.at;
-    if byte != b'^' {
-        return Parse::Ended { next, size: n };
+    let base = factor(text, at, left, program, size)?;
+    let sign = next_byte(text, base.next);
+    if sign.byte != b'^' {
+        return Ok(base);
     }
     if left == 0 {
-        return Parse::TooDeep;
+        return Err(Refusal::NestedTooDeep);
     }
-    let more = power(text, place + 1, left - 1, program, n);
-    let Parse::Ended { next: k, size: m } = more else {
-        return more;
-    };
-    program[m] = RAISE;
-    Parse::Ended {
-        next: k,
-        size: m + 1,
-    }
+    let exponent = power(text, sign.at + 1, left - 1, program, base.size)?;
+    program[exponent.size] = RAISE;
+    Ok(Parsed {
+        next: exponent.next,
+        size: exponent.size + 1,
+    })
 }
 
 // A number, a name, a minus factor or a sum in brackets.
-#[cycle(factor_power_product_sum)]
-pub(crate) fn factor(text: &[u8], at: usize, left: usize, program: &mut [u16], size: usize) -> Parse
+#[cycle(chain_factor_operand_power)]
+pub(crate) fn factor(
+    text: &[u8],
+    at: usize,
+    left: usize,
+    program: &mut [u16],
+    size: usize,
+) -> Result<Parsed, Refusal>
     requires { ReaderStarts text.now at program.old size }
     ensures { Agrees text.now at left factor program.old size program.new result }
 {
-    let mark = next_byte(text, at);
-    let byte = mark.byte;
-    let place = mark.at;
-    if byte == b'-' {
+    let first = next_byte(text, at);
+    if first.byte == b'-' {
         if left == 0 {
-            return Parse::TooDeep;
+            return Err(Refusal::NestedTooDeep);
         }
-        let inner = factor(text, place + 1, left - 1, program, size);
-        let Parse::Ended { next, size: n } = inner else {
-            return inner;
-        };
-        program[n] = NEGATE;
-        return Parse::Ended { next, size: n + 1 };
+        let inner = factor(text, first.at + 1, left - 1, program, size)?;
+        program[inner.size] = NEGATE;
+        return Ok(Parsed {
+            next: inner.next,
+            size: inner.size + 1,
+        });
     }
-    if byte == b'(' {
+    if first.byte == b'(' {
         if left == 0 {
-            return Parse::TooDeep;
+            return Err(Refusal::NestedTooDeep);
         }
-        let inner = sum(text, place + 1, left - 1, program, size);
-        let Parse::Ended { next, size: n } = inner else {
-            return inner;
-        };
-        let closing = next_byte(text, next);
-        let close = closing.byte;
-        let end = closing.at;
-        if close == b')' {
-            return Parse::Ended {
-                next: end + 1,
-                size: n,
-            };
+        let inner = chain(ChainKind::Sums, text, first.at + 1, left - 1, program, size)?;
+        let close = next_byte(text, inner.next);
+        if close.byte != b')' {
+            return Err(Refusal::OutsideLanguage);
         }
-        return Parse::Outside;
+        return Ok(Parsed {
+            next: close.at + 1,
+            size: inner.size,
+        });
     }
-    let end = atom(text, place);
-    let End::At(next) = end else {
-        return Parse::Outside;
+    let Some(next) = atom_end(text, first.at) else {
+        return Err(Refusal::OutsideLanguage);
     };
-    program[size] = place as u16;
-    Parse::Ended {
+    program[size] = first.at as u16;
+    Ok(Parsed {
         next,
         size: size + 1,
-    }
+    })
 }

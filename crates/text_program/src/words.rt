@@ -3,7 +3,7 @@ ghost use Rattle.std.specs.Prelude.{◌≡◌, List, ℕ};
 ghost use Rattle.text_language.specs.Program.{token_at, operands};
 ghost use Rattle.text_program.specs.Words.{join_word};
 
-// A word below this is the place of a number or a name; an operator's word is this and the code of its kind.
+/// A word below this is the place of a number or a name; an operator's word is this and the code of its kind.
 pub const FIRST_OPERATOR: u16 = 8192;
 
 const PLUS: u16 = FIRST_OPERATOR + 2;
@@ -22,33 +22,24 @@ pub(crate) const NEGATE: u16 = FIRST_OPERATOR + 8;
 pub(crate) fn join_word(byte: u8) -> u16
     ensures { result ≡ join_word byte }
 {
-    if byte == b'+' {
-        return PLUS;
+    match byte {
+        b'+' => PLUS,
+        b'-' => MINUS,
+        b'*' => TIMES,
+        b'/' => OVER,
+        _ => RAISE,
     }
-    if byte == b'-' {
-        return MINUS;
-    }
-    if byte == b'*' {
-        return TIMES;
-    }
-    if byte == b'/' {
-        return OVER;
-    }
-    RAISE
 }
 
-// How many results a word's token takes.
+/// How many results a word's token takes.
 pub fn operand_count(word: u16) -> usize
     ensures { (text : List ℕ) → result ≡ operands (token_at text word) }
 {
     if word < FIRST_OPERATOR {
         return 0;
     }
-    if word < PLUS {
-        return 1;
+    match word {
+        PLUS..=RAISE => 2,
+        _ => 1,
     }
-    if RAISE < word {
-        return 1;
-    }
-    2
 }

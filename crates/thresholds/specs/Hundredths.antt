@@ -1,5 +1,5 @@
--- The settings of 01: "Setting n, 10 to 100, is the binary64 number nearest 10^((3n-400)/100)". 02 (m): "Old setting n is new setting 2n,
--- and both tables agree there." Definitions only.
+-- The settings of the older knob: "Setting n, 10 to 100, is the binary64 number nearest 10^((3n-400)/100)". "Old setting n is new setting
+-- 2n, and both tables agree there." Definitions only.
 use Rattle.std.specs.Prelude.{◌≡◌, List, [], ◌∷◌, ℕ, ◌-◌, ◌*◌, ◌≤◌, get_or}
 use Rattle.thresholds.specs.Nearest.{Scale, Nearest, TableNearest}
 use Rattle.thresholds.specs.Thresholds.{half_hundredths, threshold}

@@ -1,4 +1,4 @@
--- The thresholds of settings. 02 (m): "A table holds the 181 binary64 numbers nearest to 10^((3n-800)/200), n from 20 to 200". Definitions
+-- The thresholds of settings: "A table holds the 181 binary64 numbers nearest to 10^((3n-800)/200), n from 20 to 200". Definitions
 -- only.
 use Rattle.std.specs.Prelude.{◌≡◌, List, [], ◌∷◌, ℕ, ◌-◌, ◌≤◌, get_or}
 use Rattle.thresholds.specs.Nearest.{Scale, Nearest, TableNearest}

@@ -1,4 +1,4 @@
 pub mod Stacks
 pub mod Descending
-pub mod Settling
+pub mod Refusing
 pub mod Turning

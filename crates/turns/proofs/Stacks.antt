@@ -1,5 +1,5 @@
--- The walk's arrays as lists, and what keeps them valid.
-use Prim.Native.Nat.{ℕ, zero, suc, ◌+◌, ◌-◌, ◌*◌, ◌≤◌, ◌<◌}
+-- The walk's stack as lists, and what keeps them valid.
+use Prim.Native.Nat.{ℕ, zero, suc, ◌+◌, ◌*◌, ◌≤◌, ◌<◌}
 use mathlib.Core.Path.{◌≡◌, refl, sym, ap, ap₂, ◌∙◌, subst}
 use mathlib.Core.List.{List, [], ◌∷◌, ◌++◌, append_assoc, append-nil}
 use mathlib.Core.Logic.{◌⊎◌, inl, inr}
@@ -11,7 +11,8 @@ use native.Mathlib.Numerals.{add-one}
 use Rattle.definitions.specs.Limits.{most_children}
 use Rattle.definitions.specs.Node.{Node, at}
 use Rattle.definitions.specs.Walk.{Frame, frame, reverse_onto}
-use Rattle.turns.specs.Stack.{frames_of, values_of, ValuesBelow, Waiting, held, Valid}
+use Rattle.turns.specs.declared.state.Frame as Code
+use Rattle.turns.specs.Stack.{blank, frames_of, values_of, ValuesBelow, Waiting, held, Valid}
 
 -- ---- writes above what is read
 
@@ -19,15 +20,10 @@ values_above : (vs : List ℕ) (i v n : ℕ) → n ≤ i → values_of (set vs i
 values_above vs i v zero l = refl
 values_above vs i v (suc n) l = ap₂ (λ (x : ℕ) (r : List ℕ). x ∷ r) (get_or-set_other vs i n v 0 (λ e. omega arith)) (values_above vs i v n (omega arith))
 
-ids_above : (ids cs : List ℕ) (i v n : ℕ) → n ≤ i → frames_of (set ids i v) cs n ≡ frames_of ids cs n
-ids_above ids cs i v zero l = refl
-ids_above ids cs i v (suc n) l =
-    ap₂ (λ (x : ℕ) (r : List Frame). frame x n (get_or cs n 0) ∷ r) (get_or-set_other ids i n v 0 (λ e. omega arith)) (ids_above ids cs i v n (omega arith))
-
-cursors_above : (ids cs : List ℕ) (i v n : ℕ) → n ≤ i → frames_of ids (set cs i v) n ≡ frames_of ids cs n
-cursors_above ids cs i v zero l = refl
-cursors_above ids cs i v (suc n) l =
-    ap₂ (λ (x : ℕ) (r : List Frame). frame (get_or ids n 0) n x ∷ r) (get_or-set_other cs i n v 0 (λ e. omega arith)) (cursors_above ids cs i v n (omega arith))
+frames_above : (frames : List Code.Frame) (i : ℕ) (f : Code.Frame) (n : ℕ) → n ≤ i → frames_of (set frames i f) n ≡ frames_of frames n
+frames_above frames i f zero l = refl
+frames_above frames i f (suc n) l =
+    ap₂ (λ (x : Code.Frame) (r : List Frame). frame x.id n x.taken ∷ r) (get_or-set_other frames i n f blank (λ e. omega arith)) (frames_above frames i f n (omega arith))
 
 -- a value on top
 pub push_value : (vs : List ℕ) (i v : ℕ) → i < length vs → values_of (set vs i v) (i + 1) ≡ v ∷ values_of vs i
@@ -35,21 +31,16 @@ push_value vs i v l =
     ap (values_of (set vs i v)) (add-one i)
     ∙ ap₂ (λ (x : ℕ) (r : List ℕ). x ∷ r) (get_or-set_same vs i v 0 l) (values_above vs i v i (omega arith))
 
--- the top frame's cursor
-pub set_cursor : (ids cs : List ℕ) (n v : ℕ) → n < length cs → frames_of ids (set cs n v) (suc n) ≡ frame (get_or ids n 0) n v ∷ frames_of ids cs n
-set_cursor ids cs n v l = ap₂ (λ (x : ℕ) (r : List Frame). frame (get_or ids n 0) n x ∷ r) (get_or-set_same cs n v 0 l) (cursors_above ids cs n v n (omega arith))
-
 -- a frame on top
-pub push_frame : (ids cs : List ℕ) (n i v : ℕ) → n < length ids → n < length cs → frames_of (set ids n i) (set cs n v) (suc n) ≡ frame i n v ∷ frames_of ids cs n
-push_frame ids cs n i v l m =
-    ap₂ (λ (x y : ℕ). frame x n y ∷ frames_of (set ids n i) (set cs n v) n) (get_or-set_same ids n i 0 l) (get_or-set_same cs n v 0 m)
-    ∙ ap (λ (r : List Frame). frame i n v ∷ r) (ids_above ids (set cs n v) n i n (omega arith) ∙ cursors_above ids cs n v n (omega arith))
+pub set_top : (frames : List Code.Frame) (n : ℕ) (f : Code.Frame) → n < length frames → frames_of (set frames n f) (suc n) ≡ frame f.id n f.taken ∷ frames_of frames n
+set_top frames n f l =
+    ap₂ (λ (x : Code.Frame) (r : List Frame). frame x.id n x.taken ∷ r) (get_or-set_same frames n f blank l) (frames_above frames n f n (omega arith))
 
 -- ---- reading
 
-pub frames_length : (ids cs : List ℕ) (n : ℕ) → length (frames_of ids cs n) ≡ n
-frames_length ids cs zero = refl
-frames_length ids cs (suc n) = ap suc (frames_length ids cs n)
+pub frames_length : (frames : List Code.Frame) (n : ℕ) → length (frames_of frames n) ≡ n
+frames_length frames zero = refl
+frames_length frames (suc n) = ap suc (frames_length frames n)
 
 pub values_length : (vs : List ℕ) (n : ℕ) → length (values_of vs n) ≡ n
 values_length vs zero = refl

@@ -1,32 +1,30 @@
--- The walk's arrays as the plain machine's frames and values, and what holds of them between turns.
-use Rattle.std.specs.Prelude.{ℕ, zero, suc, ◌+◌, ◌-◌, ◌*◌, ◌≤◌, ◌<◌, ◌≡◌, List, [], ◌∷◌, length, get_or}
+-- The walk's stack as the plain machine's frames and values, and what holds of it between turns.
+use Rattle.std.specs.Prelude.{ℕ, zero, suc, ◌+◌, ◌-◌, ◌*◌, ◌≤◌, ◌<◌, ◌≡◌, List, [], ◌∷◌, length, get_or, set, replicate}
 use Rattle.definitions.specs.Limits.{most_depth, most_children}
 use Rattle.definitions.specs.Node.{Node, at}
 use Rattle.definitions.specs.Walk.{Frame, frame}
+use Rattle.turns.specs.declared.state.Frame as Code
+use Rattle.turns.specs.declared.state.Stack.{Stack}
 
 -- "filled arrays of 256 frames"
 abbrev pub most_frames : ℕ
 most_frames = 256
 
--- 02 (g), "a walk holds at most 16 values a frame"
+-- at most 16 values a frame
 abbrev pub most_values : ℕ
 most_values = most_frames * most_children
 
--- the ids and cursors of frames, the values, and how many frames and values are in use
-pub record Stack : Type 0 where
-  pub ids : List ℕ
-  pub cursors : List ℕ
-  pub values : List ℕ
-  pub frames : ℕ
-  pub filled : ℕ
+-- a frame in the array, and one that is not in use
+abbrev pub framed : ℕ → ℕ → Code.Frame
+framed id taken = record { id = id; taken = taken }
 
-abbrev pub stack : List ℕ → List ℕ → List ℕ → ℕ → ℕ → Stack
-stack ids cursors values frames filled = record { ids = ids; cursors = cursors; values = values; frames = frames; filled = filled }
+abbrev pub blank : Code.Frame
+blank = framed 0 0
 
 -- the frames, the top first: a frame's depth is its place
-abbrev pub frames_of : List ℕ → List ℕ → ℕ → List Frame
-frames_of ids cursors zero = []
-frames_of ids cursors (suc n) = frame (get_or ids n 0) n (get_or cursors n 0) ∷ frames_of ids cursors n
+abbrev pub frames_of : List Code.Frame → ℕ → List Frame
+frames_of frames zero = []
+frames_of frames (suc n) = frame (get_or frames n blank).id n (get_or frames n blank).taken ∷ frames_of frames n
 
 -- the values, the last first
 abbrev pub values_of : List ℕ → ℕ → List ℕ
@@ -34,23 +32,45 @@ values_of values zero = []
 values_of values (suc n) = get_or values n 0 ∷ values_of values n
 
 abbrev pub frames_in : Stack → List Frame
-frames_in k = frames_of k.ids k.cursors k.frames
+frames_in k = frames_of k.frames k.depth
 
 abbrev pub values_in : Stack → List ℕ
 values_in k = values_of k.values k.filled
 
 -- the parts of the top frame, and the frames under it
 abbrev pub top_id : Stack → ℕ
-top_id k = get_or k.ids (k.frames - 1) 0
+top_id k = (get_or k.frames (k.depth - 1) blank).id
 
-abbrev pub top_cursor : Stack → ℕ
-top_cursor k = get_or k.cursors (k.frames - 1) 0
+abbrev pub top_taken : Stack → ℕ
+top_taken k = (get_or k.frames (k.depth - 1) blank).taken
 
 abbrev pub top_frame : Stack → Frame
-top_frame k = frame (top_id k) (k.frames - 1) (top_cursor k)
+top_frame k = frame (top_id k) (k.depth - 1) (top_taken k)
 
 abbrev pub frames_under : Stack → List Frame
-frames_under k = frames_of k.ids k.cursors (k.frames - 1)
+frames_under k = frames_of k.frames (k.depth - 1)
+
+-- ---- what is done with it
+
+-- a stack with a frame for the root
+abbrev pub new_stack : ℕ → Stack
+new_stack root = record { frames = set (replicate most_frames blank) 0 (framed root 0); values = replicate most_values 0; depth = 1; filled = 0 }
+
+-- one child more of the top frame has been taken
+abbrev pub counted : Stack → Stack
+counted k = record { frames = set k.frames (k.depth - 1) (framed (top_id k) (top_taken k + 1)); values = k.values; depth = k.depth; filled = k.filled }
+
+-- a frame on top
+abbrev pub pushed : Stack → ℕ → Stack
+pushed k id = record { frames = set k.frames k.depth (framed id 0); values = k.values; depth = k.depth + 1; filled = k.filled }
+
+-- a value on top
+abbrev pub given : Stack → ℕ → Stack
+given k value = record { frames = k.frames; values = set k.values k.filled value; depth = k.depth; filled = k.filled + 1 }
+
+-- the top frame gone, with a value in place of those from a place on
+abbrev pub left : Stack → ℕ → ℕ → Stack
+left k base value = record { frames = k.frames; values = set k.values base value; depth = k.depth - 1; filled = base + 1 }
 
 -- ---- what holds between turns
 
@@ -77,13 +97,12 @@ Valid ns (f ∷ fs) vs =
 
 -- the arrays are whole
 pub record Whole (k : Stack) : Type 0 where
-  pub ids : length k.ids ≡ most_frames
-  pub cursors : length k.cursors ≡ most_frames
+  pub frames : length k.frames ≡ most_frames
   pub values : length k.values ≡ most_values
 
 -- all of it, at a depth limit
 pub record Invariant (ns : List Node) (limit : ℕ) (k : Stack) : Type 0 where
   pub listed : limit ≤ most_depth
-  pub deep : k.frames ≤ limit + 1
+  pub deep : k.depth ≤ limit + 1
   pub whole : Whole k
   pub valid : Valid ns (frames_in k) (values_in k)

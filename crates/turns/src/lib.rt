@@ -1,4 +1,4 @@
-// A turn of the walk's loop (01, "engine: the walk").
+// A turn of the walk's loop.
 #![tactic(auto)]
 
 pub mod state;

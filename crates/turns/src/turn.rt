@@ -1,137 +1,73 @@
 // A turn of the walk's loop.
-ghost use Rattle.std.specs.Prelude.{◌≡◌};
-ghost use Rattle.definitions.specs.Node.{at};
+ghost use Rattle.std.specs.Prelude.{◌≡◌, ◌<◌};
 ghost use Rattle.definitions.specs.Modes.{mode_of};
 ghost use Rattle.definitions.specs.Walk.{taken_unwalked};
+ghost use Rattle.store.specs.Held.{held, node_in, SameLists};
 ghost use Rattle.store.specs.View.{nodes_in};
-ghost use Rattle.store.specs.Lookup.{Lookup};
-ghost use Rattle.rebuild.specs.Memory.{memory};
-ghost use Rattle.turns.specs.Stack.{stack};
-ghost use Rattle.turns.specs.Turns.{Descendable, Descends, Settleable, Settles, Turnable, Turns};
+ghost use Rattle.turns.specs.Turns.{Descendable, Descends, Turnable, Turns};
 
-use crate::state::{MOST_FRAMES, MOST_VALUES, Status, WalkProgress};
-use arena::DagArena;
+use crate::state::{Frame, Stack};
 use definitions::mode::Mode;
-use rebuild::Finished;
-use store::NodeAnswer;
+use refusal::Refusal;
+use store::Store;
 
-// 01: "A child that is a leaf or marked is taken unwalked"; a leaf has no children, and a strict walk heeds no marks (02 i).
-fn is_taken_unwalked(nodes: &[u64], count: u64, mode: Mode, id: u64) -> bool
-    requires { Lookup nodes.now count id }
-    ensures { result ≡ taken_unwalked (mode_of mode) (at (nodes_in nodes.now count) id) }
+// A child that is a leaf or marked is taken unwalked. A leaf has no children, and a strict walk heeds no marks.
+fn is_taken_unwalked(store: &Store, mode: Mode, id: u64) -> bool
+    requires { id < store.now.count }
+    ensures { result ≡ taken_unwalked (mode_of mode) (node_in store.now id) }
 {
-    if store::arity(nodes, count, id) == 0 {
+    if store.arity(id) == 0 {
         return true;
     }
     match mode {
-        Mode::Standard => store::is_canonical(nodes, count, id),
+        Mode::Standard => store.is_canonical(id),
         Mode::Strict => false,
     }
 }
 
-// A walk that goes on with so many frames and values.
-fn going(frames: usize, filled: usize, arena: DagArena) -> WalkProgress
-    ensures { result ≡ record { frames = frames; filled = filled; arena = arena; status = Status.Going } }
-{
-    WalkProgress {
-        frames,
-        filled,
-        arena,
-        status: Status::Going,
-    }
-}
-
 // The next child of the top frame: its id as a value, or a frame for it.
-fn descend(
-    nodes: &[u64],
-    ids: &mut [u64; MOST_FRAMES],
-    cursors: &mut [usize; MOST_FRAMES],
-    values: &mut [u32; MOST_VALUES],
-    mode: Mode,
-    progress: WalkProgress,
-) -> WalkProgress
-    requires { Descendable nodes.now progress.arena.count
-        (stack ids.old cursors.old values.old progress.frames progress.filled) }
-    ensures { Descends (mode_of mode) (nodes_in nodes.now progress.arena.count)
-        (stack ids.old cursors.old values.old progress.frames progress.filled) progress
-        (stack ids.new cursors.new values.new result.frames result.filled) result }
+fn descend(store: &Store, stack: &mut Stack, mode: Mode)
+    requires { Descendable store.now.nodes.now store.now.count stack.old }
+    ensures { Descends (mode_of mode) (nodes_in store.now.nodes.now store.now.count) stack.old stack.new }
 {
-    let frames = progress.frames;
-    let filled = progress.filled;
-    let arena = progress.arena;
-    let count = arena.count;
-    let top = frames - 1;
-    let cursor = cursors[top];
-    let child = store::child(nodes, count, ids[top], cursor);
-    cursors[top] = cursor + 1;
-    if is_taken_unwalked(nodes, count, mode, child) {
-        values[filled] = child as u32;
-        return going(frames, filled + 1, arena);
+    let top = stack.depth - 1;
+    let Frame { id, taken } = stack.frames[top];
+    let child = store.children(id)[taken];
+    stack.frames[top] = Frame {
+        id,
+        taken: taken + 1,
+    };
+    if is_taken_unwalked(store, mode, child) {
+        stack.give(child);
+        return;
     }
-    ids[frames] = child;
-    cursors[frames] = 0;
-    going(frames + 1, filled, arena)
+    stack.push(child);
 }
 
-// What a finished frame leaves in a walk: its result as a value from a place on, or the refusal that stopped it.
-fn settle(
-    values: &mut [u32; MOST_VALUES],
-    base: usize,
-    finished: Finished,
-    progress: WalkProgress,
-) -> WalkProgress
-    requires { Settleable values.old base finished progress }
-    ensures { Settles values.old base finished progress values.new result }
+/// A turn at the top frame, which is left, or whose next child is taken.
+///
+/// # Errors
+///
+/// `NoNodePlace` or `NoSlotPlace`, where a frame's new node is refused. That stops the walk; what was interned and marked before stays.
+pub fn turn(store: &mut Store, stack: &mut Stack, mode: Mode, limit: usize) -> Result<(), Refusal>
+    requires { Turnable (held store.old) limit stack.old }
+    ensures same { SameLists store.old store.new }
+    ensures turns { Turns (mode_of mode) (held store.old) limit stack.old (held store.new) stack.new result }
 {
-    let arena = finished.arena;
-    let answer = finished.answer;
-    match answer {
-        NodeAnswer::Id(result) => {
-            values[base] = result as u32;
-            going(progress.frames - 1, base + 1, arena)
-        }
-        NodeAnswer::Refused(number) => WalkProgress {
-            frames: progress.frames,
-            filled: progress.filled,
-            arena,
-            status: Status::Stopped(number),
-        },
-    }
-}
-
-// A turn at the top frame.
-pub fn turn(
-    nodes: &mut [u64],
-    slots: &mut [u32],
-    ids: &mut [u64; MOST_FRAMES],
-    cursors: &mut [usize; MOST_FRAMES],
-    values: &mut [u32; MOST_VALUES],
-    mode: Mode,
-    limit: usize,
-    progress: WalkProgress,
-) -> WalkProgress
-    requires { Turnable (memory nodes.old slots.old progress.arena) limit
-        (stack ids.old cursors.old values.old progress.frames progress.filled) }
-    ensures { Turns (mode_of mode) (memory nodes.old slots.old progress.arena) limit
-        (stack ids.old cursors.old values.old progress.frames progress.filled)
-        (memory nodes.new slots.new result.arena)
-        (stack ids.new cursors.new values.new result.frames result.filled) result.status }
-{
-    let filled = progress.filled;
-    let arena = progress.arena;
-    let top = progress.frames - 1;
-    let id = ids[top];
-    let cursor = cursors[top];
-    let base = filled - cursor;
-    // 01: "A frame at the limit is its own value, unmarked."
+    let top = stack.depth - 1;
+    let Frame { id, taken } = stack.frames[top];
+    let base = stack.filled - taken;
+    // A frame at the limit is its own value, unmarked.
     if limit <= top {
-        values[base] = id as u32;
-        return going(top, base + 1, arena);
+        stack.leave(base, id);
+        return Ok(());
     }
-    if cursor < store::arity(nodes, arena.count, id) as usize {
-        return descend(nodes, ids, cursors, values, mode, progress);
+    if taken < store.arity(id) as usize {
+        descend(store, stack, mode);
+        return Ok(());
     }
-    let all = &values[..];
-    let finished = rebuild::finish(nodes, slots, arena, mode, id, &all[base..filled]);
-    settle(values, base, finished, progress)
+    let children = &stack.values[base..stack.filled];
+    let rewritten = rebuild::finish_in(store, mode, id, children)?;
+    stack.leave(base, rewritten.id);
+    Ok(())
 }

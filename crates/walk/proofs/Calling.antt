@@ -2,15 +2,13 @@
 use Prim.Native.Nat.{ℕ, ◌≤◌, ◌<◌}
 use mathlib.Core.Path.{◌≡◌, refl, sym, ap, ◌∙◌, subst}
 use mathlib.Core.Bool.{Bool, true, false, cond, not, ◌||◌, false≢true}
-use mathlib.Core.List.{List}
-use mathlib.Core.Logic.{◌⊎◌, inl, inr, ⊎_elim}
+use mathlib.Core.Logic.{⊎_elim}
 use lib.ListN.{length}
-use lib.Dec.{leb, ltb, eqb}
+use lib.Dec.{ltb, eqb}
 use native.Mathlib.Omega.{arith}
 use borrow.Author.Tests.{le-leb, lt-leb, lt-ltb, le-ltb, eq-eqb}
 use Rattle.definitions.specs.Limits.{most_depth}
 use Rattle.definitions.specs.Refusals.{bad_operand, bad_code, not_sound, no_node_place, no_slot_place}
-use Rattle.definitions.specs.Node.{Node}
 use Rattle.definitions.specs.Walk.{walk_root}
 use Rattle.definitions.specs.Modes.{mode_of}
 use Rattle.definitions.specs.declared.mode.Mode.{Mode}
@@ -19,11 +17,11 @@ use Rattle.definitions.specs.Machine.{Outcome, outcome, refused, simplify, simpl
 use Rattle.store.proofs.Viewing.{plain_length}
 use Rattle.store.proofs.Keeping.{kept_refl}
 use Rattle.store.proofs.Leaving.{leaves_unsound, leaves_kept}
-use Rattle.store.specs.Memory.{Leaves, changes_nothing, keeps_interned}
-use Rattle.arena.specs.declared.DagArena.{DagArena}
+use Rattle.store.specs.Memory.{Leaves, keeps_interned}
 use Rattle.runs.specs.declared.state.Walk.{Walk}
-use Rattle.runs.specs.declared.WalkOutcome as Outcomes
-use Rattle.runs.specs.declared.WalkAnswer.TheVariants.{Refused}
+use Rattle.std.specs.Prelude.{Result}
+use Rattle.refusal.specs.declared.Refusal.{Refusal}
+use Rattle.runs.specs.declared.Simplified.{Simplified}
 use Rattle.rebuild.specs.Memory.{Memory, memory, SoundMemory, nodes_of, lent_of, Keeps}
 use Rattle.runs.specs.Answers.{meaning}
 use Rattle.runs.specs.States.{Starts}
@@ -45,11 +43,6 @@ not_node number e h = or_left (eqb number no_node_place) (eqb number no_slot_pla
 
 not_slot : (number : ℕ) → not (keeps_interned number) ≡ true → number ≡ no_slot_place → ⊥
 not_slot number e h = or_right (eqb number no_node_place) (eqb number no_slot_place) (eq-eqb number no_slot_place h) e
-
--- a refusal that changes nothing, as it is returned
-pub refusing : (call : M.Call) (m : Memory) (number : ℕ) (r : Outcomes.WalkOutcome) → r ≡ record { answer = Refused number; arena = m.arena }
-    → Leaves call m (refused number) m → Leaves call m (meaning r.answer) (memory m.words m.slots r.arena)
-refusing call m number r e x = subst (λ (y : Outcomes.WalkOutcome). Leaves call m (meaning y.answer) (memory m.words m.slots y.arena)) (sym e) x
 
 module _ (mode : Mode) (m : Memory) (root depth budget : ℕ) where
   -- 20, and nothing changed
@@ -89,36 +82,25 @@ module _ (mode : Mode) (m : Memory) (root depth budget : ℕ) where
           untouched bad_operand
           (sym (shallow ∙ ap (λ (b : Bool). cond b walked (outcome (refused bad_operand) (nodes_of m))) (le-ltb root (length (nodes_of m)) (omega (arith, plain_length m.words m.arena.count)))))
 
-      answered : root < m.arena.count → (m' : Memory) (r : Outcomes.WalkOutcome) → WalksRoot (mode_of mode) m root depth budget m' r → Leaves (simplify (mode_of mode) root depth budget) m (meaning r.answer) m'
+      answered : root < m.arena.count → (m' : Memory) (r : Result Simplified Refusal) → WalksRoot (mode_of mode) m root depth budget m' r → Leaves (simplify (mode_of mode) root depth budget) m (meaning r) m'
       answered g m' r x =
-          called (meaning r.answer) m'
+          called (meaning r) m'
           (x.plainly ∙ sym (shallow ∙ ap (λ (b : Bool). cond b walked (outcome (refused bad_operand) (nodes_of m))) (lt-ltb root (length (nodes_of m)) (omega (arith, plain_length m.words m.arena.count)))))
           x.kept
           (λ number e u. absurd (⊎_elim (not_node number u) (not_slot number u) (refused_full (lent_of m) (mode_of mode) depth budget (nodes_of m) root number (sym (ap (λ (o : Outcome). o.answer) x.plainly) ∙ e))))
 
       -- the walk, from its first state
-      module _ (g : root < m.arena.count) (w : Walk) (s : Starts mode root depth m.arena w) where
-        pub startable : Startable (memory m.words m.slots w.progress.arena) root w
+      module _ (g : root < m.arena.count) (w : Walk) (s : Starts mode root depth w) where
+        pub startable : Startable m root w
         startable = record {
-          sound = subst (λ (a : DagArena). SoundMemory (memory m.words m.slots a)) (sym s.arena_is) h;
-          below = subst (λ (a : DagArena). root < a.count) (sym s.arena_is) g;
+          below = g;
           listed = omega (arith, s.limit_is);
-          starts = record {
-            frames = s.frames;
-            one = s.one;
-            none = s.none;
-            whole = s.whole;
-            mode_is = refl;
-            limit_is = refl;
-            arena_is = refl;
-            going = s.going;
-          };
+          starts = record { frames = s.frames; one = s.one; none = s.none; whole = s.whole; mode_is = refl; limit_is = refl; going = s.going };
         }
 
-        pub ran : (m' : Memory) (r : Outcomes.WalkOutcome) → WalksRoot (mode_of w.mode) (memory m.words m.slots w.progress.arena) root w.limit budget m' r
-            → Leaves (simplify (mode_of mode) root depth budget) m (meaning r.answer) m'
+        pub ran : (m' : Memory) (r : Result Simplified Refusal) → WalksRoot (mode_of w.mode) m root w.limit budget m' r
+            → Leaves (simplify (mode_of mode) root depth budget) m (meaning r) m'
         ran m' r x =
             answered g m' r
-            (subst (λ (a : DagArena). WalksRoot (mode_of mode) (memory m.words m.slots a) root depth budget m' r) s.arena_is
-            (subst (λ (limit : ℕ). WalksRoot (mode_of mode) (memory m.words m.slots w.progress.arena) root limit budget m' r) s.limit_is
-            (subst (λ (y : Mode). WalksRoot (mode_of y) (memory m.words m.slots w.progress.arena) root w.limit budget m' r) s.mode_is x)))
+            (subst (λ (limit : ℕ). WalksRoot (mode_of mode) m root limit budget m' r) s.limit_is
+            (subst (λ (y : Mode). WalksRoot (mode_of y) m root w.limit budget m' r) s.mode_is x))

@@ -1,10 +1,11 @@
 -- A formula has no more levels than its id says, since each child's id is lower.
+use Rattle.std.specs.Prelude.{Option, Result, Ok}
+use Rattle.write_back.specs.declared.Written.{Written}
 use Prim.Native.Nat.{ℕ, zero, suc, ◌≤◌, ◌<◌}
-use mathlib.Core.Path.{◌≡◌, refl, ap, subst}
-use mathlib.Core.Bool.{Bool, true, false}
+use mathlib.Core.Path.{◌≡◌, refl, ap}
+use mathlib.Core.Bool.{Bool, false}
 use mathlib.Core.List.{List, [], ◌∷◌}
 use lib.ListN.{length}
-use lib.Dec.{ltb}
 use native.Mathlib.Omega.{arith}
 use borrow.Author.Tests.{ltb-false}
 use Rattle.definitions.specs.Node.{Node, at}
@@ -20,11 +21,8 @@ use Rattle.names.specs.Memory.{name_model}
 use Rattle.text.specs.Memory.{ControllerMemory, controller_of, BothSound}
 use Rattle.text.specs.Reading.{ReadsText}
 use Rattle.text.proofs.Calling.{read_called}
-use Rattle.writer.specs.declared.WriteAnswer.TheVariants as write
+use Rattle.writer.specs.Answers as Write
 use Rattle.writer.proofs.ReadTexts.{whole, read_to}
-use Rattle.write_back.specs.declared.Pruning.{Pruning}
-use Rattle.write_back.specs.declared.FormulaOutcome.{FormulaOutcome}
-use Rattle.write_back.specs.declared.FormulaOutcome.TheVariants.{Written}
 use Rattle.write_back.specs.Ids.{id_of}
 use Rattle.write_back.specs.Answers.{depth_limit, may_be_deeper, FinishesFormula, unpruned, finished, Simplifies, unsimplified, walked, Answers, unread, read}
 use Rattle.write_back.specs.Depth.{levels, levels_over, ShallowText, Shallow}
@@ -63,19 +61,22 @@ shallow_read typed m after id h r e =
 
 -- ---- from the cases of `Answers`
 
-finished_so : {pruning : Pruning} {m m' : ControllerMemory} {i steps' : ℕ} {spent' deep : Bool} {buffer buffer' : List ℕ} {o : FormulaOutcome} (size steps kept dropped : ℕ) (spent : Bool)
-    → FinishesFormula pruning steps' spent' deep m i buffer o m' buffer' → o ≡ Written size steps spent false kept dropped → deep ≡ false
+finished_so : {pruning : Option ℕ} {m m' : ControllerMemory} {i steps' : ℕ} {spent' deep : Bool} {buffer buffer' : List ℕ} {o : Result Written ℕ} (size steps kept dropped : ℕ) (spent : Bool)
+    → FinishesFormula pruning steps' spent' deep m i buffer o m' buffer' → o ≡ Ok (record { length = size; steps = steps; spent = spent; deep = false; kept = kept; dropped = dropped }) → deep ≡ false
 finished_so size steps kept dropped spent (unpruned p) e = let z : ◌≡◌ {A = ℕ} 0 1 = cc in absurd (omega arith)
-finished_so size steps kept dropped spent (finished {a = write.Refused number} p w) e = let z : ◌≡◌ {A = ℕ} 0 1 = cc in absurd (omega arith)
-finished_so size steps kept dropped spent (finished {a = write.Length n} p w) e = cc
+finished_so size steps kept dropped spent (finished {a = Write.Refused number} p w) e = let z : ◌≡◌ {A = ℕ} 0 1 = cc in absurd (omega arith)
+finished_so {steps' = steps'} {spent'} {deep} size steps kept dropped spent (finished {kept = kept'} {dropped = dropped'} {a = Write.Length n} p w) e =
+    let told : ◌≡◌ {A = Written} (record { length = n; steps = steps'; spent = spent'; deep = deep; kept = kept'; dropped = dropped' })
+    (record { length = size; steps = steps; spent = spent; deep = false; kept = kept; dropped = dropped }) = cc in
+    ap (λ (x : Written). x.deep) told
 
-simplified_so : {pruning : Pruning} {m m' : ControllerMemory} {id : ℕ} {buffer buffer' : List ℕ} {o : FormulaOutcome} (size steps kept dropped : ℕ) (spent : Bool)
-    → Simplifies pruning m id buffer o m' buffer' → o ≡ Written size steps spent false kept dropped → may_be_deeper id ≡ false
+simplified_so : {pruning : Option ℕ} {m m' : ControllerMemory} {id : ℕ} {buffer buffer' : List ℕ} {o : Result Written ℕ} (size steps kept dropped : ℕ) (spent : Bool)
+    → Simplifies pruning m id buffer o m' buffer' → o ≡ Ok (record { length = size; steps = steps; spent = spent; deep = false; kept = kept; dropped = dropped }) → may_be_deeper id ≡ false
 simplified_so size steps kept dropped spent (unsimplified c) e = let z : ◌≡◌ {A = ℕ} 0 1 = cc in absurd (omega arith)
 simplified_so size steps kept dropped spent (walked c f) e = finished_so size steps kept dropped spent f e
 
-answered_so : {typed : List ℕ} {pruning : Pruning} {m m' : ControllerMemory} {buffer buffer' : List ℕ} {o : FormulaOutcome} (size steps kept dropped : ℕ) (spent : Bool) → BothSound m
-    → Answers typed pruning m buffer o m' buffer' → o ≡ Written size steps spent false kept dropped → ShallowText typed m
+answered_so : {typed : List ℕ} {pruning : Option ℕ} {m m' : ControllerMemory} {buffer buffer' : List ℕ} {o : Result Written ℕ} (size steps kept dropped : ℕ) (spent : Bool) → BothSound m
+    → Answers typed pruning m buffer o m' buffer' → o ≡ Ok (record { length = size; steps = steps; spent = spent; deep = false; kept = kept; dropped = dropped }) → ShallowText typed m
 answered_so size steps kept dropped spent h (unread c) e = let z : ◌≡◌ {A = ℕ} 0 1 = cc in absurd (omega arith)
 answered_so {typed} {m = m} size steps kept dropped spent h (read {id = id} {m' = after} c f) e =
     shallow_read typed m after id h c (simplified_so size steps kept dropped spent f e)

@@ -1,4 +1,5 @@
 -- The value of a typed formula of the exact kind moves by less than the dropped count times the threshold.
+use Rattle.std.specs.Prelude.{Some}
 use Prim.Native.Nat.{ℕ}
 use mathlib.Core.Path.{◌≡◌, refl, sym, ap, ◌∙◌, subst}
 use mathlib.Core.Bool.{Bool}
@@ -24,9 +25,8 @@ use Rattle.definitions.proofs.Lifting.{lift_store}
 use Rattle.store.specs.Memory.{Memory, model, Leaves}
 use Rattle.names.specs.Memory.{name_model}
 use Rattle.text.specs.Memory.{ControllerMemory, lent_controller, controller_of, lent_of}
-use Rattle.pruner.specs.declared.PruneAnswer.TheVariants as prune
+use Rattle.std.specs.Prelude.{Ok}
 use Rattle.writer.specs.Writing.{WrittenText}
-use Rattle.write_back.specs.declared.Pruning.TheVariants.{BySetting}
 use Rattle.write_back.specs.Ids.{id_of}
 use Rattle.write_back.specs.Answers.{depth_limit, ample_budget, FormulaPruned, off, by}
 use Rattle.write_back.specs.Moved.{HasThreshold, MovedText, ValueMoves}
@@ -86,16 +86,16 @@ module _ (typed : List ℕ) (m : ControllerMemory) (fresh : FreshController lent
 module _ (typed : List ℕ) (setting t : ℕ) (m : ControllerMemory) (text : List ℕ) (fresh : FreshController lent_controller m) (threshold : HasThreshold setting t) (one : T (le (of_bits binary64 t) one64)) where
   pruned_so : {m1 m2 : ControllerMemory} {s : Memory} (id i steps j kept dropped : ℕ) (spent : Bool)
       → Calls (reading typed) m (stored id) m1 → Calls (simplifying standard (id_of id) depth_limit ample_budget) m1 (simplified i spent steps) m2
-      → FormulaPruned (BySetting setting) m2.store i (prune.Pruned j kept dropped) s → WrittenText (controller_of (beside model name_model s m2.names)) (id_of j) text
+      → FormulaPruned (Some setting) m2.store i (Ok (record { id = j; kept = kept; dropped = dropped })) s → WrittenText (controller_of (beside model name_model s m2.names)) (id_of j) text
       → MovedText typed text t dropped
   pruned_so id i steps j kept dropped spent c1 c2 (off k) w = let z : ◌≡◌ {A = ℕ} 0 1 = cc in absurd (omega arith)
   pruned_so id i steps j kept dropped spent c1 c2 (by {setting = n} k h) w =
       let set : n ≡ setting = cc in
       all_moved typed m fresh id i steps j kept dropped setting spent c1 c2 (at_setting (id_of i) set h) t threshold one text w
 
-  from_stages : {dropped : ℕ} → Stages typed (BySetting setting) m text dropped → MovedText typed text t dropped
+  from_stages : {dropped : ℕ} → Stages typed (Some setting) m text dropped → MovedText typed text t dropped
   from_stages {dropped} g = pruned_so g.id g.i g.steps g.j g.kept dropped g.spent g.reads g.walks g.prunes g.writes
 
 pub value_moves : ValueMoves
 value_moves typed setting t m m' buffer buffer' size steps kept dropped spent deep fresh threshold one h =
-    from_stages typed setting t m _ fresh threshold one (stages typed (BySetting setting) m buffer size steps kept dropped spent deep h)
+    from_stages typed setting t m _ fresh threshold one (stages typed (Some setting) m buffer size steps kept dropped spent deep h)

@@ -1,4 +1,6 @@
 -- The calls behind a text that was written: the reading, the walk, the prune where there is one, and the write.
+use Rattle.std.specs.Prelude.{Option, Result, Ok}
+use Rattle.write_back.specs.declared.Written.{Written}
 use Prim.Native.Nat.{ℕ, ◌<◌}
 use mathlib.Core.Path.{◌≡◌, refl, sym, ap, ◌∙◌, subst}
 use mathlib.Core.Bool.{Bool}
@@ -29,13 +31,9 @@ use Rattle.store.proofs.Viewing.{plain_length}
 use Rattle.names.specs.Memory.{name_model}
 use Rattle.text.specs.Memory.{ControllerMemory, lent_controller, controller_of, lent_of}
 use Rattle.text.proofs.Calling.{read_called}
-use Rattle.pruner.specs.declared.PruneAnswer.TheVariants as prune
-use Rattle.writer.specs.declared.WriteAnswer as Write
-use Rattle.writer.specs.declared.WriteAnswer.TheVariants as write
+use Rattle.std.specs.Prelude.{Ok}
+use Rattle.writer.specs.Answers as Write
 use Rattle.writer.specs.Writing.{WrittenText, Writes, unsound, unknown, textless, too_long, written}
-use Rattle.write_back.specs.declared.Pruning.{Pruning}
-use Rattle.write_back.specs.declared.FormulaOutcome.{FormulaOutcome}
-use Rattle.write_back.specs.declared.FormulaOutcome.TheVariants.{Written}
 use Rattle.write_back.specs.Ids.{id_of}
 use Rattle.write_back.specs.Answers.{depth_limit, ample_budget, may_be_deeper, FormulaPruned, FinishesFormula, unpruned, finished, Simplifies, unsimplified, walked, Answers, unread, read}
 
@@ -69,7 +67,7 @@ empty_whole = record { nodes = λ i h. absurd (omega arith); names = none_listed
 
 -- ---- the text that stands in the buffer
 
-text_in : {m : ControllerMemory} {id : ℕ} {buffer buffer' : List ℕ} {r : Write.WriteAnswer} (size : ℕ) → Writes m id buffer r buffer' → r ≡ write.Length size → WrittenText (controller_of m) id (take size buffer')
+text_in : {m : ControllerMemory} {id : ℕ} {buffer buffer' : List ℕ} {r : Write.WriteAnswer} (size : ℕ) → Writes m id buffer r buffer' → r ≡ Write.Length size → WrittenText (controller_of m) id (take size buffer')
 text_in size (unsound n) e = let z : ◌≡◌ {A = ℕ} 0 1 = cc in absurd (omega arith)
 text_in size (unknown h l) e = let z : ◌≡◌ {A = ℕ} 0 1 = cc in absurd (omega arith)
 text_in size (textless h l n) e = let z : ◌≡◌ {A = ℕ} 0 1 = cc in absurd (omega arith)
@@ -81,7 +79,7 @@ text_in {m} {id} {buffer} size (written {t} h l w n b) e =
 -- ---- from the cases of `Answers`
 
 -- the lists after the reading and after the walk, the store after the prune, and what each call answered
-pub record Stages (typed : List ℕ) (pruning : Pruning) (m : ControllerMemory) (text : List ℕ) (dropped : ℕ) : Type 0 where
+pub record Stages (typed : List ℕ) (pruning : Option ℕ) (m : ControllerMemory) (text : List ℕ) (dropped : ℕ) : Type 0 where
   pub m1 : ControllerMemory
   pub m2 : ControllerMemory
   pub s : Memory
@@ -93,18 +91,20 @@ pub record Stages (typed : List ℕ) (pruning : Pruning) (m : ControllerMemory) 
   pub kept : ℕ
   pub reads : Calls (reading typed) m (stored id) m1
   pub walks : Calls (simplifying standard (id_of id) depth_limit ample_budget) m1 (simplified i spent steps) m2
-  pub prunes : FormulaPruned pruning m2.store i (prune.Pruned j kept dropped) s
+  pub prunes : FormulaPruned pruning m2.store i (Ok (record { id = j; kept = kept; dropped = dropped })) s
   pub writes : WrittenText (controller_of (beside model name_model s m2.names)) (id_of j) text
 
-module _ (typed : List ℕ) (pruning : Pruning) (m : ControllerMemory) (buffer : List ℕ) (size steps kept dropped : ℕ) (spent deep : Bool) where
-  finishes : {m1 m2 m' : ControllerMemory} {buffer' : List ℕ} {o : FormulaOutcome} (id i steps' : ℕ) (spent' deep' : Bool)
+module _ (typed : List ℕ) (pruning : Option ℕ) (m : ControllerMemory) (buffer : List ℕ) (size steps kept dropped : ℕ) (spent deep : Bool) where
+  finishes : {m1 m2 m' : ControllerMemory} {buffer' : List ℕ} {o : Result Written ℕ} (id i steps' : ℕ) (spent' deep' : Bool)
       → Calls (reading typed) m (stored id) m1 → Calls (simplifying standard (id_of id) depth_limit ample_budget) m1 (simplified i spent' steps') m2
-      → FinishesFormula pruning steps' spent' deep' m2 i buffer o m' buffer' → o ≡ Written size steps spent deep kept dropped → Stages typed pruning m (take size buffer') dropped
+      → FinishesFormula pruning steps' spent' deep' m2 i buffer o m' buffer' → o ≡ Ok (record { length = size; steps = steps; spent = spent; deep = deep; kept = kept; dropped = dropped }) → Stages typed pruning m (take size buffer') dropped
   finishes id i steps' spent' deep' c1 c2 (unpruned p) e = let z : ◌≡◌ {A = ℕ} 0 1 = cc in absurd (omega arith)
-  finishes id i steps' spent' deep' c1 c2 (finished {a = write.Refused number} p w) e = let z : ◌≡◌ {A = ℕ} 0 1 = cc in absurd (omega arith)
-  finishes {m1} {m2} {buffer' = buffer'} id i steps' spent' deep' c1 c2 (finished {i = j} {kept = kept'} {dropped = dropped'} {s = s} {a = write.Length n} p w) e =
-      let same : n ≡ size = cc in
-      let drops : dropped' ≡ dropped = cc in
+  finishes id i steps' spent' deep' c1 c2 (finished {a = Write.Refused number} p w) e = let z : ◌≡◌ {A = ℕ} 0 1 = cc in absurd (omega arith)
+  finishes {m1} {m2} {buffer' = buffer'} id i steps' spent' deep' c1 c2 (finished {i = j} {kept = kept'} {dropped = dropped'} {s = s} {a = Write.Length n} p w) e =
+      let told : ◌≡◌ {A = Written} (record { length = n; steps = steps'; spent = spent'; deep = deep'; kept = kept'; dropped = dropped' })
+      (record { length = size; steps = steps; spent = spent; deep = deep; kept = kept; dropped = dropped }) = cc in
+      let same : n ≡ size = ap (λ (x : Written). x.length) told in
+      let drops : dropped' ≡ dropped = ap (λ (x : Written). x.dropped) told in
       subst (Stages typed pruning m (take size buffer')) drops
       (record {
         m1 = m1;
@@ -119,22 +119,22 @@ module _ (typed : List ℕ) (pruning : Pruning) (m : ControllerMemory) (buffer :
         reads = c1;
         walks = c2;
         prunes = p;
-        writes = text_in size w (ap write.Length same);
+        writes = text_in size w (ap Write.Length same);
       })
 
-  simplified_so : {m1 m' : ControllerMemory} {buffer' : List ℕ} {o : FormulaOutcome} (id : ℕ) → Calls (reading typed) m (stored id) m1
-      → Simplifies pruning m1 id buffer o m' buffer' → o ≡ Written size steps spent deep kept dropped → Stages typed pruning m (take size buffer') dropped
+  simplified_so : {m1 m' : ControllerMemory} {buffer' : List ℕ} {o : Result Written ℕ} (id : ℕ) → Calls (reading typed) m (stored id) m1
+      → Simplifies pruning m1 id buffer o m' buffer' → o ≡ Ok (record { length = size; steps = steps; spent = spent; deep = deep; kept = kept; dropped = dropped }) → Stages typed pruning m (take size buffer') dropped
   simplified_so id c1 (unsimplified c) e = let z : ◌≡◌ {A = ℕ} 0 1 = cc in absurd (omega arith)
   simplified_so {m1} id c1 (walked {i = i} {steps = steps'} {spent = spent'} {s = s} h f) e =
       let c2 = lift_store model name_model (M.simplify standard (id_of id) depth_limit ample_budget) m1.store s (M.simplified i spent' steps') m1.names h.called in
       finishes id i steps' spent' (may_be_deeper id) c1 c2 f e
 
-  answered_so : {m' : ControllerMemory} {buffer' : List ℕ} {o : FormulaOutcome} → Answers typed pruning m buffer o m' buffer'
-      → o ≡ Written size steps spent deep kept dropped → Stages typed pruning m (take size buffer') dropped
+  answered_so : {m' : ControllerMemory} {buffer' : List ℕ} {o : Result Written ℕ} → Answers typed pruning m buffer o m' buffer'
+      → o ≡ Ok (record { length = size; steps = steps; spent = spent; deep = deep; kept = kept; dropped = dropped }) → Stages typed pruning m (take size buffer') dropped
   answered_so (unread c) e = let z : ◌≡◌ {A = ℕ} 0 1 = cc in absurd (omega arith)
   answered_so (read {id = id} {m' = m1} r f) e = simplified_so id (read_called typed m m1 (store.Id id) r) f e
 
-  pub stages : {m' : ControllerMemory} {buffer' : List ℕ} → Answers typed pruning m buffer (Written size steps spent deep kept dropped) m' buffer'
+  pub stages : {m' : ControllerMemory} {buffer' : List ℕ} → Answers typed pruning m buffer (Ok (record { length = size; steps = steps; spent = spent; deep = deep; kept = kept; dropped = dropped })) m' buffer'
       → Stages typed pruning m (take size buffer') dropped
   stages h = answered_so h refl
 

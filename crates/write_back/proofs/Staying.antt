@@ -1,27 +1,24 @@
 -- Without a threshold the value of a typed formula of the exact kind does not move.
+use Rattle.std.specs.Prelude.{Option}
 use Prim.Native.Nat.{ℕ, ◌<◌}
 use mathlib.Core.Path.{◌≡◌, refl, sym, ap, ◌∙◌, subst}
-use mathlib.Core.Bool.{Bool, true, cond}
+use mathlib.Core.Bool.{Bool}
 use mathlib.Core.Option.{some}
 use mathlib.Core.List.{List}
 use lib.ListN.{length}
-use lib.Dec.{ltb}
-use native.Mathlib.Omega.{arith}
 use borrow.Author.Tests.{lt-ltb}
 use Rattle.definitions.specs.Machine as M
 use Rattle.definitions.specs.Walk.{standard}
-use Rattle.definitions.specs.Threshold.{Threshold, bits, untouched, refusing}
+use Rattle.definitions.specs.Threshold.{Threshold, untouched}
 use Rattle.definitions.specs.Settings.{first_pruning_setting, setting}
-use Rattle.definitions.specs.Controller.{Controller, simplifying, pruning_by_setting, reading, stored, simplified, pruned}
-use Rattle.definitions.specs.Promise.{FreshController, prunes}
+use Rattle.definitions.specs.Controller.{Controller, simplifying, pruning_by_setting, reading, stored, simplified}
+use Rattle.definitions.specs.Promise.{FreshController}
 use Rattle.definitions.specs.Beside.{beside}
 use Rattle.store.specs.Memory.{Memory, model, Leaves}
 use Rattle.names.specs.Memory.{name_model}
 use Rattle.text.specs.Memory.{ControllerMemory, lent_controller, controller_of}
-use Rattle.pruner.specs.declared.PruneAnswer.TheVariants as prune
+use Rattle.std.specs.Prelude.{Ok}
 use Rattle.writer.specs.Writing.{WrittenText}
-use Rattle.write_back.specs.declared.Pruning.{Pruning}
-use Rattle.write_back.specs.declared.Pruning.TheVariants.{BySetting}
 use Rattle.write_back.specs.Ids.{id_of}
 use Rattle.write_back.specs.Answers.{depth_limit, ample_budget, FormulaPruned, off, by}
 use Rattle.write_back.specs.Moved.{NoThreshold, SameText, ValueStays}
@@ -64,12 +61,12 @@ module _ (typed : List ℕ) (m : ControllerMemory) (text : List ℕ) (fresh : Fr
       let same : id_of j ≡ i = ap id_of (answered ∙ i_same) ∙ i_same in
       subst (λ (x : ℕ). WrittenText (controller_of m2) x text) same (subst (λ (x : Controller). WrittenText x (id_of j) text) u.1 w)
 
-  pruned_so : {pruning : Pruning} {s : Memory} (j kept dropped : ℕ) → NoThreshold pruning
-      → FormulaPruned pruning m2.store i (prune.Pruned j kept dropped) s → WrittenText (controller_of (beside model name_model s m2.names)) (id_of j) text → SameText typed text
+  pruned_so : {pruning : Option ℕ} {s : Memory} (j kept dropped : ℕ) → NoThreshold pruning
+      → FormulaPruned pruning m2.store i (Ok (record { id = j; kept = kept; dropped = dropped })) s → WrittenText (controller_of (beside model name_model s m2.names)) (id_of j) text → SameText typed text
   pruned_so j kept dropped n (off k) w = all_same (subst (λ (x : ℕ). WrittenText (controller_of m2) x text) i_same w)
   pruned_so j kept dropped n (by {setting = setting} k h) w = all_same (unpruned j kept dropped setting (subst NoThreshold k n) h w)
 
-from_stages : {typed text : List ℕ} {pruning : Pruning} {m : ControllerMemory} {dropped : ℕ} → FreshController lent_controller m → NoThreshold pruning
+from_stages : {typed text : List ℕ} {pruning : Option ℕ} {m : ControllerMemory} {dropped : ℕ} → FreshController lent_controller m → NoThreshold pruning
     → Stages typed pruning m text dropped → SameText typed text
 from_stages {typed} {text} {m = m} {dropped = dropped} fresh n g =
     pruned_so typed m text fresh g.id g.i g.steps g.spent g.reads g.walks g.j g.kept dropped n g.prunes g.writes

@@ -1,11 +1,11 @@
 -- How deep a formula is, and that one of which the program says nothing has no more levels than the depth limit of the walk.
+use Rattle.std.specs.Prelude.{Option, Ok}
+use Rattle.write_back.specs.declared.Written.{Written}
 use Rattle.std.specs.Prelude.{ℕ, suc, max, ◌≤◌, Bool, false, List}
 use Rattle.definitions.specs.Formula.{Tree, tree, Forest, nil, cons, formula}
 use Rattle.store.specs.declared.NodeAnswer.TheVariants.{Id}
 use Rattle.text.specs.Memory.{ControllerMemory, controller_of, BothSound}
 use Rattle.text.specs.Reading.{ReadsText}
-use Rattle.write_back.specs.declared.Pruning.{Pruning}
-use Rattle.write_back.specs.declared.FormulaOutcome.TheVariants.{Written}
 use Rattle.write_back.specs.Answers.{depth_limit, Answers}
 
 -- the levels of nodes that have children
@@ -25,6 +25,6 @@ pub record ShallowText (typed : List ℕ) (m : ControllerMemory) : Type 0 where
   pub shallow : levels (formula (controller_of after).nodes id) ≤ depth_limit
 
 abbrev pub Shallow : Type 0
-Shallow = (typed : List ℕ) (pruning : Pruning) (m m' : ControllerMemory) (buffer buffer' : List ℕ)
+Shallow = (typed : List ℕ) (pruning : Option ℕ) (m m' : ControllerMemory) (buffer buffer' : List ℕ)
     (size steps kept dropped : ℕ) (spent : Bool)
-    → BothSound m → Answers typed pruning m buffer (Written size steps spent false kept dropped) m' buffer' → ShallowText typed m
+    → BothSound m → Answers typed pruning m buffer (Ok (record { length = size; steps = steps; spent = spent; deep = false; kept = kept; dropped = dropped })) m' buffer' → ShallowText typed m

@@ -1,5 +1,7 @@
 -- How far the value of a typed formula may have moved when `answer` wrote it back, on a fresh store with an empty name list. Without a
 -- threshold it has not moved.
+use Rattle.std.specs.Prelude.{Option, None, Some, Ok}
+use Rattle.write_back.specs.declared.Written.{Written}
 use Rattle.std.specs.Prelude.{ℕ, ◌<◌, ◌≡◌, Bool, List, take, T}
 use Rattle.std.proofs.Math.Option.{some}
 use Rattle.std.specs.Float.{binary64}
@@ -14,20 +16,14 @@ use Rattle.definitions.specs.Exact.{Exact}
 use Rattle.definitions.specs.Controller.{Controller, pruning_by_setting}
 use Rattle.definitions.specs.Promise.{FreshController, prunes, ReadTo}
 use Rattle.definitions.specs.Moved.{Moved}
-use Rattle.definitions.specs.Beside.{controller_model}
-use Rattle.store.specs.Memory.{model}
-use Rattle.names.specs.Memory.{name_model}
 use Rattle.text.specs.Memory.{ControllerMemory, lent_controller}
 use Rattle.writer.specs.Writing.{WrittenText}
-use Rattle.write_back.specs.declared.Pruning.{Pruning}
-use Rattle.write_back.specs.declared.Pruning.TheVariants.{Skipped, BySetting}
-use Rattle.write_back.specs.declared.FormulaOutcome.TheVariants.{Written}
 use Rattle.write_back.specs.Answers.{Answers}
 
 -- no setting, or one from 0 to 19
-abbrev pub NoThreshold : Pruning → Type 0
-NoThreshold Skipped = Unit {0}
-NoThreshold (BySetting setting) = setting < first_pruning_setting
+abbrev pub NoThreshold : Option ℕ → Type 0
+NoThreshold None = Unit {0}
+NoThreshold (Some setting) = setting < first_pruning_setting
 
 -- the bits of a setting's threshold, as demand 3 has them
 abbrev pub HasThreshold : ℕ → ℕ → Type 0
@@ -53,7 +49,7 @@ abbrev pub ValueMoves : Type 0
 ValueMoves = (typed : List ℕ) (setting t : ℕ) (m m' : ControllerMemory) (buffer buffer' : List ℕ)
     (size steps kept dropped : ℕ) (spent deep : Bool)
     → FreshController lent_controller m → HasThreshold setting t → T (le (of_bits binary64 t) one64)
-    → Answers typed (BySetting setting) m buffer (Written size steps spent deep kept dropped) m' buffer'
+    → Answers typed (Some setting) m buffer (Ok (record { length = size; steps = steps; spent = spent; deep = deep; kept = kept; dropped = dropped })) m' buffer'
     → MovedText typed (take size buffer') t dropped
 
 abbrev pub SameText : List ℕ → List ℕ → Type 0
@@ -61,7 +57,7 @@ SameText typed text = WrittenBack typed text (λ (old new : Dyadic). old ≡ new
 
 -- without a threshold the value is what it was
 abbrev pub ValueStays : Type 0
-ValueStays = (typed : List ℕ) (pruning : Pruning) (m m' : ControllerMemory) (buffer buffer' : List ℕ)
+ValueStays = (typed : List ℕ) (pruning : Option ℕ) (m m' : ControllerMemory) (buffer buffer' : List ℕ)
     (size steps kept dropped : ℕ) (spent deep : Bool)
     → FreshController lent_controller m → NoThreshold pruning
-    → Answers typed pruning m buffer (Written size steps spent deep kept dropped) m' buffer' → SameText typed (take size buffer')
+    → Answers typed pruning m buffer (Ok (record { length = size; steps = steps; spent = spent; deep = deep; kept = kept; dropped = dropped })) m' buffer' → SameText typed (take size buffer')

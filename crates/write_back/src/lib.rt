@@ -10,40 +10,31 @@ ghost use Rattle.write_back.specs.Answers.{FormulaPruned, FinishesFormula, Simpl
 
 use arena::DagArena;
 use definitions::mode::Mode;
-use writer::WriteAnswer;
+use pruner::Pruned;
+use walk::Simplified;
 
-// 01's greatest depth limit, and a budget; a walk that uses it up says so. A second walk would seldom go deeper: what the first finished is
+// The greatest depth limit, and a budget; a walk that uses it up says so. A second walk would seldom go deeper: what the first finished is
 // marked.
 pub const DEPTH: u32 = 255;
 
 const BUDGET: u64 = 100_000_000;
 
-// The setting that the formula is pruned by, if it is.
+/// What is told of a text that was written: its length, the walk's steps, whether its budget was used up, whether the formula may be deeper
+/// than it went, and the terms kept and dropped. The two flags hold of any text, so they are no Option.
 #[derive(Clone, Copy)]
-pub enum Pruning {
-    Skipped,
-    BySetting(u32),
+pub struct Written {
+    pub length: usize,
+    pub steps: u64,
+    pub spent: bool,
+    pub deep: bool,
+    pub kept: u64,
+    pub dropped: u64,
 }
 
-// The length of the text that was written, the walk's steps, whether its budget was used up, whether the formula may be deeper than it
-// went, and the terms kept and dropped; or a refusal.
-#[derive(Clone, Copy)]
-pub enum FormulaOutcome {
-    Written {
-        length: usize,
-        steps: u64,
-        spent: bool,
-        deep: bool,
-        kept: u64,
-        dropped: u64,
-    },
-    Refused(u64),
-}
-
-// An outcome, with the counts of the store and of the names after it.
+/// What was written or the number of a refusal, with the counts of the store and of the names after it.
 #[derive(Clone, Copy)]
 pub struct Answered {
-    pub outcome: FormulaOutcome,
+    pub outcome: Result<Written, u64>,
     pub arena: DagArena,
     pub names: usize,
 }
@@ -61,23 +52,21 @@ fn prune(
     slots: &mut [u32],
     arena: DagArena,
     id: u64,
-    pruning: Pruning,
+    pruning: Option<u32>,
 ) -> pruner::PruneOutcome
     ensures { FormulaPruned pruning (memory nodes.old slots.old arena) id result.answer
         (memory nodes.new slots.new result.arena) }
 {
     match pruning {
-        Pruning::Skipped => pruner::PruneOutcome {
-            answer: pruner::PruneAnswer::Pruned {
+        None => pruner::PruneOutcome {
+            answer: Ok(Pruned {
                 id,
                 kept: 1,
                 dropped: 0,
-            },
+            }),
             arena,
         },
-        Pruning::BySetting(setting) => {
-            pruner::prune_by_setting(nodes, slots, arena, id_of(id), setting)
-        }
+        Some(setting) => pruner::prune_by_setting(nodes, slots, arena, id_of(id), setting),
     }
 }
 
@@ -89,7 +78,7 @@ fn finish(
     entries: &[u8],
     names: usize,
     id: u64,
-    pruning: Pruning,
+    pruning: Option<u32>,
     steps: u64,
     spent: bool,
     deep: bool,
@@ -103,30 +92,31 @@ fn finish(
     let after = pruned.arena;
     let answer = pruned.answer;
     match answer {
-        pruner::PruneAnswer::Pruned { id, kept, dropped } => {
+        Ok(pruned) => {
+            let Pruned { id, kept, dropped } = pruned;
             let written = writer::write(nodes, slots, after, entries, names, id_of(id), text);
             match written {
-                WriteAnswer::Length(length) => Answered {
-                    outcome: FormulaOutcome::Written {
+                Ok(length) => Answered {
+                    outcome: Ok(Written {
                         length,
                         steps,
                         spent,
                         deep,
                         kept,
                         dropped,
-                    },
+                    }),
                     arena: after,
                     names,
                 },
-                WriteAnswer::Refused(number) => Answered {
-                    outcome: FormulaOutcome::Refused(number),
+                Err(reason) => Answered {
+                    outcome: Err(reason.number()),
                     arena: after,
                     names,
                 },
             }
         }
-        pruner::PruneAnswer::Refused(number) => Answered {
-            outcome: FormulaOutcome::Refused(number),
+        Err(refusal) => Answered {
+            outcome: Err(refusal.number()),
             arena: after,
             names,
         },
@@ -141,7 +131,7 @@ fn simplify(
     entries: &[u8],
     names: usize,
     id: u64,
-    pruning: Pruning,
+    pruning: Option<u32>,
     text: &mut [u8],
 ) -> Answered
     ensures { Simplifies pruning
@@ -154,24 +144,24 @@ fn simplify(
     let after = walked.arena;
     let answer = walked.answer;
     match answer {
-        walk::WalkAnswer::Simplified { id, steps } => finish(
-            nodes, slots, after, entries, names, id, pruning, steps, false, deep, text,
-        ),
-        walk::WalkAnswer::Spent { id, steps } => finish(
-            nodes, slots, after, entries, names, id, pruning, steps, true, deep, text,
-        ),
-        walk::WalkAnswer::Refused(number) => Answered {
-            outcome: FormulaOutcome::Refused(number),
+        Ok(simplified) => {
+            let Simplified { id, spent, steps } = simplified;
+            finish(
+                nodes, slots, after, entries, names, id, pruning, steps, spent, deep, text,
+            )
+        }
+        Err(refusal) => Answered {
+            outcome: Err(refusal.number()),
             arena: after,
             names,
         },
     }
 }
 
-// All of it, on lent lists.
+/// All of it, on lent lists; it is pruned by a setting if one is given.
 pub fn answer(
     typed: &[u8],
-    pruning: Pruning,
+    pruning: Option<u32>,
     nodes: &mut [u64],
     slots: &mut [u32],
     arena: DagArena,
@@ -192,7 +182,7 @@ pub fn answer(
             nodes, slots, after, entries, known, id, pruning, text,
         ),
         store::NodeAnswer::Refused(number) => Answered {
-            outcome: FormulaOutcome::Refused(number),
+            outcome: Err(number),
             arena: after,
             names: known,
         },

@@ -8,8 +8,7 @@ use Rattle.text.specs.Reading.{answered, ReadingLeft, reading_left, reading_left
 use Rattle.text.proofs.Performing.{extends_refl}
 use Rattle.text.proofs.Determined.{extends_is}
 use Rattle.writer.specs.Writing.{ReadsBack, Writes, unsound, unknown, textless, too_long, written, ReadAfterWrite}
-use Rattle.writer.specs.declared.WriteAnswer.{WriteAnswer}
-use Rattle.writer.specs.declared.WriteAnswer.TheVariants.{Length}
+use Rattle.writer.specs.Answers.{WriteAnswer, Length}
 
 answer_is : (a : Store.NodeAnswer) (id : ℕ) → answered a ≡ stored id → a ≡ store.Id id
 answer_is (store.Id i) id e = let q : i ≡ id = cc in ap store.Id q

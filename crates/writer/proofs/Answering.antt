@@ -21,8 +21,7 @@ use Rattle.expression_text.proofs.Forms.{has_text}
 use Rattle.writer.specs.Placing.{KnownText, expression_at}
 use Rattle.writer.specs.Sweeping.{Texted, WritesExpression}
 use Rattle.writer.specs.Writing.{NodeText, WrittenText, TooLong, ReadsBack, Writes, unsound, unknown, textless, too_long, written, Covers}
-use Rattle.writer.specs.declared.WriteAnswer.{WriteAnswer}
-use Rattle.writer.specs.declared.WriteAnswer.TheVariants.{Length, Refused}
+use Rattle.writer.specs.Answers.{WriteAnswer, Length, Refused}
 use Rattle.writer.proofs.Spelling.{spelled, only_one}
 use Rattle.writer.proofs.ReadsBack.{reads_back}
 

@@ -1,71 +1,27 @@
 -- The text copied to the lent buffer, and the refusals.
-use Rattle.std.proofs.Common.{◌≡◌, ℕ, zero, suc, ◌+◌, ◌-◌, ◌<◌, ◌≤◌, Bool, true, false, ◌⊎◌, List, [], ◌∷◌, ◌++◌, length, get_or, take, drop, set, replicate, sym, refl, ap, ◌∙◌, ap₂, inl, inr, append_assoc, arith, length-append, length-drop, length-take-le, get_or-drop, take_all, drop-cons, take-suc}
+use Rattle.std.proofs.Common.{◌≡◌, ℕ, zero, suc, ◌+◌, ◌-◌, ◌<◌, ◌≤◌, Bool, true, false, ◌⊎◌, List, [], ◌++◌, length, get_or, take, drop, replicate, sym, refl, ap, ◌∙◌, ap₂, inl, inr, arith, length-drop, take_all}
 use mathlib.Core.Bool.{false≢true}
 use mathlib.Core.Option.{Option, none, some}
 use lib.ListN.{length-replicate}
-use lib.Seq.{set_at, drop-length}
+use lib.Seq.{drop-length}
 use Rattle.text_language.specs.Grammar.{Expr}
 use Rattle.expression_text.specs.Written.{text_of, depth_of}
 use Rattle.writer.specs.Expression.{is_some, or_any}
 use Rattle.text_language.specs.Reading.{most_bytes, most_nested}
 use Rattle.writer.specs.Placing.{spare, space, placed, PlacedText, Open}
-use Rattle.writer.specs.Sweeping.{Copies, Texted, WritesExpression, Unreached}
+use Rattle.writer.specs.Sweeping.{Texted, WritesExpression, Unreached}
 use Rattle.definitions.specs.Limits.{most_nodes}
 use Rattle.definitions.specs.Refusals.{no_text, text_too_long}
-use Rattle.writer.specs.declared.WriteAnswer.TheVariants.{Length, Refused}
+use Rattle.writer.specs.Answers.{Length, Refused}
 use Rattle.writer.proofs.Pieces.{placed_bare, deep_bare, rank_high}
 
 -- ---- copying
 
-pub record CopyLeft (out : List ℕ) (place : ℕ) (buffer₀ : List ℕ) (size : ℕ) (buffer : List ℕ) (i : ℕ) : Type 0 where
-  pub copies : Copies out place buffer₀
-  pub size_is : size + place ≡ space
-  pub within : i ≤ size
-  pub is : buffer ≡ take i (drop place out) ++ drop i buffer₀
-
-pub copy_start : (out : List ℕ) (place : ℕ) (buffer : List ℕ) → Copies out place buffer → CopyLeft out place buffer (space - place) buffer 0
-copy_start out place buffer p = record { copies = p; size_is = let z = p.within in omega arith; within = omega arith; is = refl }
-
-module _ {out : List ℕ} {place : ℕ} {buffer₀ : List ℕ} {size : ℕ} {buffer : List ℕ} {i : ℕ} (d : CopyLeft out place buffer₀ size buffer i) where
-  abbrev D : List ℕ
-  D = drop place out
-
-  part_length : length D ≡ size
-  part_length = let l = d.copies.long in let s = d.size_is in omega (arith, length-drop place out)
-
-  pub copy_long : length buffer ≡ length buffer₀
-  copy_long =
-      let r = d.copies.room in
-      let s = d.size_is in
-      let w = d.within in
-      let p = part_length in
-      omega (arith, ap length d.is, length-append (take i D) (drop i buffer₀), length-take-le i D (omega arith), length-drop i buffer₀)
-
-  pub copy_on : i < size → CopyLeft out place buffer₀ size (set buffer i (get_or out (place + i) 0)) (i + 1)
-  copy_on h =
-      let r = d.copies.room in
-      let s = d.size_is in
-      let p = part_length in
-      let v = get_or out (place + i) 0 in
-      let e : suc i ≡ i + 1 = omega arith in
-      record {
-        copies = d.copies;
-        size_is = s;
-        within = omega arith;
-        is =
-            ap (λ (x : List ℕ). set x i v) (d.is ∙ ap (λ (x : List ℕ). take i D ++ x) (drop-cons buffer₀ i 0 (omega arith)))
-            ∙ set_at (take i D) (get_or buffer₀ i 0) (drop (suc i) buffer₀) v i (length-take-le i D (omega arith))
-            ∙ sym (append_assoc (take i D) (v ∷ []) (drop (suc i) buffer₀))
-            ∙ ap (λ (x : List ℕ). x ++ drop (suc i) buffer₀) (sym (take-suc D i 0 (omega arith) ∙ ap (λ (x : ℕ). take i D ++ (x ∷ [])) (get_or-drop place out i 0)))
-            ∙ ap (λ (k : ℕ). take k D ++ drop k buffer₀) e;
-      }
-
-  pub copy_end : size ≤ i → buffer ≡ drop place out ++ drop (length (drop place out)) buffer₀
-  copy_end h =
-      let w = d.within in
-      let p = part_length in
-      let q : i ≡ length D = omega arith in
-      d.is ∙ ap₂ (λ (x y : List ℕ). x ++ y) (take_all i D (omega arith)) (ap (λ (k : ℕ). drop k buffer₀) q)
+pub copied : (out : List ℕ) (place : ℕ) (buffer part : List ℕ) → length out ≡ space → part ≡ take (space - place) (drop place out)
+    → part ++ drop (space - place) buffer ≡ drop place out ++ drop (length (drop place out)) buffer
+copied out place buffer part l e =
+    let n : length (drop place out) ≡ space - place = length-drop place out ∙ ap (λ (k : ℕ). k - place) l in
+    ap₂ (λ (x : List ℕ) (k : ℕ). x ++ drop k buffer) (e ∙ take_all (space - place) (drop place out) (omega arith)) (sym n)
 
 -- ---- the answers
 

@@ -1,10 +1,14 @@
 -- Bytes put in front of others, one by one.
 use Rattle.std.proofs.Common.{◌≡◌, ℕ, zero, suc, ◌+◌, ◌-◌, ◌*◌, ◌/◌, ◌%◌, ◌^◌, ◌<◌, ◌≤◌, Bool, true, false, cond, eqb, List, [], ◌∷◌, ◌++◌, length, get_or, drop, set, sym, refl, ap, ◌∙◌, subst, ap₂, pow-suc, arith, length-drop, length-set, length-take-le, get_or-drop, drop-cons, get_or-take, get_or-set_same, drop-set-lt, lt-length-set, eq-eqb, ne_eqb, le-leb}
-use lib.Seq.{drop-length}
 use Rattle.name_entries.specs.Sound as Names
 use Rattle.name_entries.specs.Entry.{entry_at}
 use Rattle.expression_text.specs.Numeral.{decimals, hexes, hex_byte, numeral}
 use Rattle.expression_text.specs.Numeral.{most_whole}
+use Rattle.std.specs.Prelude.{Some, None}
+use Rattle.std.proofs.lemmas.List.{drop-take, take-take, drop-drop}
+use Rattle.std.proofs.lemmas.List.Edits.{paste_all}
+use Rattle.std.proofs.Math.Seq.{paste, drop-append_seam}
+use Rattle.std.proofs.Common.{take, length-append}
 use Rattle.writer.specs.Placing.{spare, space, IsWhole, NamedSymbol, Open, PutsBytes}
 
 -- one byte more
@@ -128,6 +132,9 @@ module _ {n at : ℕ} {out₀ out : List ℕ} {place rest left : ℕ} (d : Hexes
         free = d.free;
       }
 
+  pub hexes_as : {k : ℕ} → left ≡ k → HexesLeft n at out₀ out place rest k
+  hexes_as e = subst (HexesLeft n at out₀ out place rest) e d
+
   pub hexes_end : left ≤ 0 → PutsBytes (35 ∷ hexes 16 n (drop at out₀)) spare at (place - 1) (set out (place - 1) 35)
   unfolding hexes
   hexes_end h =
@@ -160,12 +167,12 @@ unfolding hexes
 hexes_append zero n w r = refl
 hexes_append (suc k) n w r = hexes_append k (n / 16) (hex_byte (n % 16) ∷ w) r
 
-pub number_whole : (bits n at p : ℕ) (r out : List ℕ) → IsWhole bits n → n ≤ most_whole → PutsBytes (decimals 9 n r) spare at p out → PutsBytes (numeral bits ++ r) spare at p out
-number_whole bits n at p r out h l q = subst (λ (x : List ℕ). PutsBytes x spare at p out) (decimals_append 9 n [] r ∙ ap (λ (x : List ℕ). x ++ r) (sym (h.whole l))) q
+pub number_whole : (bits n at p : ℕ) (r out : List ℕ) → IsWhole bits (Some n) → PutsBytes (decimals 9 n r) spare at p out → PutsBytes (numeral bits ++ r) spare at p out
+number_whole bits n at p r out h q = subst (λ (x : List ℕ). PutsBytes x spare at p out) (decimals_append 9 n [] r ∙ ap (λ (x : List ℕ). x ++ r) (sym h.1)) q
 
-pub number_hex : (bits n at p : ℕ) (r out : List ℕ) → IsWhole bits n → most_whole < n → PutsBytes (35 ∷ hexes 16 bits r) spare at p out → PutsBytes (numeral bits ++ r) spare at p out
-number_hex bits n at p r out h l q =
-    subst (λ (x : List ℕ). PutsBytes x spare at p out) (ap (λ (x : List ℕ). 35 ∷ x) (hexes_append 16 bits [] r) ∙ ap (λ (x : List ℕ). x ++ r) (sym (h.other l))) q
+pub number_hex : (bits at p : ℕ) (r out : List ℕ) → IsWhole bits None → PutsBytes (35 ∷ hexes 16 bits r) spare at p out → PutsBytes (numeral bits ++ r) spare at p out
+number_hex bits at p r out h q =
+    subst (λ (x : List ℕ). PutsBytes x spare at p out) (ap (λ (x : List ℕ). 35 ∷ x) (hexes_append 16 bits [] r) ∙ ap (λ (x : List ℕ). x ++ r) (sym h)) q
 
 -- ---- names
 
@@ -197,55 +204,35 @@ module _ {es : List ℕ} {s : ℕ} (m : NamedSymbol es s) where
       get_or-take (get_or (entry_at es s) 0 0) (drop 1 (entry_at es s)) j 0 (omega arith)
       ∙ get_or-drop 1 (entry_at es s) j 0 ∙ entry_byte (1 + j) (omega arith) ∙ ap (λ (i : ℕ). get_or es (s * 33 + i) 0) (omega arith)
 
-pub record NameLeft (es : List ℕ) (s at : ℕ) (out₀ out : List ℕ) (left place : ℕ) : Type 0 where
-  pub named : NamedSymbol es s
-  pub few : left ≤ get_or es (s * 33) 0
-  pub place_is : place + get_or es (s * 33) 0 ≡ at + left
-  pub same : drop place out ≡ drop left (Names.name_at es s) ++ drop at out₀
-  pub long : length out ≡ space
-  pub free : Open out₀ at
+  -- it stands in the list behind its length
+  name_is : name ≡ take size (drop (s * 33 + 1) es)
+  name_is =
+      ap (λ (n : ℕ). take n (drop 1 (entry_at es s))) size_is
+      ∙ ap (take size) (drop-take 1 32 (drop (s * 33) es))
+      ∙ take-take size 32 (drop 1 (drop (s * 33) es)) m.short
+      ∙ ap (take size) (drop-drop 1 (s * 33) es)
 
-pub name_start : (es : List ℕ) (s at : ℕ) (out : List ℕ) (n : ℕ) → NamedSymbol es s → Open out at → n ≡ get_or es (s * 33) 0 → NameLeft es s at out out n at
-name_start es s at out n m o e = record {
-  named = m;
-  few = omega arith;
-  place_is = omega arith;
-  same = ap (λ (x : List ℕ). x ++ drop at out) (sym (ap (λ (i : ℕ). drop i (Names.name_at es s)) (e ∙ sym (name_length m)) ∙ drop-length (Names.name_at es s)));
-  long = o.long;
-  free = o;
-}
+  pub part_is : (part : List ℕ) (n k : ℕ) → n ≡ size → k ≡ n → part ≡ take k (drop (s * 33 + 1) es) → part ≡ name
+  part_is part n k e f q = q ∙ ap (λ (j : ℕ). take j (drop (s * 33 + 1) es)) (f ∙ e) ∙ sym name_is
 
-module _ {es : List ℕ} {s at : ℕ} {out₀ out : List ℕ} {left place : ℕ} (d : NameLeft es s at out₀ out left place) where
-  pub name_place : (left ≤ place) × (place ≤ space)
-  name_place = let w = d.place_is in let f = d.few in let l = d.free.low in let h = d.free.high in let g = d.named.short in (omega arith, omega arith)
+  pub part_long : (part : List ℕ) (n : ℕ) → n ≡ size → part ≡ name → n ≡ length part
+  part_long part n e p = e ∙ sym (ap length p ∙ name_length)
 
-  pub name_inside : s * 33 + left < length es
-  name_inside = let f = d.few in let g = d.named.short in let h = d.named.fits in omega arith
-
-  pub name_on : 0 < left → NameLeft es s at out₀ (set out (place - 1) (get_or es (s * 33 + left) 0)) (left - 1) (place - 1)
-  name_on h =
-      let p = name_place in
-      let l = d.long in
-      let w = d.place_is in
-      let f = d.few in
-      let n = name_length d.named in
-      let e : left - 1 + 1 ≡ left = omega arith in
-      let e' : suc (left - 1) ≡ left = omega arith in
+  pub name_put : (at : ℕ) (out part out' : List ℕ) → Open out at → (n : ℕ) → n ≡ size → part ≡ name → out' ≡ paste out (at - n) part n
+      → PutsBytes (name ++ drop at out) spare at (at - n) out'
+  name_put at out part out' o n e p q =
+      let g = m.short in
+      let w = o.long in
+      let l = o.low in
+      let h = o.high in
+      let z : at - n + n ≡ at = omega arith in
+      let t : length (take (at - n) out) ≡ at - n = length-take-le (at - n) out (omega arith) in
+      let r : out' ≡ take (at - n) out ++ (part ++ drop at out) = q ∙ paste_all out (at - n) part n (part_long part n e p) ∙ ap (λ (k : ℕ). take (at - n) out ++ (part ++ drop k out)) z in
       record {
-        named = d.named;
-        few = omega arith;
-        place_is = omega arith;
-        same =
-            front out place (get_or es (s * 33 + left) 0) (omega arith) (omega arith)
-            ∙ ap₂ (λ (b : ℕ) (x : List ℕ). b ∷ x) (sym (name_byte d.named (left - 1) (omega arith) ∙ ap (λ (i : ℕ). get_or es (s * 33 + i) 0) e)) (d.same ∙ ap (λ (i : ℕ). drop i (Names.name_at es s) ++ drop at out₀) (sym e'))
-            ∙ ap (λ (x : List ℕ). x ++ drop at out₀) (sym (drop-cons (Names.name_at es s) (left - 1) 0 (omega arith)));
-        long = length-set out (place - 1) (get_or es (s * 33 + left) 0) ∙ l;
-        free = d.free;
+        is =
+            ap (drop (at - n)) r ∙ ap (λ (k : ℕ). drop k (take (at - n) out ++ (part ++ drop at out))) (sym t)
+            ∙ drop-append_seam (take (at - n) out) (part ++ drop at out) ∙ ap (λ (x : List ℕ). x ++ drop at out) p;
+        long = omega (arith, ap length r, length-append (take (at - n) out) (part ++ drop at out), length-append part (drop at out), length-drop at out, part_long part n e p);
+        low = omega arith;
+        high = omega arith;
       }
-
-  pub name_end : left ≤ 0 → PutsBytes (Names.name_at es s ++ drop at out₀) spare at place out
-  name_end h =
-      let w = d.place_is in
-      let g = d.named.short in
-      let z : left ≡ 0 = omega arith in
-      record { is = d.same ∙ ap (λ (i : ℕ). drop i (Names.name_at es s) ++ drop at out₀) z; long = d.long; low = omega arith; high = omega arith }

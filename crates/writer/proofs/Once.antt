@@ -3,7 +3,7 @@ use Rattle.std.proofs.Common.{◌≡◌, ℕ, List, length, sym, refl, ap, ◌�
 use mathlib.Core.Option.{some}
 use Rattle.expression_text.specs.Written.{text_of}
 use Rattle.writer.specs.Writing.{NodeText, WrittenText, TooLong, in_buffer, unsound, unknown, textless, too_long, written, WritesOnce}
-use Rattle.writer.specs.declared.WriteAnswer.TheVariants.{Length}
+use Rattle.writer.specs.Answers.{Length}
 use Rattle.writer.proofs.Spelling.{only_one}
 use Rattle.writer.proofs.Answering.{proper_of}
 use Rattle.text.specs.Memory.{ControllerMemory, controller_of, BothSound}

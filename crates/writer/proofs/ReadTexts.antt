@@ -22,8 +22,7 @@ use Rattle.pruned_again.proofs.Fitting.{fitting}
 use Rattle.pruned_again.proofs.SoundStores.{sound_plainly}
 use Rattle.expression_text.specs.Written.{bracket_pairs}
 use Rattle.writer.specs.Writing.{Writes, unsound, unknown, textless, too_long, written, ReadTexts, FewestRead}
-use Rattle.writer.specs.declared.WriteAnswer.{WriteAnswer}
-use Rattle.writer.specs.declared.WriteAnswer.TheVariants.{Length}
+use Rattle.writer.specs.Answers.{WriteAnswer, Length}
 use Rattle.writer.proofs.Spelling.{nth_is}
 use Rattle.writer.proofs.Leaves.{named_at}
 

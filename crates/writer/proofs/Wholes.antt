@@ -9,21 +9,22 @@ use lib.Ieee.Fits.{down_pos}
 use Rattle.text_language.specs.Grammar.{whole_bits}
 use Rattle.expression_text.specs.Numeral.{numeral, whole_part}
 use Rattle.expression_text.specs.Numeral.{most_whole}
+use Rattle.std.specs.Prelude.{Some, None}
 use Rattle.writer.specs.Placing.{IsWhole}
 use Rattle.text_language.proofs.Sound.{absurd_bool}
 use Rattle.expression_text.specs.Proper.{number_bits}
 use Rattle.expression_text.proofs.Listing.{numerals, value_back}
 use Rattle.expression_text.proofs.Forms.{is_number, whole_bits_lem}
 
-pub whole_yes : (b n : ℕ) → n ≤ most_whole → whole_bits n ≡ b → IsWhole b n
-whole_yes b n h e = record { whole = λ l. ap numeral (sym e) ∙ numerals.whole n h; other = λ l. absurd (omega arith) }
+pub whole_yes : (b n : ℕ) → n ≤ most_whole → whole_bits n ≡ b → IsWhole b (Some n)
+whole_yes b n h e = (h, ap numeral (sym e) ∙ numerals.whole n h)
 
 -- no whole number from 0 to 999,999,999 has the bits
 abbrev pub NoWhole : ℕ → Type 0
 NoWhole b = (n : ℕ) → n ≤ most_whole → whole_bits n ≡ b → ⊥
 
-pub whole_no : (b : ℕ) → NoWhole b → IsWhole b 1000000000
-whole_no b none = record { whole = λ l. absurd (omega arith); other = λ l. numerals.other b (λ n h e. none n h (sym e)) }
+pub whole_no : (b : ℕ) → NoWhole b → IsWhole b None
+whole_no b none = numerals.other b (λ n h e. none n h (sym e))
 
 -- ---- a whole number's value
 

@@ -1,4 +1,4 @@
--- The expression of a node, if it has one: what a text that reads to it says, with the names as they are (02 d).
+-- The expression of a node, if it has one: what a text that reads to it says, with the names as they are.
 use Rattle.std.specs.Prelude.{◌≡◌, ℕ, Bool, true, false, cond, List, [], ◌∷◌, ◌==◌, slice_index_or}
 use Rattle.std.proofs.Math.Option.{Option, none, some}
 use Rattle.text_language.specs.Grammar.{sums, products, Expr, constant, variable, negated, linked, raised}

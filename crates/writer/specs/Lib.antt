@@ -1,3 +1,4 @@
+pub mod Answers
 pub mod Expression
 pub mod Writing
 pub mod Placing

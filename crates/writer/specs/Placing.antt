@@ -1,6 +1,6 @@
 -- What the functions say that put a node's text in front of other bytes, at the end of an array.
-use Rattle.std.specs.Prelude.{◌≡◌, ℕ, ◌+◌, ◌*◌, ◌<◌, ◌≤◌, true, ◌⊎◌, List, [], ◌∷◌, length, drop, nat_le, slice_index_or}
-use Rattle.std.proofs.Math.Option.{Option}
+use Rattle.std.specs.Prelude.{◌≡◌, ℕ, ◌+◌, ◌*◌, ◌<◌, ◌≤◌, true, ◌⊎◌, List, [], ◌∷◌, length, drop, nat_le, slice_index_or, Option, Some, None}
+use Rattle.std.proofs.Math.Option as Math
 use Rattle.text_language.specs.Grammar.{Expr}
 use Rattle.text_language.specs.Reader.{rank}
 use Rattle.text_language.specs.Program.{Join, plus, minus, times, over, raise}
@@ -14,6 +14,7 @@ use Rattle.expression_text.specs.Numeral.{most_whole, most_digits, hex_digits, n
 use Rattle.expression_text.specs.Written.{natural, wrap, bare, deeper, depth_of}
 use Rattle.writer.specs.Expression.{expression_of, is_some, or_any}
 use Rattle.writer.specs.declared.operators.Joint.{Joint}
+use Rattle.writer.specs.declared.placing.Formulas.{Formulas}
 
 -- a text of at most 8,192 bytes ends the array; in front of it is a place for the longest leaf, so that a leaf always fits: a place below
 -- `spare` says that the text has more bytes than it may
@@ -95,10 +96,10 @@ pub record PutsBytes (bytes : List ℕ) (most at r : ℕ) (out : List ℕ) : Typ
 
 -- ---- leaves
 
--- a constant is printed as a whole number, or as # and hex
-pub record IsWhole (bits r : ℕ) : Type 0 where
-  pub whole : r ≤ most_whole → numeral bits ≡ decimals most_digits r []
-  pub other : most_whole < r → numeral bits ≡ number_sign ∷ hexes hex_digits bits []
+-- a constant is printed as the whole number that it is, or as # and hex
+abbrev pub IsWhole : ℕ → Option ℕ → Type 0
+IsWhole bits (Some n) = (n ≤ most_whole) × (numeral bits ≡ decimals most_digits n [])
+IsWhole bits None = numeral bits ≡ number_sign ∷ hexes hex_digits bits []
 
 -- a name of the list can be read
 pub record NamedSymbol (entries : List ℕ) (symbol : ℕ) : Type 0 where
@@ -112,7 +113,7 @@ pub record KnownText (words : List ℕ) (count : ℕ) (entries : List ℕ) (name
   pub nodes : Nodes words count
   pub names : Names.SoundNames entries named
 
-abbrev pub expression_at : List ℕ → ℕ → List ℕ → ℕ → ℕ → Option Expr
+abbrev pub expression_at : List ℕ → ℕ → List ℕ → ℕ → ℕ → Math.Option Expr
 expression_at words count entries named id = expression_of (Names.names_of entries named) (nodes_in words count) id
 
 -- the expression of a node that has one
@@ -123,6 +124,19 @@ pub record Writable (words : List ℕ) (count : ℕ) (entries : List ℕ) (named
   pub known : KnownText words count entries named
   pub below : id < count
   pub has : is_some (expression_at words count entries named id) ≡ true
+
+-- the same of the nodes and the entries that are written from
+abbrev pub Known : Formulas → Type 0
+Known f = KnownText f.nodes.now f.count f.entries.now f.named
+
+abbrev pub spelled_at : Formulas → ℕ → Math.Option Expr
+spelled_at f id = expression_at f.nodes.now f.count f.entries.now f.named id
+
+abbrev pub IsWritable : Formulas → ℕ → Type 0
+IsWritable f id = Writable f.nodes.now f.count f.entries.now f.named id
+
+abbrev pub meant_by : Formulas → ℕ → Expr
+meant_by f id = meant f.nodes.now f.count f.entries.now f.named id
 
 -- an expression put in front of the bytes r, if there is a place for it and it nests no deeper than left; else a place below `spare`
 pub record PlacedText (e : Expr) (level left : ℕ) (r : List ℕ) (out : List ℕ) (place : ℕ) : Type 0 where

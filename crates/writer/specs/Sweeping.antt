@@ -1,16 +1,14 @@
--- What the functions say that decide which nodes have a text (13).
-use Rattle.std.specs.Prelude.{◌≡◌, ℕ, ◌+◌, ◌<◌, ◌≤◌, ◌⊎◌, List, length, ◌≢◌, slice_index}
+-- What the functions say that decide which nodes have a text.
+use Rattle.std.specs.Prelude.{◌≡◌, ℕ, ◌<◌, ◌≤◌, ◌⊎◌, List, length, ◌≢◌, slice_index}
 use Rattle.std.proofs.Math.Option.{Option, none, some}
 use Rattle.text_language.specs.Grammar.{Expr}
 use Rattle.text_language.specs.Reading.{most_bytes, most_nested}
 use Rattle.definitions.specs.Refusals.{no_text, text_too_long}
 use Rattle.definitions.specs.Limits.{most_nodes}
 use Rattle.expression_text.specs.Written.{text_of, depth_of}
-use Rattle.writer.specs.Placing.{space}
 use Rattle.writer.specs.Writing.{in_buffer}
 use Rattle.writer.specs.declared.sweeping.Form.{Form}
-use Rattle.writer.specs.declared.WriteAnswer.{WriteAnswer}
-use Rattle.writer.specs.declared.WriteAnswer.TheVariants.{Length, Refused}
+use Rattle.writer.specs.Answers.{WriteAnswer, Length, Refused}
 
 -- more children than a node has
 abbrev pub no_form : ℕ
@@ -44,17 +42,12 @@ pub record Unreached (reached : List ℕ) : Type 0 where
 
 -- ---- the text in the lent buffer
 
-pub record Copies (out : List ℕ) (place : ℕ) (buffer : List ℕ) : Type 0 where
-  pub long : length out ≡ space
-  pub within : place ≤ space
-  pub room : space ≤ place + length buffer
-
 pub record Texted (e : Expr) (buffer : List ℕ) (r : WriteAnswer) (buffer' : List ℕ) : Type 0 where
   pub refused : (most_bytes < length (text_of e)) ⊎ ((length buffer < length (text_of e)) ⊎ (most_nested < depth_of e)) → (r ≡ Refused text_too_long) × (buffer' ≡ buffer)
   pub written : length (text_of e) ≤ most_bytes → length (text_of e) ≤ length buffer → depth_of e ≤ most_nested
       → (r ≡ Length (length (text_of e))) × (buffer' ≡ in_buffer (text_of e) buffer)
 
--- 13, then 14, and all bytes stay; or the text at the start of the lent buffer, and its length
+-- no text, then a text too long, and all bytes stay; or the text at the start of the lent buffer, and its length
 unfoldable pub WritesExpression : Option Expr → List ℕ → WriteAnswer → List ℕ → Type 0
 WritesExpression none buffer r buffer' = (r ≡ Refused no_text) × (buffer' ≡ buffer)
 WritesExpression (some e) buffer r buffer' = Texted e buffer r buffer'

@@ -1,4 +1,4 @@
--- What a write says (02 d): of the lent store and the lent name list, an id, the lent text buffer, the answer and the buffer after it.
+-- What a write says of the lent store and the lent name list, an id, the lent text buffer, the answer and the buffer after it.
 use Rattle.std.specs.Prelude.{◌≡◌, ℕ, ◌<◌, ◌≤◌, false, ◌⊎◌, List, ◌++◌, length, take, drop}
 use Rattle.std.proofs.Math.Option.{none, some}
 use Rattle.text_language.specs.Grammar.{Expr, Text}
@@ -14,8 +14,7 @@ use Rattle.text.specs.Memory.{ControllerMemory, lent_controller, controller_of, 
 use Rattle.text.specs.Reading.{ReadsText}
 use Rattle.expression_text.specs.Written.{text_of, bracket_pairs, blanks}
 use Rattle.writer.specs.Expression.{expression_of}
-use Rattle.writer.specs.declared.WriteAnswer.{WriteAnswer}
-use Rattle.writer.specs.declared.WriteAnswer.TheVariants.{Length, Refused}
+use Rattle.writer.specs.Answers.{WriteAnswer, Length, Refused}
 
 -- ---- the texts of a node
 

@@ -6,15 +6,10 @@ ghost use Rattle.writer.specs.Placing.{spare, IsWhole, Open, PutsBytes};
 
 use crate::placing::SPACE;
 use expression_text::{MOST_WHOLE, NUMBER_SIGN};
+use text_language::is_nan;
 
-// More than is printed in digits.
-const NOT_WHOLE: u64 = MOST_WHOLE + 1;
-
-// With the sign's bit off, the patterns above the infinity's are those of NaN.
-const BITS_OF_INFINITY: u64 = 0x7ff0_0000_0000_0000;
-
-// 2^63: the weight of the sign's bit.
-const SIGN_BIT: u64 = 0x8000_0000_0000_0000;
+// A constant's bits have 16 hex digits.
+const BITS_DIGITS: usize = 16;
 
 // A digit, decimal or capital hex.
 fn digit(value: u64) -> u8
@@ -38,7 +33,7 @@ fn put_decimal(out: &mut [u8; SPACE], at: usize, n: u64) -> usize
     loop {
         place -= 1;
         out[place] = digit(rest % 10);
-        rest = rest / 10;
+        rest /= 10;
         if rest == 0 {
             return place;
         }
@@ -52,12 +47,10 @@ fn put_hex(out: &mut [u8; SPACE], at: usize, bits: u64) -> usize
 {
     let mut place = at;
     let mut rest = bits;
-    let mut left: usize = 16;
-    while 0 < left {
+    for _written in 0..BITS_DIGITS {
         place -= 1;
         out[place] = digit(rest % 16);
-        rest = rest / 16;
-        left -= 1;
+        rest /= 16;
     }
     place -= 1;
     out[place] = NUMBER_SIGN;
@@ -68,15 +61,15 @@ fn put_hex(out: &mut [u8; SPACE], at: usize, bits: u64) -> usize
 pub(crate) fn is_number(bits: u64) -> bool
     ensures { result ≡ number_bits bits }
 {
-    bits % SIGN_BIT <= BITS_OF_INFINITY
+    !is_nan(bits)
 }
 
-// The whole number from 0 to 999,999,999 that a pattern is of; or one more.
-fn whole(bits: u64) -> u64
+// The whole number from 0 to 999,999,999 that bits are of, if they are of one.
+fn whole(bits: u64) -> Option<u64>
     ensures { IsWhole bits result }
 {
     if !is_number(bits) {
-        return NOT_WHOLE;
+        return None;
     }
     let x = f64::from_bits(bits);
     if x > -1.0 {
@@ -85,15 +78,15 @@ fn whole(bits: u64) -> u64
             if n <= MOST_WHOLE {
                 let y = std::num::nearest_u64_to_f64(n);
                 if f64::to_bits(y) == bits {
-                    return n;
+                    return Some(n);
                 }
-                return NOT_WHOLE;
+                return None;
             }
-            return NOT_WHOLE;
+            return None;
         }
-        return NOT_WHOLE;
+        return None;
     }
-    NOT_WHOLE
+    None
 }
 
 // A constant in front.
@@ -101,9 +94,8 @@ pub(crate) fn put_number(out: &mut [u8; SPACE], at: usize, bits: u64) -> usize
     requires { Open out.old at }
     ensures { PutsBytes (numeral bits ++ drop at out.old) spare at result out.new }
 {
-    let n = whole(bits);
-    if n <= MOST_WHOLE {
-        return put_decimal(out, at, n);
+    match whole(bits) {
+        Some(n) => put_decimal(out, at, n),
+        None => put_hex(out, at, bits),
     }
-    put_hex(out, at, bits)
 }

@@ -1,7 +1,7 @@
 // Operators and kinds as texts have them: signs, and where an operand stands without brackets.
 ghost use Rattle.writer.specs.Placing.{Ranked, JoinsKind};
 
-use kinds::{ADD, CONSTANT, DIV, MUL, POW, SUB};
+use kinds::{ADD, DIV, MUL, POW, SUB};
 
 // The ranks of the four kinds of text: each is one of the higher ones.
 pub(crate) const FACTOR: u64 = 1;
@@ -60,21 +60,14 @@ pub(crate) fn joint_of(kind: u64) -> Joint
     }
 }
 
-// The rank of a node's text without brackets: 1 a factor, 2 a power, 3 a product, 4 a sum.
+// The rank of a node's text without brackets.
 pub(crate) fn rank(kind: u64) -> u64
     ensures { Ranked kind result }
 {
-    if kind <= CONSTANT {
-        return FACTOR;
+    match kind {
+        ADD | SUB => SUM,
+        MUL | DIV => PRODUCT,
+        POW => POWER,
+        _ => FACTOR,
     }
-    if kind <= SUB {
-        return SUM;
-    }
-    if kind <= DIV {
-        return PRODUCT;
-    }
-    if kind == POW {
-        return POWER;
-    }
-    FACTOR
 }

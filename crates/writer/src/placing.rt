@@ -4,9 +4,8 @@ ghost use Rattle.definitions.specs.Node as N;
 ghost use Rattle.store.specs.View.{nodes_in};
 ghost use Rattle.name_entries.specs.Sound as Names;
 ghost use Rattle.expression_text.specs.Written.{bare};
-ghost use Rattle.writer.specs.Placing.{spare, NamedSymbol, Open, PutsBytes, Writable, PlacedText, meant};
+ghost use Rattle.writer.specs.Placing.{spare, NamedSymbol, Open, PutsBytes, IsWritable, PlacedText, meant_by};
 
-use crate::bytes::index;
 use crate::numerals::put_number;
 use crate::operators::{FACTOR, SUM, joint_of, rank};
 use expression_text::{CLOSING_BRACKET, MINUS, OPENING_BRACKET};
@@ -20,6 +19,15 @@ pub(crate) const SPACE: usize = SPARE + MOST_BYTES;
 
 // An entry of the name list: a length, and 32 bytes.
 pub(crate) const ENTRY_BYTES: usize = 33;
+
+/// The nodes of a store and the entries of a name list, from which texts are written.
+#[derive(Clone, Copy)]
+pub struct Formulas<'a> {
+    pub nodes: &'a [u64],
+    pub count: u64,
+    pub entries: &'a [u8],
+    pub named: usize,
+}
 
 // One byte more in front.
 fn push(out: &mut [u8; SPACE], at: usize, byte: u8) -> usize
@@ -37,59 +45,44 @@ fn put_name(entries: &[u8], symbol: usize, out: &mut [u8; SPACE], at: usize) -> 
     ensures { PutsBytes (Names.name_at entries.now symbol ++ drop at out.old) spare at result out.new }
 {
     let start = symbol * ENTRY_BYTES;
-    let mut left = index(entries[start]);
-    let mut place = at;
-    while 0 < left {
-        place -= 1;
-        out[place] = entries[start + left];
-        left -= 1;
-    }
+    let size = usize::from(entries[start]);
+    let place = at - size;
+    out[place..at].copy_from_slice(&entries[start + 1..start + 1 + size]);
     place
 }
 
 // A leaf's text in front.
-fn put_leaf(
-    nodes: &[u64],
-    count: u64,
-    entries: &[u8],
-    named: usize,
-    id: u64,
-    out: &mut [u8; SPACE],
-    at: usize,
-) -> usize
-    requires { Writable nodes.now count entries.now named id × ((N.at (nodes_in nodes.now count) id).kind ≤ 1) × Open out.old at }
-    ensures { PutsBytes (bare (meant nodes.now count entries.now named id) (drop at out.old)) spare
+fn put_leaf(formulas: Formulas, id: u64, out: &mut [u8; SPACE], at: usize) -> usize
+    requires { IsWritable formulas id × ((N.at (nodes_in formulas.nodes.now formulas.count) id).kind ≤ 1) × Open out.old at }
+    ensures { PutsBytes (bare (meant_by formulas.entry id) (drop at out.old)) spare
         at result
         out.new }
 {
-    let payload = store::payload(nodes, count, id);
-    if store::kind(nodes, count, id) == CONSTANT {
+    let payload = store::payload(formulas.nodes, formulas.count, id);
+    if store::kind(formulas.nodes, formulas.count, id) == CONSTANT {
         return put_number(out, at, payload);
     }
-    put_name(entries, payload as usize, out, at)
+    put_name(formulas.entries, payload as usize, out, at)
 }
 
 // A node's text in front, where a text of so high a rank is wanted.
 pub(crate) fn put(
-    nodes: &[u64],
-    count: u64,
-    entries: &[u8],
-    named: usize,
+    formulas: Formulas,
     id: u64,
     level: u64,
     left: u64,
     out: &mut [u8; SPACE],
     from: usize,
 ) -> usize
-    requires { Writable nodes.now count entries.now named id × Open out.old from }
-    ensures { PlacedText (meant nodes.now count entries.now named id) level left (drop from out.old)
+    requires { IsWritable formulas id × Open out.old from }
+    ensures { PlacedText (meant_by formulas.entry id) level left (drop from out.old)
         out.new result }
 {
     let mut node = id;
     let mut high = level;
     let mut first = from;
     loop {
-        let kind = store::kind(nodes, count, node);
+        let kind = store::kind(formulas.nodes, formulas.count, node);
         if high < rank(kind) {
             if left == 0 {
                 return 0;
@@ -98,41 +91,21 @@ pub(crate) fn put(
             if close < SPARE {
                 return 0;
             }
-            let inside = put(
-                nodes,
-                count,
-                entries,
-                named,
-                node,
-                SUM,
-                left - 1,
-                out,
-                close,
-            );
+            let inside = put(formulas, node, SUM, left - 1, out, close);
             if inside < SPARE {
                 return 0;
             }
             return push(out, inside, OPENING_BRACKET);
         }
         if kind <= CONSTANT {
-            return put_leaf(nodes, count, entries, named, node, out, first);
+            return put_leaf(formulas, node, out, first);
         }
         if kind == NEG {
             if left == 0 {
                 return 0;
             }
-            let operand = store::child(nodes, count, node, 0);
-            let inner = put(
-                nodes,
-                count,
-                entries,
-                named,
-                operand,
-                FACTOR,
-                left - 1,
-                out,
-                first,
-            );
+            let operand = store::child(formulas.nodes, formulas.count, node, 0);
+            let inner = put(formulas, operand, FACTOR, left - 1, out, first);
             if inner < SPARE {
                 return 0;
             }
@@ -143,18 +116,8 @@ pub(crate) fn put(
         if left < nesting {
             return 0;
         }
-        let right = store::child(nodes, count, node, 1);
-        let second = put(
-            nodes,
-            count,
-            entries,
-            named,
-            right,
-            joint.right,
-            left - nesting,
-            out,
-            first,
-        );
+        let right = store::child(formulas.nodes, formulas.count, node, 1);
+        let second = put(formulas, right, joint.right, left - nesting, out, first);
         if second < SPARE {
             return 0;
         }
@@ -162,7 +125,7 @@ pub(crate) fn put(
         if sign < SPARE {
             return 0;
         }
-        node = store::child(nodes, count, node, 0);
+        node = store::child(formulas.nodes, formulas.count, node, 0);
         high = joint.left;
         first = sign;
     }

@@ -8,14 +8,14 @@ ghost use Rattle.store.specs.Lookup.{Lookup};
 ghost use Rattle.name_entries.specs.Sound as Names;
 ghost use Rattle.expression_text.specs.Proper.{is_name};
 ghost use Rattle.writer.specs.Expression.{Standing, is_some, symbol_name};
-ghost use Rattle.writer.specs.Placing.{KnownText, expression_at};
+ghost use Rattle.writer.specs.Placing.{Known, spelled_at};
 ghost use Rattle.writer.specs.Sweeping.{FormOf, Marks, Unreached};
 
-use crate::bytes::{index, is_letter, is_word};
 use crate::numerals::is_number;
-use crate::placing::ENTRY_BYTES;
+use crate::placing::{ENTRY_BYTES, Formulas};
 use arena::{CANONICAL, FLAGS, MOST_NODES, NODE_WORDS, REORDERABLE};
 use kinds::{ADD, CONSTANT, MUL, NEG, POW, VARIABLE};
+use text_bytes::{is_letter, is_word};
 
 const NODES: usize = MOST_NODES as usize;
 
@@ -35,13 +35,7 @@ fn form_of(kind: u64) -> Form
     if kind <= CONSTANT {
         return Form { arity: 0, flags: 0 };
     }
-    if kind == ADD {
-        return Form {
-            arity: 2,
-            flags: REORDERABLE,
-        };
-    }
-    if kind == MUL {
+    if kind == ADD || kind == MUL {
         return Form {
             arity: 2,
             flags: REORDERABLE,
@@ -76,36 +70,34 @@ fn is_named(entries: &[u8], named: usize, symbol: u64) -> bool
         return false;
     }
     let start = symbol as usize * ENTRY_BYTES;
-    let size = index(entries[start]);
+    let size = usize::from(entries[start]);
     if !is_letter(entries[start + 1]) {
         return false;
     }
-    let mut j: usize = 1;
-    while j < size {
+    for j in 1..size {
         if !is_word(entries[start + (j + 1)]) {
             return false;
         }
-        j += 1;
     }
     true
 }
 
 // Whether a node's kind, flags and number of children are such as texts have, its operands aside.
-fn stands(nodes: &[u64], count: u64, entries: &[u8], named: usize, id: u64) -> bool
-    requires { KnownText nodes.now count entries.now named × (id < count) }
-    ensures { Says result (Standing (Names.names_of entries.now named) (N.at (nodes_in nodes.now count) id)) }
+fn stands(formulas: Formulas, id: u64) -> bool
+    requires { Known formulas × (id < formulas.count) }
+    ensures { Says result (Standing (Names.names_of formulas.entry.entries.now formulas.entry.named) (N.at (nodes_in formulas.entry.nodes.now formulas.entry.count) id)) }
 {
-    let kind = store::kind(nodes, count, id);
+    let kind = store::kind(formulas.nodes, formulas.count, id);
     let form = form_of(kind);
-    if store::arity(nodes, count, id) != form.arity {
+    if store::arity(formulas.nodes, formulas.count, id) != form.arity {
         return false;
     }
-    if flags(nodes, count, id) != form.flags {
+    if flags(formulas.nodes, formulas.count, id) != form.flags {
         return false;
     }
-    let payload = store::payload(nodes, count, id);
+    let payload = store::payload(formulas.nodes, formulas.count, id);
     if kind == VARIABLE {
-        return is_named(entries, named, payload);
+        return is_named(formulas.entries, formulas.named, payload);
     }
     if kind == CONSTANT {
         return is_number(payload);
@@ -133,35 +125,29 @@ fn reach(nodes: &[u64], count: u64, id: u64, reached: &mut [u8; NODES])
 }
 
 // Whether a node has a text: each node under it is looked at once, however often it is shared.
-fn sweep(
-    nodes: &[u64],
-    count: u64,
-    entries: &[u8],
-    named: usize,
-    root: u64,
-    reached: &mut [u8; NODES],
-) -> bool
-    requires { KnownText nodes.now count entries.now named × (root < count) × Unreached reached.old }
-    ensures { result ≡ is_some (expression_at nodes.now count entries.now named root) }
+fn sweep(formulas: Formulas, root: u64, reached: &mut [u8; NODES]) -> bool
+    requires { Known formulas × (root < formulas.count) × Unreached reached.old }
+    ensures { result ≡ is_some (spelled_at formulas.entry root) }
 {
     reached[root as usize] = 1;
+    // Backwards, and its measure is the id: a range in reverse is no plainer, as its proof speaks of what an iterator yielded.
     let mut i = root + 1;
     while 0 < i {
         i -= 1;
         if reached[i as usize] != 0 {
-            if !stands(nodes, count, entries, named, i) {
+            if !stands(formulas, i) {
                 return false;
             }
-            reach(nodes, count, i, reached);
+            reach(formulas.nodes, formulas.count, i, reached);
         }
     }
     true
 }
 
-pub(crate) fn has_text(nodes: &[u64], count: u64, entries: &[u8], named: usize, root: u64) -> bool
-    requires { KnownText nodes.now count entries.now named × (root < count) }
-    ensures { result ≡ is_some (expression_at nodes.now count entries.now named root) }
+pub(crate) fn has_text(formulas: Formulas, root: u64) -> bool
+    requires { Known formulas × (root < formulas.count) }
+    ensures { result ≡ is_some (spelled_at formulas.entry root) }
 {
     let mut reached = [0u8; NODES];
-    sweep(nodes, count, entries, named, root, &mut reached)
+    sweep(formulas, root, &mut reached)
 }

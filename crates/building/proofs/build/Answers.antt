@@ -1,6 +1,4 @@
-use borrow.Author.Tests.{not-true, not-false}
 use Rattle.building.specs.Requests.{unsound, sound}
-use borrow.Author.Rules.{rules}
 use Rattle.building.proofs.build.Goals as goal
 
 pub returns-then-not-audit : goal.returns-then-not-audit

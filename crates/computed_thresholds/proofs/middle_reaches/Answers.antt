@@ -3,7 +3,6 @@ use Prim.Native.Nat.{◌-◌, ◌*◌}
 use native.Mathlib.Omega.{arith}
 use lib.Dec.{lit<, lit≤}
 use Rattle.computed_thresholds.proofs.Comparing.{one_limbs, sixteens_fit, powers_fit, all_fit, all_is, compared}
-use borrow.Author.Rules.{rules}
 use Rattle.computed_thresholds.proofs.middle_reaches.Goals as goal
 
 pub multiply_by_power-sixteens-requires : goal.multiply_by_power-sixteens-requires
@@ -25,4 +24,4 @@ returns c =
     let m = c.multiply_by_power-sixteens.ensures in
     let m' = c.multiply_by_power-powers.ensures in
     let m'' = c.multiply_by_power-used.ensures in
-    compared c.args.n c.args.pattern c.requires.first_pruning_setting_le_n c.requires.lowest_le_pattern m''.limbs (all_is (800 - 3 * c.args.n) m m' _ m'')
+    compared c.args.n c.args.pattern c.requires.prunes c.requires.in_range m''.limbs (all_is (800 - 3 * c.args.n) m m' _ m'')

@@ -6,20 +6,18 @@ use borrow.Author.Rules.{rules}
 use Rattle.dedup.proofs.insert_growing.Goals as goal
 
 pub returns-then-slots-size : goal.returns-then-slots-size
-returns-then-slots-size c = let p = c.requires.0 in refuse_slots _ _ _ _ p.new p.many p.fits p.load (let l = c.if-slots-size.true in omega arith)
+returns-then-slots-size c = let p = c.requires in refuse_slots _ _ _ _ p.new p.many p.fits p.load (let l = c.if-slots-size.true in omega arith)
 
 pub store_parts-requires : goal.store_parts-requires
-store_parts-requires c = (c.requires.0.fits, c.requires.1)
+store_parts-requires c = c.requires.fits
 
 pub rehash-requires : goal.rehash-requires
 rehash-requires c =
-    let p = c.requires.0 in
-    let a = c.args in
-    rw c.store_parts.ensures (doubles _ _ _ _ p.new p.many p.fits (key_places a.kind a.payload a.flags a.children.now a.hash c.requires.1) p.load c.if-slots-size.false)
+    let p = c.requires in
+    rw c.store_parts.ensures (doubles _ _ _ _ p.new p.many p.fits (key_places c.args.key) p.load c.if-slots-size.false)
 
 pub returns : goal.returns
 returns c =
-    let p = c.requires.0 in
-    let a = c.args in
+    let p = c.requires in
     rw c.store_parts.ensures
-    (added_doubled _ _ _ _ p.new p.many p.fits (key_places a.kind a.payload a.flags a.children.now a.hash c.requires.1) p.load c.if-slots-size.false _ (rw c.store_parts.ensures at c.rehash.ensures))
+    (added_doubled _ _ _ _ p.new p.many p.fits (key_places c.args.key) p.load c.if-slots-size.false _ (rw c.store_parts.ensures at c.rehash.ensures))

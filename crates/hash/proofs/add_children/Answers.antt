@@ -1,15 +1,15 @@
--- `hash::add_children` meets its contract. The invariant: the sum is the hash over the children passed.
-use Rattle.std.proofs.Common.{◌≡◌, ◌-◌, ◌≤◌, length, take, refl, arith, take_all, rules}
+-- The sum is the hash over the children passed.
+use Rattle.std.proofs.Common.{refl, sym, arith}
 use Rattle.hash.specs.Fnv.{fnv_from, children_bytes}
-use Rattle.hash.proofs.Appending.{child_more}
+use Rattle.hash.proofs.Appending.{child_more, all_children}
 use Rattle.hash.proofs.add_children.Goals as goal
 
-pub loop-i-init : goal.loop-i-init
+pub loop-child-init : goal.loop-child-init
 unfolding fnv_from children_bytes
-loop-i-init c = (search rules, refl)
+loop-child-init g c = refl
 
-pub loop-i-preserved : goal.loop-i-preserved
-loop-i-preserved c = (search rules, cc (child_more c.args.h c.args.children.now c.loop-i.i c.loop-i-test.true))
+pub loop-child-preserved : goal.loop-child-preserved
+loop-child-preserved g c = rw (c.add_u32-sum.ensures, c.value.ensures, c.loop-child.invariant) (child_more g.T.Child.value _ _ _ _ (omega arith) (sym c.child-item.is))
 
 pub returns : goal.returns
-returns c = let e : c.loop-i.i ≡ length c.args.children.now = omega arith in cc (take_all (length c.args.children.now) c.args.children.now (omega arith))
+returns g c = rw (c.loop-child.invariant, all_children g.T.Child.value c.args.children.now c.loop-child.child-index (omega arith)) refl

@@ -6,4 +6,4 @@ use Rattle.hash.proofs.node_hash.Goals as goal
 
 pub returns : goal.returns
 unfolding node_hash_of
-returns c = rw fnv_append (cc)
+returns g c = rw fnv_append (cc)

@@ -1,10 +1,4 @@
 use Rattle.listing_lines.proofs.Lines.{same_outcome, ok_line, spent_line, empty_line, refused_line}
-use borrow.Author.Rules.{rules}
-use Rattle.listing_lines.proofs.first_line.Reads as reads
-use Rattle.listing_lines.proofs.first_line.Lts as lts
-use Rattle.listing_lines.proofs.digits.with_number.Reads as with-number-reads
-use Rattle.listing_lines.proofs.line.new.Reads as new-reads
-use Rattle.listing_lines.proofs.line.with_bytes.Reads as with-bytes-reads
 use Rattle.listing_lines.proofs.first_line.Goals as goal
 
 pub returns-in-Ok : goal.returns-in-Ok

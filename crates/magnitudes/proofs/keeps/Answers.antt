@@ -1,6 +1,5 @@
 -- `magnitudes::keeps` meets its contract.
 use mathlib.Core.Path.{ap, ◌∙◌}
-use borrow.Author.Rules.{rules}
 use lib.Ieee.{Float, binary64, of_bits, le}
 use Rattle.definitions.specs.Prune.{keeps}
 use Rattle.magnitudes.proofs.keeps.Goals as goal

@@ -1,6 +1,5 @@
 -- `magnitudes::magnitude_of_term` meets its contract.
 use mathlib.Core.Path.{sym, ◌∙◌}
-use borrow.Author.Rules.{rules}
 use Rattle.magnitudes.proofs.Magnitudes.{constant_magnitude, other_magnitude}
 use Rattle.magnitudes.proofs.magnitude_of_term.Goals as goal
 

@@ -1,17 +1,21 @@
-use borrow.Author.Rules.{rules}
-use Rattle.decisions.proofs.Values as Values
-use Rattle.merges.proofs.Splitting as Splitting
 use Rattle.merges.proofs.MergeLaws as Merges
 use Rattle.merges.proofs.mul_merge.Goals as goal
 
-pub returns-in_default : goal.returns-in_default
-returns-in_default c = Merges.no_factor c.requires (Values.known c.in_default.is c.constant_value-x.ensures)
+pub returns-in_err-factor : goal.returns-in_err-factor
+returns-in_err-factor c = rw c.from_residual.ensures (Merges.no_factor c.requires c.in_err-factor.ensures)
 
-pub returns-in-Left : goal.returns-in-Left
-returns-in-Left c = Merges.left_factor c.requires (Values.known c.in-Bits.is c.constant_value-x.ensures) (Splitting.known_split c.in-Left.is c.constant_child-y.ensures.is) (Splitting.known_other _ c.in-Left.is c.constant_child-y.ensures.low) c.fold.ensures.is c.fold.ensures.number c.constant_left.ensures
+pub returns-in_err-child : goal.returns-in_err-child
+returns-in_err-child c = rw c.from_residual-in_err-child.ensures (Merges.no_product c.requires _ c.in_ok-factor.ensures c.in_err-child.ensures.is)
 
-pub returns-in-Right : goal.returns-in-Right
-returns-in-Right c = Merges.right_factor c.requires (Values.known c.in-Bits.is c.constant_value-x.ensures) (Splitting.known_split c.in-Right.is c.constant_child-y.ensures.is) (Splitting.known_other _ c.in-Right.is c.constant_child-y.ensures.low) c.fold-in-Right.ensures.is c.fold-in-Right.ensures.number c.constant_right.ensures
+pub returns-in_err-bits : goal.returns-in_err-bits
+returns-in_err-bits c =
+    let child = c.in_ok-child.child in
+    let found = c.in_ok-child.ensures in
+    rw c.from_residual-in_err-bits.ensures
+    (Merges.merges_product c.requires _ c.in_ok-factor.ensures child.bits child.side child.other found.is found.low c.in_err-bits.ensures)
 
-pub returns-in-Missing : goal.returns-in-Missing
-returns-in-Missing c = Merges.no_product c.requires (Values.known c.in-Bits.is c.constant_value-x.ensures) (Splitting.known_split c.in-Missing.is c.constant_child-y.ensures.is)
+pub returns : goal.returns
+returns c =
+    let child = c.in_ok-child.child in
+    let found = c.in_ok-child.ensures in
+    Merges.merges_product c.requires _ c.in_ok-factor.ensures child.bits child.side child.other found.is found.low c.in_ok-bits.ensures

@@ -1,6 +1,5 @@
 -- `name_audit::audit` meets its contract: its tests are the parts of soundness.
 use native.Mathlib.Omega.{arith}
-use borrow.Author.Tests.{not-true, not-false}
 use Rattle.name_audit.proofs.Auditing.{many_no, lent_no, entries_no, all_parts}
 use Rattle.name_audit.proofs.audit.Goals as goal
 

@@ -1,6 +1,4 @@
 -- `names::intern` meets its contract.
-use borrow.Author.Rules.{rules}
-use borrow.Author.Tests.{not-true, not-false}
 use Rattle.names.proofs.Calling.{called_unsound, intern_length}
 use Rattle.names.proofs.Determined.{clauses_give_equation}
 use Rattle.names.proofs.intern.Goals as goal

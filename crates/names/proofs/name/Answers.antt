@@ -1,7 +1,5 @@
 -- `names::name` meets its contract: each way through it is one case of the plain registry.
 use native.Mathlib.Omega.{arith}
-use borrow.Author.Rules.{rules}
-use borrow.Author.Tests.{not-true, not-false}
 use Rattle.names.proofs.Calling.{name_called_unsound, name_called_unknown, name_called_known}
 use Rattle.names.proofs.name.Goals as goal
 

@@ -1,5 +1,4 @@
 -- `pruner::prune` meets its contract. Assumes nothing.
-use borrow.Author.Rules.{rules}
 use Rattle.pruner.proofs.Calling as Q
 use Rattle.pruner.proofs.prune.Goals as goal
 

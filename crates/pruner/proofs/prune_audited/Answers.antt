@@ -1,14 +1,11 @@
--- `pruner::prune_audited` meets its contract. Assumes nothing.
-use borrow.Author.Rules.{rules}
-use borrow.Author.Tests.{not-true, not-false}
 use Rattle.pruner.specs.Answers.{unsound, sound}
 use Rattle.pruner.proofs.prune_audited.Goals as goal
 
 pub returns-then-not-audit : goal.returns-then-not-audit
 returns-then-not-audit c = unsound (c.audit.ensures.no c.if-not-audit.true)
 
-pub prune_call-requires : goal.prune_call-requires
-prune_call-requires c = c.audit.ensures.yes c.if-not-audit.false
+pub prune_lists-requires : goal.prune_lists-requires
+prune_lists-requires c = c.audit.ensures.yes c.if-not-audit.false
 
 pub returns : goal.returns
-returns c = sound (c.audit.ensures.yes c.if-not-audit.false) c.prune_call.ensures
+returns c = sound (c.audit.ensures.yes c.if-not-audit.false) c.prune_lists.ensures

@@ -1,12 +1,12 @@
 -- By the mode.
 use mathlib.Core.Path.{ap}
 use Rattle.definitions.specs.Modes.{mode_of}
+use Rattle.store.specs.Held.{held}
 use Rattle.rebuild.proofs.Rebuilding as B
-use borrow.Author.Rules.{rules}
 use Rattle.rebuild.proofs.mark.Goals as goal
 
-pub returns-in-Standard : goal.returns-in-Standard
-returns-in-Standard c = B.standard_marked (ap mode_of c.in-Standard.is) _ c.mark.ensures
+pub returns-in-Standard-clause-marks : goal.returns-in-Standard-clause-marks
+returns-in-Standard-clause-marks c = B.standard_marked (held c.args.store.now) _ (ap mode_of c.in-Standard.is) (held c.mark.new.self) c.mark.ensures.marks c.mark.ensures.slots c.mark.ensures.arena
 
-pub returns-in-Strict : goal.returns-in-Strict
-returns-in-Strict c = B.strict_marked (ap mode_of c.in-Strict.is)
+pub returns-in-Strict-clause-marks : goal.returns-in-Strict-clause-marks
+returns-in-Strict-clause-marks c = B.strict_marked (held c.args.store.now) _ (ap mode_of c.in-Strict.is)

@@ -1,20 +1,30 @@
 -- By what the patterns answer.
 use Rattle.definitions.specs.Modes.{mode_of}
+use Rattle.std.proofs.Common.{rules}
+use Rattle.std.proofs.lemmas.Result.{err_from_is_err_and}
+use Rattle.store.specs.Held.{held}
 use Rattle.rebuild.proofs.Rebuilding as B
-use borrow.Author.Rules.{rules}
 use Rattle.rebuild.proofs.rebuild_or_match.Goals as goal
 
-pub try_apply-applied-requires : goal.try_apply-applied-requires
-try_apply-applied-requires c = (B.operands _ _ _ c.requires, c.requires.sound)
+pub apply_in-requires : goal.apply_in-requires
+apply_in-requires c = B.operands (held c.args.store.now) _ _ c.requires
 
-pub rebuild-built-requires : goal.rebuild-built-requires
-rebuild-built-requires c = B.still _ _ _ c.requires _ c.kind-kind.ensures (mode_of c.args.mode) _ _ _ c.try_apply-applied.ensures c.in-Declined.is
+pub returns-in_err-rewritten-clause-rebuilds : goal.returns-in_err-rewritten-clause-rebuilds
+returns-in_err-rewritten-clause-rebuilds c =
+    let p = err_from_is_err_and c.from_residual.result c.from_residual.ensures.1 in
+    rw (p.1, p.2) (B.stopped_at (held c.args.store.now) _ _ c.requires _ c.kind-kind.ensures (mode_of c.args.mode) (held c.apply_in.new.store) _ c.in_err-rewritten.ensures.applies)
 
-pub returns-in-Declined : goal.returns-in-Declined
-returns-in-Declined c = B.declined _ _ _ c.requires _ c.kind-kind.ensures (mode_of c.args.mode) _ _ _ c.try_apply-applied.ensures c.in-Declined.is _ _ _ c.rebuild-built.ensures
+pub returns-in-Some-clause-rebuilds : goal.returns-in-Some-clause-rebuilds
+returns-in-Some-clause-rebuilds c =
+    B.matched (held c.args.store.now) _ _ c.requires _ c.kind-kind.ensures (mode_of c.args.mode) (held c.apply_in.new.store) _ (rw (← c.in-Some.is) c.in_ok-rewritten.ensures.applies)
 
-pub returns-in-Id : goal.returns-in-Id
-returns-in-Id c = B.result _ _ _ c.requires _ c.kind-kind.ensures (mode_of c.args.mode) _ _ _ c.try_apply-applied.ensures _ c.in-Id.is
+pub rebuild-requires : goal.rebuild-requires
+rebuild-requires c = B.still (held c.args.store.now) _ _ c.requires _ c.kind-kind.ensures (mode_of c.args.mode) (held c.apply_in.new.store) (rw (← c.in_default.is) c.in_ok-rewritten.ensures.applies)
 
-pub returns-in-Refused : goal.returns-in-Refused
-returns-in-Refused c = B.refusal _ _ _ c.requires _ c.kind-kind.ensures (mode_of c.args.mode) _ _ _ c.try_apply-applied.ensures _ c.in-Refused.is
+pub returns-in_err-id-clause-rebuilds : goal.returns-in_err-id-clause-rebuilds
+returns-in_err-id-clause-rebuilds c =
+    let p = err_from_is_err_and c.from_residual-in_err-id.result c.from_residual-in_err-id.ensures.1 in
+    rw (p.1, p.2) (B.declined_stopped (held c.args.store.now) _ _ c.requires _ c.kind-kind.ensures (mode_of c.args.mode) (held c.apply_in.new.store) (rw (← c.in_default.is) c.in_ok-rewritten.ensures.applies) _ (held c.rebuild.new.store) c.in_err-id.ensures.anew)
+
+pub returns-clause-rebuilds : goal.returns-clause-rebuilds
+returns-clause-rebuilds c = B.declined (held c.args.store.now) _ _ c.requires _ c.kind-kind.ensures (mode_of c.args.mode) (held c.apply_in.new.store) (rw (← c.in_default.is) c.in_ok-rewritten.ensures.applies) _ (held c.rebuild.new.store) c.in_ok-id.ensures.anew

@@ -1,9 +1,6 @@
 use mathlib.Core.Path.{refl}
 use native.Mathlib.Omega.{arith}
 use Rattle.records.proofs.Whole.{open_empty, open_long, open_byte, open_right}
-use borrow.Author.Rules.{rules}
-use Rattle.records.proofs.open.Reads as reads
-use Rattle.records.proofs.open.Lts as lts
 use Rattle.records.proofs.open.Goals as goal
 
 pub returns-then-sheet-eq0 : goal.returns-then-sheet-eq0

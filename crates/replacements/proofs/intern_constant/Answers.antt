@@ -1,10 +1,8 @@
--- `replacements::intern_constant` meets its contract.
 use Rattle.store.proofs.Fitting.{constant_fits}
-use borrow.Author.Rules.{rules}
 use Rattle.replacements.proofs.intern_constant.Goals as goal
 
 pub intern-requires : goal.intern-requires
-intern-requires c = let ready = c.requires in (constant_fits _ _ ready.0, ready.1)
+intern-requires c = constant_fits _ _ c.requires
 
-pub returns : goal.returns
-returns c = c.intern.ensures.builds
+pub returns-clause-builds : goal.returns-clause-builds
+returns-clause-builds c = c.intern.ensures.interns.builds

@@ -1,5 +1,4 @@
 use Rattle.definitions.proofs.Deciding.{says_map}
-use borrow.Author.Rules.{rules}
 use Rattle.store.proofs.audit.Goals as goal
 
 pub returns : goal.returns

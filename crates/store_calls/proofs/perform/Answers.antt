@@ -1,6 +1,4 @@
-use borrow.Author.Tests.{not-true, not-false}
 use Rattle.store.proofs.Leaving.{leaves_unsound}
-use borrow.Author.Rules.{rules}
 use Rattle.store_calls.proofs.perform.Goals as goal
 
 pub returns-then-not-audit : goal.returns-then-not-audit

@@ -1,20 +1,18 @@
-use mathlib.Core.Path.{refl, sym, ◌∙◌}
-use borrow.Author.Tests.{not-true, not-false}
+use mathlib.Core.Path.{refl}
 use Rattle.definitions.specs.Strict as S
 use Rattle.definitions.specs.Firing.{apply_as, firing, binary_firing}
 use Rattle.decisions.specs.declared.firing.Pattern.TheVariants.{ConstantFold}
 use Rattle.decisions.proofs.FiringLaws as Firing
-use borrow.Author.Rules.{rules}
 use Rattle.strict_patterns.proofs.strict_pattern.Goals as goal
 
-pub returns-then-not-declined : goal.returns-then-not-declined
+pub returns-in-Some : goal.returns-in-Some
 unfolding apply_as S.strict_apply firing binary_firing
-returns-then-not-declined c =
-    Firing.first c.first_function.result c.first_function.ensures c.named.ensures c.strict_identity-identity.ensures _ _
-    (sym c.declined.ensures ∙ c.if-not-declined.true)
+returns-in-Some c = Firing.first c.first_function.result c.first_function.ensures c.in-Some.ensures _ _
+
+pub returns-in_err-replacement : goal.returns-in_err-replacement
+unfolding apply_as S.strict_apply firing binary_firing
+returns-in_err-replacement c = rw c.from_residual.ensures (Firing.second _ c.in_default.ensures (Firing.last_declines _ c.in_err-replacement.ensures))
 
 pub returns : goal.returns
 unfolding apply_as S.strict_apply firing binary_firing
-returns c =
-    Firing.second _ (sym c.declined.ensures ∙ c.if-not-declined.false) c.strict_identity-identity.ensures
-    (Firing.last ConstantFold refl c.named-2.ensures c.constant_fold-folded.ensures)
+returns c = Firing.second _ c.in_default.ensures (Firing.last ConstantFold refl c.in_ok-replacement.ensures)

@@ -1,20 +1,27 @@
--- `table_audit::used_slots` meets its contract. The invariant: as many of the slots passed are in use.
-use Prim.Native.Nat.{suc, ◌+◌, ◌-◌, ◌≤◌}
-use mathlib.Core.Path.{◌≡◌, sym, ◌∙◌, ap}
-use mathlib.Core.Logic.{◌⊎◌, ⊎_elim}
-use native.Mathlib.Omega.{arith}
-use native.Mathlib.Numerals.{add-one}
-use borrow.Author.Rules.{rules}
+-- As many of the slots passed are in use.
+use Rattle.std.proofs.Common.{◌≡◌, ◌<◌, ◌∙◌, ◌+◌, suc, sym, ap, arith, rules, add-one, List, ℕ, length, take}
+use lib.Seq.{get_or-take, length-take-le}
 use Rattle.table_audit.specs.Audit.{used_slots}
 use Rattle.table_audit.proofs.UsedSlots.{used_none, used_empty, used_more}
-use Rattle.table_audit.proofs.used_slots.Goals.{then-slots-at-ne0, else-slots-at-ne0}
+use Rattle.table_audit.proofs.used_slots.Goals.{then-slot-ne0, else-slot-ne0}
 use Rattle.table_audit.proofs.used_slots.Goals as goal
 
-pub loop-at-init : goal.loop-at-init
-loop-at-init c = (search rules, sym (used_none _), search rules)
+pub loop-slot-init : goal.loop-slot-init
+loop-slot-init c = record { counted = sym (used_none _); few = search rules }
 
-pub loop-at-preserved : goal.loop-at-preserved
-loop-at-preserved c = let s = c.args.slots.now in (search rules, elim c.if-slots-at-ne0.branch [ then-slots-at-ne0 x ↦ let u : used_slots s (c.loop-at.at + 1) ≡ suc (used_slots s c.loop-at.at) = ap (used_slots s) (add-one c.loop-at.at) ∙ used_more s c.loop-at.at x.if-slots-at-ne0.true in omega arith | else-slots-at-ne0 x ↦ let u : used_slots s (c.loop-at.at + 1) ≡ used_slots s c.loop-at.at = ap (used_slots s) (add-one c.loop-at.at) ∙ used_empty s c.loop-at.at x.if-slots-at-ne0.false in omega arith ], elim c.if-slots-at-ne0.branch [ then-slots-at-ne0 x ↦ omega arith | else-slots-at-ne0 x ↦ omega arith ])
+pub loop-slot-preserved : goal.loop-slot-preserved
+loop-slot-preserved c =
+    let s : List ℕ = c.args.slots.now in
+    let at : ℕ = c.loop-slot.slot-index in
+    let l : at < c.args.size = omega (arith, length-take-le c.args.size s c.requires) in
+    let slot = get_or-take c.args.size s at 0 l in
+    let i = c.loop-slot.invariant in
+    elim c.if-slot-ne0.branch [
+      | then-slot-ne0 x ↦ let u : used_slots s (at + 1) ≡ suc (used_slots s at) = ap (used_slots s) (add-one at) ∙ used_more s at (λ z. x.if-slot-ne0.true (slot ∙ z)) in record { counted = omega arith; few = omega arith }
+      | else-slot-ne0 x ↦ let u : used_slots s (at + 1) ≡ used_slots s at = ap (used_slots s) (add-one at) ∙ used_empty s at (sym slot ∙ x.if-slot-ne0.false) in record { counted = omega arith; few = omega arith }
+    ]
 
 pub returns : goal.returns
-returns c = let e : c.loop-at.at ≡ c.args.size = omega arith in c.loop-at.invariant.1 ∙ ap (used_slots c.args.slots.now) e
+returns c =
+    let e : c.loop-slot.slot-index ≡ c.args.size = omega (arith, length-take-le c.args.size c.args.slots.now c.requires) in
+    c.loop-slot.invariant.counted ∙ ap (used_slots c.args.slots.now) e

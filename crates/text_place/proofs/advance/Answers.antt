@@ -1,23 +1,8 @@
-use Prim.Native.Nat.{ℕ, ◌<◌}
-use native.Mathlib.Omega.{arith}
-use mathlib.Core.Path.{subst}
-use Rattle.text_place.specs.declared.ScanProgress.{ScanProgress}
-use Rattle.text_place.specs.Progress.{open_in}
-use Rattle.text_place.proofs.Bytes.{digits_on, digits_end, name_on, name_end, wanted_on, bits_on, ended_on, still_short}
-use borrow.Author.Rules.{rules}
+use Rattle.text_place.proofs.Bytes.{digits_on, digits_end, name_on, name_end, wanted_on, bits_on, ended_on}
 use Rattle.text_place.proofs.advance.Goals as goal
-
-pub operand_byte-requires : goal.operand_byte-requires
-operand_byte-requires c = subst (λ (p : ScanProgress). open_in p < 18446744073709551615) c.in-Wanted.is c.requires
-
-pub overflow_add-result : goal.overflow_add-result
-overflow_add-result c = let l = still_short c.is_digit.result _ c.in-Digits.length 9 c.longer.ensures c.if-longer.true in omega (arith, l)
 
 pub returns-then-longer : goal.returns-then-longer
 returns-then-longer c = digits_on _ _ _ _ _ _ c.in-Digits.is c.is_digit.ensures c.longer.ensures c.if-longer.true
-
-pub overflow_add-result-then-longer-2 : goal.overflow_add-result-then-longer-2
-overflow_add-result-then-longer-2 c = let l = still_short c.is_word.result _ c.in-Name.length 32 c.longer-in-Name.ensures c.if-longer-2.true in omega (arith, l)
 
 pub returns-then-longer-2 : goal.returns-then-longer-2
 returns-then-longer-2 c = name_on _ _ _ _ _ _ c.in-Name.is c.is_word.ensures c.longer-in-Name.ensures c.if-longer-2.true

@@ -1,6 +1,5 @@
 use mathlib.Core.Path.{sym, ◌∙◌}
 use Rattle.text_place.proofs.Bytes.{bits_whole, bits_more, bits_other}
-use borrow.Author.Rules.{rules}
 use Rattle.text_place.proofs.bits_byte.Goals as goal
 
 pub returns-then-length-ge-BITS_DIGITS : goal.returns-then-length-ge-BITS_DIGITS

@@ -1,6 +1,5 @@
 use mathlib.Core.Path.{sym, ◌∙◌}
 use Rattle.text_place.proofs.Bytes.{after_blank, after_sign, after_other, after_none, after_bracket}
-use borrow.Author.Rules.{rules}
 use Rattle.text_place.proofs.byte_after.Goals as goal
 
 pub returns-then-byte-eq-BLANK : goal.returns-then-byte-eq-BLANK

@@ -1,6 +1,5 @@
 use mathlib.Core.Path.{sym, ◌∙◌}
 use Rattle.text_place.proofs.Bytes.{wanted_blank, wanted_minus, wanted_bracket, wanted_digit, wanted_letter, wanted_bits, wanted_none}
-use borrow.Author.Rules.{rules}
 use Rattle.text_place.proofs.operand_byte.Goals as goal
 
 pub returns-then-byte-eq-BLANK : goal.returns-then-byte-eq-BLANK

@@ -1,5 +1,4 @@
 use Rattle.write_back.proofs.Chaining.{read_ended, read_refused}
-use borrow.Author.Rules.{rules}
 use Rattle.write_back.proofs.answer.Goals as goal
 
 pub returns-in-Id : goal.returns-in-Id

@@ -4,6 +4,7 @@ use mathlib.Core.Path.{refl, sym, ap, ◌∙◌, subst}
 use native.Mathlib.Omega.{arith}
 use borrow.Author.Tests.{not-true, not-false}
 use Rattle.hash.specs.Fnv.{node_hash_of}
+use Rattle.std.proofs.lemmas.List.{map-id}
 use Rattle.arena.specs.Layout.{node_words, most_children, children_word}
 use Rattle.arena.specs.Node.{node_at, node_hash}
 use Rattle.child_places.specs.Places.{LowerChildren}
@@ -44,7 +45,7 @@ unfolding node_at node_hash
 returns-then-nodes-at c =
     let few = L.listed_few _ _ _ (sym c.is_listed.ensures ∙ c.if-not-is_listed.false) in
     let used = part_taken c.args.nodes.now (c.args.id * node_words + children_word) most_children _ _ few refl (omega (arith, c.requires)) in
-    says_no (λ f. c.if-nodes-at.true (f.hashed ∙ ap (node_hash_of _ _) (sym used) ∙ sym c.node_hash.ensures))
+    says_no (λ f. c.if-nodes-at.true (f.hashed ∙ ap (node_hash_of _ _) (sym used) ∙ sym (rw map-id at c.node_hash.ensures)))
 
 pub returns : goal.returns
 unfolding node_at node_hash
@@ -53,4 +54,4 @@ returns c =
     let from = c.args.id * node_words + children_word in
     let used = part_taken c.args.nodes.now from most_children _ _ (L.listed_few _ _ _ listed) refl (omega (arith, c.requires)) in
     let places = part_words c.args.nodes.now from most_children _ refl (omega (arith, c.requires)) in
-    only_weighed _ _ listed c.if-nodes-at-ge-FLAGS_END.false (subst (LowerChildren c.args.id _) places (c.lower_children.ensures.yes c.if-not-lower_children.false)) (c.if-nodes-at.false ∙ c.node_hash.ensures ∙ ap (node_hash_of _ _) used) _ c.coefficient_of.ensures
+    only_weighed _ _ listed c.if-nodes-at-ge-FLAGS_END.false (subst (LowerChildren c.args.id _) places (c.lower_children.ensures.yes c.if-not-lower_children.false)) (c.if-nodes-at.false ∙ (rw map-id at c.node_hash.ensures) ∙ ap (node_hash_of _ _) used) _ c.coefficient_of.ensures

@@ -1,32 +1,22 @@
--- `arena::node::has_children` meets its contract. The invariant: the children passed agree.
-use Prim.Native.Nat.{ℕ, ◌+◌, ◌-◌, ◌≤◌, ◌<◌}
-use mathlib.Core.Path.{◌≡◌, sym, ◌∙◌}
-use lib.ListN.{length, get_or}
-use native.Mathlib.Omega.{arith}
-use borrow.Author.Count.{below_more}
-use Rattle.arena.specs.Node.{words_from}
-use Rattle.arena.proofs.OneNode.{children_differ, children_agree}
-use Rattle.arena.proofs.Words.{words_length, words_at}
-use borrow.Author.Rules.{rules}
+-- The words and the children are compared pair by pair.
+use Rattle.std.proofs.Common.{rules, refl, ◌≡◌, ◌-◌, ◌+◌, ℕ, List, length, take, drop, Bor}
+use borrow.Author.Tests.{tests}
+use Rattle.std.proofs.lemmas.Iterator.{same_from_all, YieldsList-from_zip, YieldsList-from_slice}
+use Rattle.std.proofs.lemmas.Bool.Decides.{same_from_decides}
+use Rattle.definitions.specs.Node.{same_children}
+use Rattle.arena.proofs.OneNode.{children_decides}
+use Rattle.arena.proofs.Words.{part_words, part_length}
 use Rattle.arena.proofs.node.has_children.Goals as goal
-
-pub loop-j-init : goal.loop-j-init
-loop-j-init c = (search rules, λ k l. absurd (omega arith))
-
-pub overflow_cast-children : goal.overflow_cast-children
-overflow_cast-children c = omega (arith, c.shared_slice_known-in-loop-j-1.given c.loop-j.j)
-
-pub returns-then-nodes-at : goal.returns-then-nodes-at
-returns-then-nodes-at c =
-    let a = c.args in
-    let l = c.loop-j-test.true in
-    children_differ (words_from (length a.children.now) a.nodes.now a.at) a.children.now c.loop-j.j (λ e. c.if-nodes-at.true (sym (words_at (length a.children.now) a.nodes.now a.at _ l) ∙ e))
-
-pub loop-j-preserved : goal.loop-j-preserved
-loop-j-preserved c = (search rules, below_more _ _ c.loop-j.invariant.1 c.if-nodes-at.false)
 
 pub returns : goal.returns
 returns c =
-    let a = c.args in
-    let len = words_length (length a.children.now) a.nodes.now a.at in
-    children_agree (words_from (length a.children.now) a.nodes.now a.at) a.children.now len (λ j l. let m : j < length a.children.now = rw len at l in words_at (length a.children.now) a.nodes.now a.at j m ∙ c.loop-j.invariant.1 j (omega arith))
+    let nodes : List ℕ = c.args.nodes.now in
+    let at : ℕ = c.args.at in
+    let children : List ℕ = c.args.children.now in
+    let n : ℕ = length children in
+    let words : List ℕ = take (at + n - at) (drop at nodes) in
+    rw (← part_words nodes at n (at + n) refl c.requires)
+    (same_from_decides c.all.result (same_children words children)
+    (same_from_all {v = λ (p : Bor ℕ × Bor ℕ). (p.0.now, p.1.now)} c.all.new.self _ _ words children c.all.ensures.ran (YieldsList-from_zip (YieldsList-from_slice words cc) (YieldsList-from_slice children cc)) (part_length nodes at n (at + n) refl c.requires)
+    (λ x q k. search (rules, tests)) (λ x q k. search (rules, tests)))
+    (children_decides words children))

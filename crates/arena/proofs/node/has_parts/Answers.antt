@@ -24,8 +24,8 @@ unfolding node_at node_of
 returns-then-nodes-at-4 c = not_one _ _ (λ o. c.if-nodes-at-4.true o.arity)
 
 pub has_children-requires : goal.has_children-requires
-has_children-requires c = let p = c.requires in let few = p.2 in let fits = p.0 in omega arith
+has_children-requires c = let few = c.args.parts.few in let fits = c.requires.0 in omega arith
 
 pub returns : goal.returns
 unfolding node_at node_of
-returns c = c.has_children.ensures ∙ used_compared c.args.nodes.now c.args.id c.args.children.now c.requires.2 c.if-nodes-at-4.false c.requires.1 ∙ one_children _ _ c.if-nodes-at.false c.if-nodes-at-2.false c.if-nodes-at-3.false c.if-nodes-at-4.false
+returns c = c.has_children.ensures ∙ used_compared c.args.nodes.now c.args.id c.args.parts.children.now c.args.parts.few c.if-nodes-at-4.false c.requires.1 ∙ one_children _ _ c.if-nodes-at.false c.if-nodes-at-2.false c.if-nodes-at-3.false c.if-nodes-at-4.false

@@ -22,10 +22,10 @@ pub bounds-nodes-at-6 : goal.bounds-nodes-at-6
 bounds-nodes-at-6 c = simp length-set (omega arith)
 
 pub store_ids-requires : goal.store_ids-requires
-store_ids-requires c = let p = c.requires in (simp length-set (omega arith), p.1.few)
+store_ids-requires c = (simp length-set (omega arith), c.args.key.parts.few)
 
 pub shape_of-nodes : goal.shape_of-nodes
 shape_of-nodes c = c.store_ids.auto.nodes ∙ simp length-set
 
 pub returns : goal.returns
-returns c = c.store_ids.ensures ∙ stored_parts _ _ _ _ _ _ _ _ c.requires.0 c.requires.1.few c.requires.1.hashed c.coefficient_of.ensures
+returns c = c.store_ids.ensures ∙ stored_parts _ _ _ _ _ _ _ _ c.requires c.args.key.parts.few c.args.key.hashed c.coefficient_of.ensures

@@ -3,7 +3,6 @@ use Rattle.definitions.specs.Machine as M
 use native.Mathlib.Omega.{arith}
 use Rattle.building.proofs.Codes.{asked_control}
 use Rattle.building.proofs.Requesting.{stores_audited}
-use borrow.Author.Rules.{rules}
 use Rattle.builder.proofs.controls.if_else.Goals as goal
 
 pub build-requires : goal.build-requires

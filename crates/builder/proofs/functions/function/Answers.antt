@@ -9,4 +9,4 @@ pub build-requires : goal.build-requires
 build-requires c = asked_function _ (search rules)
 
 pub returns : goal.returns
-returns c = stores_audited (M.function _ _) _ refl _ _ _ c.build.ensures
+returns c = rw (← c.from.ensures) (stores_audited (M.function _ _) _ refl _ _ _ c.build.ensures)

@@ -2,7 +2,6 @@ use mathlib.Core.Path.{refl}
 use Rattle.definitions.specs.Machine as M
 use Rattle.building.proofs.Codes.{asked_constant}
 use Rattle.building.proofs.Requesting.{stores_audited}
-use borrow.Author.Rules.{rules}
 use Rattle.builder.proofs.leaves.constant.Goals as goal
 
 pub build-requires : goal.build-requires

@@ -1,7 +1,6 @@
 use lib.ListN.{length-take}
 use native.Mathlib.Omega.{arith}
 use Rattle.calls.proofs.TypedTexts.{reads_typed}
-use borrow.Author.Rules.{rules}
 use Rattle.calls.proofs.reading.call_reading.Goals as goal
 
 pub slice_bounds-read-end : goal.slice_bounds-read-end

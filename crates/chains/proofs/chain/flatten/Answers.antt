@@ -1,15 +1,10 @@
 -- `chains::chain::flatten` meets its contract. The measure is the weight of the ids that wait and of the id at hand,
 -- and whether a distance is still to be noted. Assumes nothing.
-use Prim.Native.Nat.{◌+◌, ◌*◌}
 use mathlib.Core.Path.{sym, ◌∙◌}
-use mathlib.Core.Logic.{inl, inr, ⊎_elim}
-use lib.Ieee.{binary64, of_bits}
+use mathlib.Core.Logic.{inl, inr}
 use native.Mathlib.Omega.{arith}
-use borrow.Author.Rules.{rules}
-use Rattle.definitions.specs.Prune.{keeps}
-use Rattle.store.specs.View.{nodes_in}
 use Rattle.chains.proofs.Reading.{child_below, child_lower}
-use Rattle.chains.proofs.Stepping.{late, late_few, less_work, less_late_left, less_late_right, noted, stepped}
+use Rattle.chains.proofs.Stepping.{late_few, less_work, less_late_left, less_late_right, noted, stepped}
 use Rattle.chains.proofs.Flattening as Q
 use Rattle.chains.proofs.Flattening.{Flattening, work}
 use Rattle.chains.proofs.chain.flatten.Goals.{then-put_term, else-put_term, then-put_term-2, else-put_term-2, then-put_term-3, else-put_term-3}
@@ -77,8 +72,8 @@ has_term-requires c =
     let readable = c.requires.1 in
     (Q.id_below _ _ _ _ readable _ _ _ _ _ _ c.loop-terms.invariant, omega arith, readable)
 
-pub overflow_sub-t-31 : goal.overflow_sub-t-31
-overflow_sub-t-31 c = omega arith
+pub overflow_sub-t-33 : goal.overflow_sub-t-33
+overflow_sub-t-33 c = omega arith
 
 pub overflow_sub-found : goal.overflow_sub-found
 overflow_sub-found c = let inv = c.loop-terms.invariant in omega (arith, inv.room, inv.ordered)
@@ -208,24 +203,21 @@ loop-terms-preserved-then-has_term-2 c =
     let last = stepped _ _ _ 1 _ c.child-then-has_term-2.ensures readable (Q.id_below _ _ _ _ readable _ _ _ _ _ _ c.loop-terms.invariant) (omega (arith, has.two)) _ c.if-below-right_step.false in
     Q.takes_first _ _ _ _ readable _ _ _ _ _ _ c.loop-terms.invariant (sym c.kind.ensures ∙ c.if-kind-ne-ADD.false) c.if-top-front-2.true has c.if-found-ge-MOST_TERMS.false _ c.child-first.ensures _ last _ _ c.put_term-then-has_term-2.ensures _ (elim c.if-put_term-3.branch [ then-put_term-3 w ↦ inl (w.if-put_term-3.true, w.front-is) | else-put_term-3 w ↦ inr (w.if-put_term-3.false, w.front-is) ])
 
-pub overflow_sub-push_siblings : goal.overflow_sub-push_siblings
-overflow_sub-push_siblings c = omega arith
+pub overflow_sub-free : goal.overflow_sub-free
+overflow_sub-free c = omega arith
 
-pub overflow_sub-found-else-top-front-2 : goal.overflow_sub-found-else-top-front-2
-overflow_sub-found-else-top-front-2 c = let inv = c.loop-terms.invariant in omega (arith, inv.room, inv.ordered)
-
-pub overflow_add-found-else-top-front-2 : goal.overflow_add-found-else-top-front-2
-overflow_add-found-else-top-front-2 c = let inv = c.loop-terms.invariant in omega (arith, inv.few, inv.room, inv.ordered)
+pub overflow_sub-free-else-top-front-2 : goal.overflow_sub-free-else-top-front-2
+overflow_sub-free-else-top-front-2 c = let inv = c.loop-terms.invariant in omega (arith, inv.room, inv.ordered)
 
 pub push_siblings-requires : goal.push_siblings-requires
 push_siblings-requires c =
     let readable = c.requires.1 in
     (readable.lookup _ (Q.id_below _ _ _ _ readable _ _ _ _ _ _ c.loop-terms.invariant), Q.has_child _ _ _ _ readable _ _ _ _ _ _ c.loop-terms.invariant (sym c.kind.ensures ∙ c.if-kind-ne-ADD.false), omega (arith, c.loop-terms.invariant.room, c.loop-terms.invariant.ordered), omega (arith, c.loop-terms.invariant.few), c.loop-terms.invariant.long)
 
-pub returns-in-Nowhere : goal.returns-in-Nowhere
-returns-in-Nowhere c =
+pub returns-in_default : goal.returns-in_default
+returns-in_default c =
     let readable = c.requires.1 in
-    Q.exceeds _ _ _ _ readable _ _ _ _ _ _ c.loop-terms.invariant (sym c.kind.ensures ∙ c.if-kind-ne-ADD.false) _ _ c.push_siblings.ensures c.in-Nowhere.is
+    Q.exceeds _ _ _ _ readable _ _ _ _ _ _ c.loop-terms.invariant (sym c.kind.ensures ∙ c.if-kind-ne-ADD.false) _ _ c.push_siblings.ensures c.in_default.is
 
 pub arity-requires : goal.arity-requires
 arity-requires c =
@@ -245,9 +237,9 @@ child-id-requires c =
 pub loop-terms-smaller : goal.loop-terms-smaller
 loop-terms-smaller c =
     let readable = c.requires.1 in
-    less_work _ _ _ _ _ _ (late_few _ _ _ _ _) (late_few _ _ _ _ _) (Q.opens_less _ _ _ _ readable _ _ _ _ _ _ c.loop-terms.invariant (sym c.kind.ensures ∙ c.if-kind-ne-ADD.false) _ _ c.push_siblings.ensures _ c.in-Before.is _ c.arity.ensures _ c.child-id.ensures)
+    less_work _ _ _ _ _ _ (late_few _ _ _ _ _) (late_few _ _ _ _ _) (Q.opens_less _ _ _ _ readable _ _ _ _ _ _ c.loop-terms.invariant (sym c.kind.ensures ∙ c.if-kind-ne-ADD.false) _ _ c.push_siblings.ensures _ c.in-Some.is _ c.arity.ensures _ c.child-id.ensures)
 
 pub loop-terms-preserved : goal.loop-terms-preserved
 loop-terms-preserved c =
     let readable = c.requires.1 in
-    Q.opens _ _ _ _ readable _ _ _ _ _ _ c.loop-terms.invariant (sym c.kind.ensures ∙ c.if-kind-ne-ADD.false) _ _ c.push_siblings.ensures _ c.in-Before.is _ c.arity.ensures _ c.child-id.ensures
+    Q.opens _ _ _ _ readable _ _ _ _ _ _ c.loop-terms.invariant (sym c.kind.ensures ∙ c.if-kind-ne-ADD.false) _ _ c.push_siblings.ensures _ c.in-Some.is _ c.arity.ensures _ c.child-id.ensures

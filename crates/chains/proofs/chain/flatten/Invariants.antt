@@ -1,16 +1,10 @@
 -- `chains::chain::flatten` meets its contract. The measure is the weight of the ids that wait and of the id at hand,
 -- and whether a distance is still to be noted. Assumes nothing.
 use Prim.Native.Nat.{◌+◌, ◌*◌}
-use mathlib.Core.Path.{sym, ◌∙◌}
-use mathlib.Core.Logic.{inl, inr, ⊎_elim}
 use lib.Ieee.{binary64, of_bits}
-use native.Mathlib.Omega.{arith}
-use borrow.Author.Rules.{rules}
 use Rattle.definitions.specs.Prune.{keeps}
 use Rattle.store.specs.View.{nodes_in}
-use Rattle.chains.proofs.Reading.{child_below, child_lower}
-use Rattle.chains.proofs.Stepping.{late, late_few, less_work, less_late_left, less_late_right, noted, stepped}
-use Rattle.chains.proofs.Flattening as Q
+use Rattle.chains.proofs.Stepping.{late}
 use Rattle.chains.proofs.Flattening.{Flattening, work}
 use Rattle.chains.proofs.chain.flatten.Given as goal
 

@@ -1,8 +1,5 @@
 -- `chains::chain::push_siblings` meets its contract. Assumes nothing.
-use Prim.Native.Nat.{◌-◌}
 use native.Mathlib.Omega.{arith}
-use borrow.Author.Rules.{rules}
-use Rattle.chains.specs.Terms.{children_in}
 use Rattle.chains.proofs.Reading.{child_limited}
 use Rattle.chains.proofs.Pushing as Q
 use Rattle.chains.proofs.Pushing.{Pushing}
@@ -28,9 +25,6 @@ offset_bounds-terms-to c = omega (arith, c.if-free-to.false, c.requires.3)
 
 pub bounds-terms-to : goal.bounds-terms-to
 bounds-terms-to c = omega (arith, c.if-free-to.false, c.requires.3)
-
-pub overflow_add-place : goal.overflow_add-place
-overflow_add-place c = omega (arith, c.if-free-to.false, c.requires.3, c.loop-place.invariant.places)
 
 pub overflow_add-to : goal.overflow_add-to
 overflow_add-to c = omega (arith, c.if-free-to.false, c.requires.3)

@@ -1,15 +1,7 @@
 -- `chains::chain::push_siblings` meets its contract. Assumes nothing.
-use Prim.Native.Nat.{◌-◌}
-use native.Mathlib.Omega.{arith}
-use borrow.Author.Rules.{rules}
 use Rattle.chains.specs.Terms.{children_in}
-use Rattle.chains.proofs.Reading.{child_limited}
-use Rattle.chains.proofs.Pushing as Q
 use Rattle.chains.proofs.Pushing.{Pushing}
 use Rattle.chains.proofs.chain.push_siblings.Given as goal
 
 abbrev pub invariant-loop-place : goal.invariant-loop-place
 invariant-loop-place l = Pushing (children_in l.nodes l.count l.id) l.top l.free l.initial.terms l.terms l.to l.place
-
-abbrev pub decreases-loop-place : goal.decreases-loop-place
-decreases-loop-place l = l.last - l.place

@@ -1,7 +1,6 @@
 -- `limbs::append` meets its contract. Assumes nothing.
-use Prim.Native.Nat.{◌-◌}
 use native.Mathlib.Omega.{arith}
-use Rattle.computed_thresholds.proofs.Appending.{Appending, starts, room, step, ends}
+use Rattle.computed_thresholds.proofs.Appending.{starts, room, step, ends}
 use Rattle.computed_thresholds.proofs.limbs.append.Goals as goal
 
 pub loop-over-init : goal.loop-over-init

@@ -1,7 +1,5 @@
 -- `limbs::append` meets its contract. Assumes nothing.
-use Prim.Native.Nat.{◌-◌}
-use native.Mathlib.Omega.{arith}
-use Rattle.computed_thresholds.proofs.Appending.{Appending, starts, room, step, ends}
+use Rattle.computed_thresholds.proofs.Appending.{Appending}
 use Rattle.computed_thresholds.proofs.limbs.append.Given as goal
 
 abbrev pub invariant-loop-over : goal.invariant-loop-over

@@ -1,6 +1,5 @@
 -- `limbs::multiply` meets its contract. Assumes nothing.
 use Rattle.computed_thresholds.proofs.Multiplying.{appends, multiplied}
-use borrow.Author.Rules.{rules}
 use Rattle.computed_thresholds.proofs.limbs.multiply.Goals as goal
 
 pub append-requires : goal.append-requires

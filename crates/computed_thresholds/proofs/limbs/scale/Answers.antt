@@ -1,8 +1,6 @@
 -- `limbs::scale` meets its contract. Assumes nothing.
-use Prim.Native.Nat.{◌-◌}
 use native.Mathlib.Omega.{arith}
-use borrow.Author.Rules.{rules}
-use Rattle.computed_thresholds.proofs.Scaling.{Scaling, starts, product_fits, step, ends}
+use Rattle.computed_thresholds.proofs.Scaling.{starts, product_fits, step, ends}
 use Rattle.computed_thresholds.proofs.limbs.scale.Goals as goal
 
 pub loop-i-init : goal.loop-i-init

@@ -1,5 +1,5 @@
 -- `dedup::probing::search` meets its contract: no node is over the newest one.
-use Rattle.dedup.proofs.KeyParts.{key_hash, free_from_hash}
+use Rattle.dedup.proofs.KeyParts.{free_from_key}
 use Rattle.dedup.proofs.GreatestChild.{over_newest_free}
 use borrow.Author.Rules.{rules}
 use Rattle.dedup.proofs.probing.search.Goals as goal
@@ -13,10 +13,10 @@ free_place-requires c = c.requires.1
 pub returns-then-is_over_newest : goal.returns-then-is_over_newest
 returns-then-is_over_newest c =
     let a = c.args in
-    over_newest_free a.nodes.now a.count a.kind a.payload a.flags a.children.now c.requires.0.formed (c.is_over_newest.ensures.yes c.if-is_over_newest.true) _ _ _ (free_from_hash _ _ _ _ _ (key_hash a.kind a.payload a.flags a.children.now a.hash c.requires.2) c.free_place.ensures)
+    over_newest_free a.nodes.now a.count a.key.parts.kind a.key.parts.payload a.key.parts.flags a.key.parts.children.now c.requires.0.formed (c.is_over_newest.ensures.yes c.if-is_over_newest.true) _ _ _ (free_from_key a.key _ _ _ c.free_place.ensures)
 
 pub probe-requires : goal.probe-requires
-probe-requires c = (c.requires.0, c.requires.2, c.greatest_child-greatest.ensures.0)
+probe-requires c = (c.requires.0, c.greatest_child-greatest.ensures.0)
 
 pub returns : goal.returns
 returns c = c.probe.ensures

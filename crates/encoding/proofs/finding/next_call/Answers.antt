@@ -1,22 +1,23 @@
-use Prim.Native.Nat.{◌+◌}
+use Prim.Native.Nat.{◌<◌, ◌≤◌}
 use native.Mathlib.Omega.{arith}
-use borrow.Author.Tests.{not-true, not-false}
-use mathlib.Core.Path.{sym, ◌∙◌}
-use Rattle.encoding.proofs.FirstCalls.{stops_at, short_header, short_operands, unknown_code, whole_call}
-use borrow.Author.Rules.{rules}
+use lib.ListN.{get_or}
+use Rattle.encoding.specs.Encoding.{last_code}
+use Rattle.encoding.proofs.FirstCalls.{short_header, short_operands, unknown_code, whole_call}
+use Rattle.std.proofs.lemmas.Grind.{common_steps}
 use Rattle.encoding.proofs.finding.next_call.Goals as goal
 
-pub returns-then-left-lt-HEADER_WORDS : goal.returns-then-left-lt-HEADER_WORDS
-returns-then-left-lt-HEADER_WORDS c = stops_at _ _ (short_header _ _ c.requires c.if-left-lt-HEADER_WORDS.true)
+pub returns-in_default : goal.returns-in_default
+returns-in_default c = short_header _ c.in_default.len_below
 
-pub overflow_cast-many : goal.overflow_cast-many
-overflow_cast-many c = omega (arith, c.shared_slice_known-2-1.given (c.args.at + 5))
+pub returns-then-behind-many : goal.returns-then-behind-many
+returns-then-behind-many c = short_operands _ c.in-len6-up.len_at_least c.if-behind-many.true
 
-pub returns-then-left-many : goal.returns-then-left-many
-returns-then-left-many c = stops_at _ _ (short_operands _ _ c.requires c.if-left-lt-HEADER_WORDS.false c.if-left-many.true)
-
-pub returns-then-not-is_known : goal.returns-then-not-is_known
-returns-then-not-is_known c = stops_at _ _ (unknown_code _ _ c.requires c.if-left-lt-HEADER_WORDS.false c.if-left-many.false (sym c.is_known.ensures ∙ c.if-not-is_known.true))
+pub returns-in_default-try_from : goal.returns-in_default-try_from
+returns-in_default-try_from c =
+    let u : last_code < get_or c.args.words.now 0 0 = grind (arith, common_steps, c.in_default-try_from.ensures.listed) in
+    unknown_code _ c.in-len6-up.len_at_least c.if-behind-many.false u
 
 pub returns : goal.returns
-returns c = whole_call _ _ c.requires c.if-left-lt-HEADER_WORDS.false c.if-left-many.false (sym c.is_known.ensures ∙ c.if-not-is_known.false)
+returns c =
+    let k : get_or c.args.words.now 0 0 ≤ last_code = grind (arith, common_steps, c.in-Ok.ensures.listed) in
+    whole_call _ _ _ _ c.in-len6-up.len_at_least c.if-behind-many.false c.in-Ok.ensures.ok k c.split_at.ensures.front c.split_at.ensures.back

@@ -1,32 +1,14 @@
-use Prim.Native.Nat.{◌-◌}
 use mathlib.Core.Path.{refl}
-use mathlib.Core.Logic.{inl, inr}
-use lib.ListN.{length}
 use native.Mathlib.Omega.{arith}
-use borrow.Author.Rules.{rules}
-use Rattle.encoding.proofs.SpelledBytes.{SpelledTo, spell_more, spelled_whole}
+use lib.ListN.{length-replicate}
+use Rattle.encoding.proofs.SpelledBytes.{spell_more, spelled_whole}
 use Rattle.encoding.proofs.spelling.spell.Goals as goal
 
 pub loop-i-init : goal.loop-i-init
-loop-i-init c = record { few = omega arith; there = omega arith; size = refl; is = refl }
-
-pub shape_of-bytes-then-operands-i : goal.shape_of-bytes-then-operands-i
-shape_of-bytes-then-operands-i c = c.loop-i.invariant.size
-
-pub returns-then-operands-i : goal.returns-then-operands-i
-returns-then-operands-i c = spelled_whole _ _ _ _ c.loop-i.invariant (inr c.if-operands-i.true)
-
-pub loop-i-smaller : goal.loop-i-smaller
-loop-i-smaller c = let size = c.loop-i.invariant.size in omega arith
+loop-i-init g c = record { few = omega arith; there = omega arith; size = length-replicate g.row.N 0; is = refl }
 
 pub loop-i-preserved : goal.loop-i-preserved
-loop-i-preserved c =
-    let inv = c.loop-i.invariant in
-    let size = inv.size in
-    spell_more _ _ _ _ _ inv (omega arith) c.if-operands-i.false c.lowest_byte.ensures
-
-pub shape_of-bytes : goal.shape_of-bytes
-shape_of-bytes c = c.loop-i.invariant.size
+loop-i-preserved g c = spell_more _ _ _ _ _ c.loop-i.invariant (omega arith) (omega arith) c.lowest_byte.ensures
 
 pub returns : goal.returns
-returns c = let size = c.loop-i.invariant.size in spelled_whole _ _ _ _ c.loop-i.invariant (inl (omega arith))
+returns g c = spelled_whole _ _ _ _ _ c.loop-i.invariant c.loop-i.auto.i-end c.loop-i-test.false c.min-length.ensures

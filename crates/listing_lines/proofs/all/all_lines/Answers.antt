@@ -1,15 +1,7 @@
-use Prim.Native.Nat.{ℕ, ◌+◌, ◌*◌, ◌-◌, ◌≤◌}
-use mathlib.Core.Path.{◌≡◌, refl}
-use lib.ListN.{length, take}
+use mathlib.Core.Path.{refl}
 use native.Mathlib.Omega.{arith}
 use borrow.Author.Rules.{rules}
-use Rattle.listing_lines.specs.Line.{line_bytes}
-use Rattle.listing_lines.proofs.Gathering.{Gathered, gathered_first, gathered_more, gathered_all, first_is}
-use Rattle.listing_lines.proofs.all.all_lines.Reads as reads
-use Rattle.listing_lines.proofs.all.all_lines.Lts as lts
-use Rattle.listing_lines.proofs.all.put_line.Reads as put-line-reads
-use Rattle.listing_lines.proofs.first_line.Reads as first-line-reads
-use Rattle.listing_lines.proofs.node.node_line_sound.Reads as node-line-sound-reads
+use Rattle.listing_lines.proofs.Gathering.{gathered_first, gathered_more, gathered_all, first_is}
 use Rattle.listing_lines.proofs.all.all_lines.Goals as goal
 
 pub put_line-at-requires : goal.put_line-at-requires
@@ -19,7 +11,7 @@ pub loop-id-init : goal.loop-id-init
 loop-id-init c = (refl, search rules, gathered_first _ _ c.first_line.ensures _ _ _ c.put_line-at.ensures _ _)
 
 pub node_line_sound-requires : goal.node_line_sound-requires
-node_line_sound-requires c = record { below = omega (arith, c.loop-id-test); nodes = c.requires.0 }
+node_line_sound-requires c = record { below = omega arith; nodes = c.requires.0 }
 
 pub put_line-at-requires-in-loop-id : goal.put_line-at-requires-in-loop-id
 put_line-at-requires-in-loop-id c = (c.node_line_sound.ensures.within, let g = c.loop-id.invariant.2.place in let r = c.loop-id.invariant.1 in omega arith)
@@ -34,4 +26,4 @@ pub returns : goal.returns
 returns c =
     let gathered = c.loop-id.invariant.2 in
     let first = c.put_line-at.ensures in
-    record { fills = gathered_all _ _ _ _ _ _ _ _ _ gathered (search rules) first.rest (omega arith) c.loop-id.invariant.1 _ (first_is _ _ c.first_line.ensures _ _ _ first); upper_bound = let g = gathered.place in let k = gathered.some in omega arith }
+    record { fills = gathered_all _ _ _ _ _ _ _ _ _ gathered (search rules) first.rest (omega arith) c.loop-id.invariant.1 _ (first_is _ _ c.first_line.ensures _ _ _ first); at_most_full = let g = gathered.place in let k = gathered.some in omega arith }

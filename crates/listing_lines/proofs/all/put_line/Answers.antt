@@ -4,9 +4,6 @@ use lib.Seq.{length-take-le}
 use native.Mathlib.Omega.{arith}
 use borrow.Author.Rules.{rules}
 use Rattle.listing_lines.specs.Line.{line_bytes}
-use Rattle.listing_lines.proofs.all.put_line.Reads as reads
-use Rattle.listing_lines.proofs.all.put_line.Lts as lts
-use Rattle.listing_lines.proofs.all.put.Reads as put_reads
 use Rattle.listing_lines.proofs.all.put_line.Goals as goal
 
 pub slice_bounds-bytes-end : goal.slice_bounds-bytes-end

@@ -1,9 +1,6 @@
 use native.Mathlib.Omega.{arith}
 use mathlib.Core.Path.{refl}
-use Rattle.listing_lines.proofs.Spelling.{DecimalLeft, decimal_none, decimal_more, decimal_end}
-use Rattle.listing_lines.proofs.digits.decimal_digits.Reads as reads
-use Rattle.listing_lines.proofs.digits.decimal_digits.Lts as lts
-use Rattle.listing_lines.proofs.digits.digit.Reads as digit-reads
+use Rattle.listing_lines.proofs.Spelling.{decimal_none, decimal_more, decimal_end}
 use Rattle.listing_lines.proofs.digits.decimal_digits.Goals as goal
 
 pub loop-rest-init : goal.loop-rest-init

@@ -1,8 +1,5 @@
 use mathlib.Core.Path.{sym}
 use Rattle.listing_lines.proofs.Spelling.{digit_low, digit_high}
-use borrow.Author.Rules.{rules}
-use Rattle.listing_lines.proofs.digits.digit.Reads as reads
-use Rattle.listing_lines.proofs.digits.digit.Lts as lts
 use Rattle.listing_lines.proofs.digits.digit.Goals as goal
 
 pub returns-then-value-lt-DECIMAL_BASE : goal.returns-then-value-lt-DECIMAL_BASE

@@ -1,9 +1,6 @@
 use native.Mathlib.Omega.{arith}
 use mathlib.Core.Path.{refl}
-use Rattle.listing_lines.proofs.Spelling.{HexLeft, hex_none, hex_more, hex_end}
-use Rattle.listing_lines.proofs.digits.hex_digits.Reads as reads
-use Rattle.listing_lines.proofs.digits.hex_digits.Lts as lts
-use Rattle.listing_lines.proofs.digits.digit.Reads as digit-reads
+use Rattle.listing_lines.proofs.Spelling.{hex_none, hex_more, hex_end}
 use Rattle.listing_lines.proofs.digits.hex_digits.Goals as goal
 
 pub loop-first-init : goal.loop-first-init

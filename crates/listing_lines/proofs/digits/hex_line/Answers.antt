@@ -1,6 +1,5 @@
 -- `digits::hex_line` meets its contract. Assumes nothing.
 use lib.Dec.{lit≤}
-use borrow.Author.Rules.{rules}
 use Rattle.listing_lines.proofs.Lines.{extends_as, extends_trans, from_empty}
 use Rattle.listing_lines.proofs.digits.hex_line.Goals as goal
 

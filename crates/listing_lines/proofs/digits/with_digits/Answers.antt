@@ -3,9 +3,6 @@ use lib.ListN.{length}
 use native.Mathlib.Omega.{arith}
 use Rattle.listing_lines.proofs.Lines.{extends_part}
 use borrow.Author.Rules.{rules}
-use Rattle.listing_lines.proofs.digits.with_digits.Reads as reads
-use Rattle.listing_lines.proofs.digits.with_digits.Lts as lts
-use Rattle.listing_lines.proofs.line.with_bytes.Reads as with-bytes-reads
 use Rattle.listing_lines.proofs.digits.with_digits.Goals as goal
 
 pub slice_bounds-with_bytes-end : goal.slice_bounds-with_bytes-end

@@ -1,4 +1,3 @@
-use borrow.Author.Rules.{rules}
 use Rattle.listing_lines.proofs.Flags.{flags_are}
 use Rattle.listing_lines.proofs.node.all_flags.Goals as goal
 

@@ -1,14 +1,6 @@
-use Prim.Native.Nat.{ℕ, ◌-◌}
 use native.Mathlib.Omega.{arith}
-use Rattle.definitions.specs.Node as N
-use Rattle.store.specs.View.{nodes_in}
 use Rattle.store.proofs.Reading as R
-use Rattle.listing_lines.proofs.Lines.{Listed, listed_none, listed_more, listed_all}
-use Rattle.listing_lines.proofs.node.with_children.Reads as reads
-use Rattle.listing_lines.proofs.node.with_children.Lts as lts
-use Rattle.listing_lines.proofs.digits.with_number.Reads as with-number-reads
-use Rattle.store.proofs.arity.Reads as arity-reads
-use Rattle.store.proofs.child.Reads as child-reads
+use Rattle.listing_lines.proofs.Lines.{listed_none, listed_more, listed_all}
 use Rattle.listing_lines.proofs.node.with_children.Goals as goal
 
 pub arity-arity-requires : goal.arity-arity-requires
@@ -31,12 +23,6 @@ with_number-longer-requires c =
     let few = v.few in
     let long = v.extends.long in
     omega arith
-
-pub overflow_add-place : goal.overflow_add-place
-overflow_add-place c = omega arith
-
-pub loop-place-smaller : goal.loop-place-smaller
-loop-place-smaller c = omega arith
 
 pub loop-place-preserved : goal.loop-place-preserved
 loop-place-preserved c =

@@ -1,12 +1,13 @@
 -- `listing_reader::first::refused` meets its contract.
+use mathlib.Core.Path.{refl}
 use Rattle.listing_reader.proofs.FirstLines.{no_refusal, no_record, refusal_found}
 use Rattle.listing_reader.proofs.first.refused.Goals as goal
 
-pub returns-in_default : goal.returns-in_default
-returns-in_default c = no_refusal c.number_behind-number.ensures c.in_default.is
+pub returns-in_err-number : goal.returns-in_err-number
+returns-in_err-number c = rw c.from_residual.ensures (no_refusal c.in_err-number.ensures refl)
 
-pub returns-in-Found-record : goal.returns-in-Found-record
-returns-in-Found-record c = refusal_found c.number_behind-number.ensures c.in-Found.is c.line_behind-record.ensures c.in-Found-record.is
+pub returns-in_err-record : goal.returns-in_err-record
+returns-in_err-record c = rw c.from_residual-in_err-record.ensures (no_record c.in_ok-number.ensures refl c.in_err-record.ensures refl)
 
-pub returns-in-Nothing : goal.returns-in-Nothing
-returns-in-Nothing c = no_record c.number_behind-number.ensures c.in-Found.is c.line_behind-record.ensures c.in-Nothing.is
+pub returns : goal.returns
+returns c = refusal_found c.in_ok-number.ensures refl c.in_ok-record.ensures refl

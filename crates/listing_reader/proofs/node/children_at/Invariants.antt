@@ -1,11 +1,6 @@
 -- `listing_reader::node::children_at` meets its contract. The loop's invariant: the children passed are read, and are the first of any that stand there.
-use Prim.Native.Nat.{◌-◌}
-use Rattle.arena.specs.Layout.{most_children}
 use Rattle.listing_reader.proofs.ChildLines.{ChildrenRead}
 use Rattle.listing_reader.proofs.node.children_at.Given as goal
 
 abbrev pub invariant-loop-count : goal.invariant-loop-count
 invariant-loop-count l = ChildrenRead l.bytes l.at l.places l.count l.next
-
-abbrev pub decreases-loop-count : goal.decreases-loop-count
-decreases-loop-count l = most_children - l.count

@@ -1,10 +1,6 @@
-use Prim.Native.Nat.{◌-◌, ◌≤◌}
-use mathlib.Core.Path.{◌≡◌}
-use lib.ListN.{length}
+-- What was written of a sheet stays within it.
+use Rattle.std.proofs.Common.{◌≤◌, length}
 use Rattle.listing_tests.proofs.sheets.spelled.Given as goal
 
-abbrev pub invariant-loop-i : goal.invariant-loop-i
-invariant-loop-i l = (l.written ≤ length l.sheet) × (length l.sheet ≡ length l.initial.sheet)
-
-abbrev pub decreases-loop-i : goal.decreases-loop-i
-decreases-loop-i l = length l.line - l.i
+abbrev pub invariant-loop-sign : goal.invariant-loop-sign
+invariant-loop-sign l = l.written ≤ length l.sheet

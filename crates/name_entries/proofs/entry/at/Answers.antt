@@ -1,5 +1,4 @@
 -- `name_entries::entry::at` meets its contract: the part of the lent bytes is the entry of the number.
-use borrow.Author.Rules.{rules}
 use Rattle.name_entries.proofs.Entries.{entry_part}
 use Rattle.name_entries.proofs.entry.at.Goals as goal
 

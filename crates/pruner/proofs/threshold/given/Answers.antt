@@ -1,4 +1,4 @@
--- `pruner::threshold::given` meets its contract. Assumes nothing.
+-- `pruner::threshold::given` meets its contract.
 use mathlib.Core.Path.{sym, ap}
 use mathlib.Core.Bool.{Bool, cond}
 use borrow.Author.Tests.{le-leb, lt-leb}

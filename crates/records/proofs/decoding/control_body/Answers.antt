@@ -1,9 +1,4 @@
-use mathlib.Core.Path.{◌≡◌, sym, ap, ◌∙◌}
-use native.Mathlib.Omega.{arith}
 use Rattle.records.proofs.Bodies as B
-use borrow.Author.Rules.{rules}
-use Rattle.records.proofs.decoding.control_body.Reads as reads
-use Rattle.records.proofs.decoding.control_body.Lts as lts
 use Rattle.records.proofs.decoding.control_body.Goals as goal
 
 pub returns-then-length-lt1 : goal.returns-then-length-lt1

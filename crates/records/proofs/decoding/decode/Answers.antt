@@ -1,16 +1,5 @@
 use native.Mathlib.Omega.{arith}
-use mathlib.Core.Path.{◌≡◌, sym, ap, ◌∙◌}
 use Rattle.records.proofs.Bodies as B
-use borrow.Author.Rules.{rules}
-use Rattle.records.proofs.decoding.decode.Reads as reads
-use Rattle.records.proofs.decoding.decode.Lts as lts
-use Rattle.records.proofs.decoding.constant_body.Reads as constant-body-reads
-use Rattle.records.proofs.decoding.control_body.Reads as control-body-reads
-use Rattle.records.proofs.decoding.function_body.Reads as function-body-reads
-use Rattle.records.proofs.decoding.operator_body.Reads as operator-body-reads
-use Rattle.records.proofs.decoding.prune_body.Reads as prune-body-reads
-use Rattle.records.proofs.decoding.simplify_body.Reads as simplify-body-reads
-use Rattle.records.proofs.decoding.variable_body.Reads as variable-body-reads
 use Rattle.records.proofs.decoding.decode.Goals as goal
 
 pub returns-then-length-eq0 : goal.returns-then-length-eq0

@@ -1,10 +1,4 @@
-use native.Mathlib.Omega.{arith}
-use mathlib.Core.Path.{◌≡◌, sym, ap, ◌∙◌}
 use Rattle.records.proofs.Bodies as B
-use borrow.Author.Rules.{rules}
-use Rattle.records.proofs.decoding.prune_body.Reads as reads
-use Rattle.records.proofs.decoding.prune_body.Lts as lts
-use Rattle.records.proofs.number.number.Reads as number-reads
 use Rattle.records.proofs.decoding.prune_body.Goals as goal
 
 pub returns-then-length : goal.returns-then-length

@@ -1,37 +1,37 @@
-use Prim.Native.Nat.{ℕ, ◌+◌, ◌*◌, ◌-◌, ◌≤◌, ◌<◌}
-use mathlib.Core.Path.{◌≡◌, sym, subst}
+-- `records::number::number` meets its contract. The loop's invariant: the value is that of the bytes passed.
+use Prim.Native.Nat.{ℕ, ◌+◌, ◌*◌, ◌<◌}
+use mathlib.Core.Path.{◌≡◌, sym, subst, ◌∙◌}
+use lib.ListN.{get_or}
 use native.Mathlib.Omega.{arith}
-use borrow.Author.Rules.{rules}
+use Rattle.std.proofs.lemmas.List.Edits.{length-between}
 use Rattle.records.specs.Reading.{Number}
-use Rattle.records.proofs.Parts.{number_none, number_more, number_room}
-use Rattle.records.proofs.number.number.Reads as reads
-use Rattle.records.proofs.number.number.Lts as lts
-use Rattle.records.proofs.number.wide.Reads as wide-reads
+use Rattle.records.proofs.Parts.{number_none, number_more, number_room, inside, byte_of}
 use Rattle.records.proofs.number.number.Goals as goal
 
-pub loop-i-init : goal.loop-i-init
-loop-i-init c = (search rules, number_none _ _)
+pub loop-byte-init : goal.loop-byte-init
+loop-byte-init c = number_none _ _
 
 pub overflow_mul-value : goal.overflow_mul-value
-overflow_mul-value c = let h : c.loop-i.value * 256 + 255 < 18446744073709551616 = number_room _ _ _ _ c.loop-i.invariant.1 (omega arith) in omega arith
+overflow_mul-value c =
+    let i : c.loop-byte.byte-index < c.args.width = inside _ _ _ _ c.requires.1 c.loop-byte-test.true in
+    let h : c.loop-byte.value * 256 + 255 < 18446744073709551616 = number_room _ _ _ _ c.loop-byte.invariant (omega arith) in
+    omega arith
 
 pub overflow_add-value : goal.overflow_add-value
 overflow_add-value c =
-    let l = c.loop-i in
-    let h : l.value * 256 + 255 < 18446744073709551616 = number_room _ _ _ _ l.invariant.1 (omega arith) in
-    let e = c.wide.ensures in
-    omega (arith, c.shared_slice_known-in-loop-i-1.given (c.args.at + l.i))
+    let i : c.loop-byte.byte-index < c.args.width = inside _ _ _ _ c.requires.1 c.loop-byte-test.true in
+    let h : c.loop-byte.value * 256 + 255 < 18446744073709551616 = number_room _ _ _ _ c.loop-byte.invariant (omega arith) in
+    let e : c.from.result ≡ get_or c.args.sheet.now (c.args.at + c.loop-byte.byte-index) 0 = c.from.ensures ∙ byte_of _ _ _ _ c.requires.1 c.loop-byte-test.true in
+    omega (arith, (c.type_inv.sheet (c.args.at + c.loop-byte.byte-index)).fits)
 
-pub loop-i-preserved : goal.loop-i-preserved
-loop-i-preserved c =
-    let l = c.loop-i in
-    let a = c.args in
-    let b = c.shared_slice_known-in-loop-i-1.given (a.at + l.i) in
-    (search rules, subst (λ (x : ℕ). Number a.sheet.now a.at (l.i + 1) (l.value * 256 + x)) (sym c.wide.ensures) (number_more _ _ _ _ l.invariant.1 (omega arith) (omega arith)))
+pub loop-byte-preserved : goal.loop-byte-preserved
+loop-byte-preserved c =
+    let i : c.loop-byte.byte-index < c.args.width = inside _ _ _ _ c.requires.1 c.loop-byte-test.true in
+    subst (λ (x : ℕ). Number c.args.sheet.now c.args.at (c.loop-byte.byte-index + 1) (c.loop-byte.value * 256 + x)) (sym (c.from.ensures ∙ byte_of _ _ _ _ c.requires.1 c.loop-byte-test.true))
+    (number_more _ _ _ _ c.loop-byte.invariant (c.type_inv.sheet (c.args.at + c.loop-byte.byte-index)).fits (omega arith))
 
 pub returns : goal.returns
 returns c =
-    let l = c.loop-i in
-    let a = c.args in
-    let e : l.i ≡ a.width = omega arith in
-    subst (λ (k : ℕ). Number a.sheet.now a.at k l.value) e l.invariant.1
+    let n = c.loop-byte.auto.byte-index-end in
+    let e : c.loop-byte.byte-index ≡ c.args.width = omega (arith, length-between c.args.sheet.now c.args.at (c.args.at + c.args.width) c.requires.1) in
+    subst (λ (k : ℕ). Number c.args.sheet.now c.args.at k c.loop-byte.value) e c.loop-byte.invariant

@@ -1,33 +1,34 @@
 -- The invariant: the plain walk from here, with the budget that is left, is the whole walk of the root. The measure is that budget.
-use Prim.Native.Nat.{◌-◌}
-use native.Mathlib.Omega.{arith}
-use borrow.Author.Rules.{rules}
-use mathlib.Core.Logic.{inl, inr, ⊎_elim}
-use Rattle.rebuild.specs.Memory.{memory}
-use Rattle.turns.specs.Stack.{stack}
-use Rattle.definitions.specs.Modes.{mode_of}
+use mathlib.Core.Logic.{inl, inr}
+use Rattle.std.proofs.Common.{refl, rules}
+use Rattle.std.proofs.lemmas.Result.{err_from_is_err_and}
+use Rattle.store.specs.Held.{held}
 use Rattle.runs.proofs.Running as Q
-use Rattle.runs.proofs.Running.{Running}
-use Rattle.runs.proofs.run.run.Goals.{else-loop-steps-test, then-loop-steps-test+then-progress-eq0}
+use Rattle.runs.proofs.run.run.Goals.{else-loop-steps-test, then-loop-steps-test+then-walk-eq0}
 use Rattle.runs.proofs.run.run.Goals as goal
 
 pub loop-steps-init : goal.loop-steps-init
-loop-steps-init c = Q.begins _ _ _ _ c.requires
+loop-steps-init c = record { same = record { nodes = refl; slots = refl; long = refl; wide = refl }; running = Q.begins _ _ _ _ c.args.store.now.sound c.requires }
 
-pub turn-progress-requires : goal.turn-progress-requires
-turn-progress-requires c = Q.ready _ _ _ _ _ _ _ _ _ c.loop-steps.invariant c.if-progress-eq0.false
-
-pub returns-in-Stopped : goal.returns-in-Stopped
-returns-in-Stopped c = Q.stops _ _ _ _ _ _ _ _ _ c.loop-steps.invariant c.if-progress-eq0.false c.loop-steps-test.true _ _ _ c.turn-progress.ensures _ c.in-Stopped.is
-
-pub overflow_add-steps : goal.overflow_add-steps
-overflow_add-steps c = let f = c.ranges in let l = c.loop-steps-test.true in omega arith
-
-pub loop-steps-smaller : goal.loop-steps-smaller
-loop-steps-smaller c = omega arith
+pub turn-requires : goal.turn-requires
+turn-requires c = Q.ready _ _ _ _ _ _ _ _ c.loop-steps.invariant.running c.if-walk-eq0.false
 
 pub loop-steps-preserved : goal.loop-steps-preserved
-loop-steps-preserved c = Q.goes_on _ _ _ _ _ _ _ _ _ c.loop-steps.invariant c.if-progress-eq0.false c.loop-steps-test.true _ _ _ c.turn-progress.ensures c.in_default.is
+loop-steps-preserved c = record {
+  same = Q.same_then c.loop-steps.invariant.same c.turn.ensures.same;
+  running = Q.goes_on _ _ _ _ _ _ _ _ c.loop-steps.invariant.running c.if-walk-eq0.false c.loop-steps-test.true _ _ _ c.turn.ensures.turns c.in_ok-turn.was;
+}
 
-pub returns : goal.returns
-returns c = Q.ends _ _ _ _ _ _ _ _ _ c.loop-steps.invariant (elim c.loop-steps-test.branch [ else-loop-steps-test w ↦ inl w.loop-steps-test.false | then-loop-steps-test+then-progress-eq0 w ↦ inr w.if-progress-eq0.true ]) _ c.wide.ensures _ c.ending-answer.ensures
+pub returns-in_err-turn-clause-same : goal.returns-in_err-turn-clause-same
+returns-in_err-turn-clause-same c = Q.same_then c.loop-steps.invariant.same c.turn.ensures.same
+
+pub returns-in_err-turn-clause-walks : goal.returns-in_err-turn-clause-walks
+returns-in_err-turn-clause-walks c =
+    let p = err_from_is_err_and c.from_residual.result c.from_residual.ensures.1 in
+    rw (p.1, p.2) (Q.stops _ _ _ _ _ _ _ _ c.loop-steps.invariant.running c.if-walk-eq0.false c.loop-steps-test.true _ _ _ c.turn.ensures.turns _ c.in_err-turn.was)
+
+pub returns-clause-same : goal.returns-clause-same
+returns-clause-same c = c.loop-steps.invariant.same
+
+pub returns-clause-walks : goal.returns-clause-walks
+returns-clause-walks c = Q.ends _ _ _ _ _ _ _ _ c.loop-steps.invariant.running (elim c.loop-steps-test.branch [ else-loop-steps-test w ↦ inl w.loop-steps-test.false | then-loop-steps-test+then-walk-eq0 w ↦ inr w.if-walk-eq0.true ]) _ c.ending.ensures

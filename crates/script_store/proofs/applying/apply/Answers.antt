@@ -14,7 +14,7 @@ overflow_cast-children-2 g c = let r = c.ready.ensures c.if-not-ready.false in o
 pub slice_bounds-try_apply-end : goal.slice_bounds-try_apply-end
 slice_bounds-try_apply-end g c = sym (length-take-le _ _ (let l = c.if-arity.false in omega arith))
 
-pub try_apply-applied-requires : goal.try_apply-applied-requires
-try_apply-applied-requires g c =
+pub try_apply-requires : goal.try_apply-requires
+try_apply-requires g c =
     let r = c.ready.ensures c.if-not-ready.false in
     (operands r _ c.if-arity.false, r.whole)

@@ -1,7 +1,4 @@
 use Rattle.sheet.proofs.Clamping.{id_late, id_high, id_noted}
-use borrow.Author.Rules.{rules}
-use Rattle.sheet.proofs.operands.operand_id.Reads as reads
-use Rattle.sheet.proofs.operands.operand_id.Lts as lts
 use Rattle.sheet.proofs.operands.operand_id.Goals as goal
 
 pub returns-then-done-operand : goal.returns-then-done-operand

@@ -1,15 +1,11 @@
-use Prim.Native.Nat.{ℕ, ◌-◌}
+use Prim.Native.Nat.{ℕ}
 use mathlib.Core.Path.{◌≡◌, refl, subst}
 use mathlib.Core.List.{map}
 use lib.ListN.{take}
 use native.Mathlib.Omega.{arith}
 use Rattle.records.specs.Reading.{operands_from}
 use Rattle.sheet.specs.Running.{id_below}
-use Rattle.sheet.proofs.Placing.{IdsPlaced, placed_none, placed_more}
-use Rattle.sheet.proofs.operands.operand_ids.Reads as reads
-use Rattle.sheet.proofs.operands.operand_ids.Lts as lts
-use Rattle.records.proofs.operand.Reads as operand-reads
-use Rattle.sheet.proofs.operands.operand_id.Reads as operand-id-reads
+use Rattle.sheet.proofs.Placing.{placed_none, placed_more}
 use Rattle.sheet.proofs.operands.operand_ids.Goals as goal
 
 pub loop-k-init : goal.loop-k-init
@@ -26,12 +22,6 @@ offset_bounds-children-k c = let d = c.loop-k.invariant in let l = d.long in ome
 
 pub bounds-children-k : goal.bounds-children-k
 bounds-children-k c = let d = c.loop-k.invariant in let l = d.long in omega arith
-
-pub overflow_add-k : goal.overflow_add-k
-overflow_add-k c = omega arith
-
-pub loop-k-smaller : goal.loop-k-smaller
-loop-k-smaller c = omega arith
 
 pub loop-k-preserved : goal.loop-k-preserved
 loop-k-preserved c = placed_more _ _ _ _ _ _ c.loop-k.invariant (omega arith) (omega arith) _ _ c.operand-operand.ensures c.operand_id.ensures

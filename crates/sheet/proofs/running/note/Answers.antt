@@ -2,7 +2,6 @@ use mathlib.Core.Path.{sym, ap}
 use Rattle.store_calls.specs.declared.answers.Answer.{Answer}
 use Rattle.store_calls.specs.Calls.{answer_of}
 use Rattle.sheet.specs.Running.{noted_as}
-use borrow.Author.Rules.{rules}
 use Rattle.sheet.proofs.running.note.Goals as goal
 
 pub returns-in-Stored : goal.returns-in-Stored

@@ -1,6 +1,5 @@
 use Rattle.store.proofs.Reading as R
 use native.Mathlib.Omega.{arith}
-use borrow.Author.Rules.{rules}
 use Rattle.store.proofs.lookup.child.Goals as goal
 
 pub overflow_add-result-2 : goal.overflow_add-result-2

@@ -7,7 +7,6 @@ use Rattle.arena.specs.Layout.{node_words, children_word}
 use Rattle.arena.specs.Node.{words_from}
 use Rattle.definitions.specs.Node.{same_children}
 use Rattle.store.proofs.Reading as R
-use borrow.Author.Rules.{rules}
 use Rattle.store.proofs.lookup.has_children.Goals as goal
 
 pub has_children-requires : goal.has_children-requires

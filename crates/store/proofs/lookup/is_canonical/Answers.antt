@@ -1,5 +1,4 @@
 use Rattle.store.proofs.Reading as R
-use borrow.Author.Rules.{rules}
 use Rattle.store.proofs.lookup.is_canonical.Goals as goal
 
 pub returns : goal.returns

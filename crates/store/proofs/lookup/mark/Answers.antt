@@ -1,5 +1,4 @@
 use Rattle.store.proofs.Marking.{marked_is}
-use borrow.Author.Rules.{rules}
 use Rattle.store.proofs.lookup.mark.Goals as goal
 
 pub returns : goal.returns

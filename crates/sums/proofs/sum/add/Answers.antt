@@ -1,24 +1,18 @@
--- `sums::sum::add` meets its contract: the store's number, handed on.
-use native.Mathlib.Omega.{arith}
+-- The store's answer, handed on.
+use Rattle.std.proofs.lemmas.Result.{err_from_is_err_and}
 use Rattle.definitions.specs.Patterns.{intern_add}
 use Rattle.sums.proofs.Adding.{add_fits}
-use Rattle.sums.proofs.Numbers.{as_number}
-use borrow.Author.Rules.{rules}
 use Rattle.sums.proofs.sum.add.Goals as goal
 
-pub overflow_cast-operands : goal.overflow_cast-operands
-overflow_cast-operands c = let p = c.requires in omega (arith, p.0, p.2.nodes.formed.many)
+pub intern_likely-requires : goal.intern_likely-requires
+intern_likely-requires c = add_fits _ _ _ c.requires.0 c.requires.1
 
-pub overflow_cast-operands-2 : goal.overflow_cast-operands-2
-overflow_cast-operands-2 c = let p = c.requires in omega (arith, p.1, p.2.nodes.formed.many)
-
-pub intern_likely-number-requires : goal.intern_likely-number-requires
-intern_likely-number-requires c = let p = c.requires in (add_fits _ _ _ p.0 p.1, p.2)
-
-pub returns-then-number-lt-REFUSALS : goal.returns-then-number-lt-REFUSALS
+pub returns-in_err-sum-clause-adds : goal.returns-in_err-sum-clause-adds
 unfolding intern_add
-returns-then-number-lt-REFUSALS c = as_number _ _ _ _ _ _ _ _ c.intern_likely-number.ensures
+returns-in_err-sum-clause-adds c =
+    let p = err_from_is_err_and c.from_residual.result c.from_residual.ensures.1 in
+    rw (p.1, p.2) (rw c.in_err-sum.was at c.intern_likely.ensures.interns.builds)
 
-pub returns-else-number-lt-REFUSALS : goal.returns-else-number-lt-REFUSALS
+pub returns-clause-adds : goal.returns-clause-adds
 unfolding intern_add
-returns-else-number-lt-REFUSALS c = as_number _ _ _ _ _ _ _ _ c.intern_likely-number.ensures
+returns-clause-adds c = rw c.in_ok-sum.was at c.intern_likely.ensures.interns.builds

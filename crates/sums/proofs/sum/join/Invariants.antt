@@ -1,14 +1,8 @@
--- `sums::sum::join` meets its contract. The measure is the depth.
-use native.Mathlib.Omega.{arith}
-use borrow.Author.Rules.{rules}
-use Rattle.arena.specs.Layout.{arena_of}
-use Rattle.sums.proofs.Joining as Q
+use Rattle.store.specs.Held.{held, SameLists}
 use Rattle.sums.proofs.Joining.{Joining}
 use Rattle.sums.proofs.sum.join.Given as goal
 
-abbrev pub invariant-loop-from : goal.invariant-loop-from
-invariant-loop-from l =
-    Joining l.initial.nodes l.initial.slots (arena_of l.initial.count l.initial.size) l.rights l.initial.lefts l.depth l.id l.nodes l.slots (arena_of l.count l.size) l.lefts l.number l.from
-
-abbrev pub decreases-loop-from : goal.decreases-loop-from
-decreases-loop-from l = l.from
+abbrev pub invariant-loop-place : goal.invariant-loop-place
+invariant-loop-place l =
+    SameLists l.initial.store l.store
+    × Joining (held l.initial.store).words (held l.initial.store).slots (held l.initial.store).arena l.rights l.initial.lefts l.depth l.id (held l.store).words (held l.store).slots (held l.store).arena l.lefts l.sum l.place

@@ -1,7 +1,4 @@
 -- `sums::sum::split` meets its contract. The measure is the number of terms that are not split. Assumes nothing.
-use native.Mathlib.Omega.{arith}
-use Rattle.sums.specs.Sums.{whole}
-use Rattle.sums.proofs.Splitting as Q
 use Rattle.sums.proofs.Splitting.{Splitting}
 use Rattle.sums.proofs.sum.split.Given as goal
 

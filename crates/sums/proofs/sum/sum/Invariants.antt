@@ -1,18 +1,13 @@
--- `sums::sum::sum` meets its contract. The measure is the number of terms that are not summed.
-use Prim.Native.Nat.{ℕ, ◌+◌, ◌-◌}
-use mathlib.Core.Path.{◌∙◌}
-use lib.ListN.{length-replicate}
-use native.Mathlib.Omega.{arith}
-use borrow.Author.Rules.{rules}
-use Rattle.arena.specs.Layout.{arena_of}
-use Rattle.sums.specs.Sums.{most_pending}
-use Rattle.sums.proofs.Summing as Q
+-- The measure is the number of terms that are not summed.
+use Prim.Native.Nat.{◌+◌, ◌-◌}
+use Rattle.store.specs.Held.{held, SameLists}
 use Rattle.sums.proofs.Summing.{Summing}
 use Rattle.sums.proofs.sum.sum.Given as goal
 
-abbrev pub invariant-loop-rights : goal.invariant-loop-rights
-invariant-loop-rights l =
-    Summing l.initial.nodes l.initial.slots (arena_of l.initial.count l.initial.size) l.terms l.from l.n l.nodes l.slots (arena_of l.count l.size) l.rights l.lefts l.depth l.at l.rest
+abbrev pub invariant-loop-id : goal.invariant-loop-id
+invariant-loop-id l =
+    SameLists l.initial.store l.store
+    × Summing (held l.initial.store).words (held l.initial.store).slots (held l.initial.store).arena l.terms l.from l.n (held l.store).words (held l.store).slots (held l.store).arena l.rights l.lefts l.depth l.at l.rest
 
-abbrev pub decreases-loop-rights : goal.decreases-loop-rights
-decreases-loop-rights l = l.from + l.n - l.at
+abbrev pub decreases-loop-id : goal.decreases-loop-id
+decreases-loop-id l = l.from + l.n - l.at

@@ -1,5 +1,3 @@
--- `sums::sum::zero` meets its contract. Assumes nothing.
-use borrow.Author.Rules.{rules}
 use mathlib.Core.Path.{◌≡◌, refl}
 use mathlib.Core.Bool.{false}
 use lib.Ieee.{binary64, to_bits, nan_bits}
@@ -12,8 +10,8 @@ unfolding nan_bits
 zero_number = refl
 
 pub intern-requires : goal.intern-requires
-intern-requires c = (constant_fits _ _ zero_number, c.requires)
+intern-requires c = constant_fits _ _ zero_number
 
-pub returns : goal.returns
+pub returns-clause-sums : goal.returns-clause-sums
 unfolding intern_constant to_bits
-returns c = c.intern.ensures.builds
+returns-clause-sums c = c.intern.ensures.interns.builds

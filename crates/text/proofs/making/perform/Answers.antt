@@ -7,4 +7,4 @@ pub returns-then-word-lt-FIRST_OPERATOR : goal.returns-then-word-lt-FIRST_OPERAT
 returns-then-word-lt-FIRST_OPERATOR c = makes_as _ _ _ _ _ (perform_place _ _ c.if-word-lt-FIRST_OPERATOR.true _ _ _ _) c.leaf.ensures
 
 pub returns : goal.returns
-returns c = makes_as _ _ _ _ _ (perform_kind _ _ c.if-word-lt-FIRST_OPERATOR.false _ _ _ _) (makes_store (operator_call (operator_token _) _ _) _ c.requires _ _ _ _ c.operator-built.ensures)
+returns c = makes_as _ _ _ _ _ (perform_kind _ _ c.if-word-lt-FIRST_OPERATOR.false _ _ _ _) (rw c.from-kind.ensures at (makes_store (operator_call (operator_token c.from-kind.result) _ _) _ c.requires _ _ _ _ c.operator-built.ensures))

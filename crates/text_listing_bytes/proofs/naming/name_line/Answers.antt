@@ -20,4 +20,4 @@ pub with_bytes-requires-2 : goal.with_bytes-requires-2
 with_bytes-requires-2 c = room_for_feed _ _ _ _ _ _ c.new.ensures.long c.with_bytes.ensures.long c.with_number-numbered.ensures.long c.with_bytes-spaced.ensures.long c.with_bytes-named.ensures.long (take_few c.name_length-length.result c.name-found.result.bytes (name_short _ _ _ c.name-found.result c.name-found.ensures _ c.name_length-length.ensures))
 
 pub returns : goal.returns
-returns c = let args = c.args in name_line_is (names_of args.entries.now args.count) _ _ _ c.new.ensures c.with_bytes.ensures c.with_number-numbered.ensures c.with_bytes-spaced.ensures c.with_bytes-named.ensures (take_few c.name_length-length.result c.name-found.result.bytes (name_short _ _ _ c.name-found.result c.name-found.ensures _ c.name_length-length.ensures)) c.with_bytes-2.ensures (name_is _ _ _ c.name-found.result c.name-found.ensures _ c.name_length-length.ensures c.requires.0 c.requires.1)
+returns c = let args = c.args in name_line_is (names_of args.entries.now args.count) _ _ _ c.new.ensures c.with_bytes.ensures (rw c.from.ensures at c.with_number-numbered.ensures) c.with_bytes-spaced.ensures c.with_bytes-named.ensures (take_few c.name_length-length.result c.name-found.result.bytes (name_short _ _ _ c.name-found.result c.name-found.ensures _ c.name_length-length.ensures)) c.with_bytes-2.ensures (name_is _ _ _ c.name-found.result c.name-found.ensures _ c.name_length-length.ensures c.requires.0 c.requires.1)

@@ -25,4 +25,4 @@ pub shape_of-out : goal.shape_of-out
 shape_of-out c = let l = c.loop-i.invariant.0 in search rules
 
 pub returns : goal.returns
-returns c = let p = c.requires.1 in let v = c.loop-i.invariant in let g = v.1.low in let l = v.0 in let k = v.1.some in let a = c.args in record { puts_line = written_all (names_of a.entries.now a.count) _ _ _ _ _ _ (names_length a.entries.now a.count) v.1 (omega arith); upper_bound = omega arith }
+returns c = let p = c.requires.1 in let v = c.loop-i.invariant in let g = v.1.low in let l = v.0 in let k = v.1.some in let a = c.args in record { puts_line = written_all (names_of a.entries.now a.count) _ _ _ _ _ _ (names_length a.entries.now a.count) v.1 (omega arith); in_array = omega arith }

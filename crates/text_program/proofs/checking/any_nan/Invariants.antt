@@ -1,9 +1,6 @@
-use Prim.Native.Nat.{◌-◌}
+use Rattle.std.specs.Prelude.{length}
 use Rattle.text_program.proofs.Compiling.{Fine}
 use Rattle.text_program.proofs.checking.any_nan.Given as goal
 
-abbrev pub invariant-loop-i : goal.invariant-loop-i
-invariant-loop-i l = Fine l.text l.program l.size l.i
-
-abbrev pub decreases-loop-i : goal.decreases-loop-i
-decreases-loop-i l = l.size - l.i
+abbrev pub invariant-loop-word : goal.invariant-loop-word
+invariant-loop-word l = Fine l.text l.program (length l.program) l.word-index

@@ -8,8 +8,5 @@ returns-then-word-ge-FIRST_OPERATOR c = operator_fine c.args.text.now c.args.wor
 pub returns-then-name_starts : goal.returns-then-name_starts
 returns-then-name_starts c = name_fine c.args.text.now c.args.word c.if-word-ge-FIRST_OPERATOR.false (sym c.name_starts.ensures ∙ c.if-name_starts.true)
 
-pub bits_at-requires : goal.bits_at-requires
-bits_at-requires c = sym c.name_starts.ensures ∙ c.if-name_starts.false
-
 pub returns : goal.returns
-returns c = number_nan c.args.text.now c.args.word _ _ c.if-word-ge-FIRST_OPERATOR.false c.bits_at.ensures c.is_nan.ensures
+returns c = number_nan c.args.text.now c.args.word _ _ c.if-word-ge-FIRST_OPERATOR.false c.bits_at-bits.ensures c.is_nan.ensures

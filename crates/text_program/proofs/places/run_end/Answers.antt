@@ -1,34 +1,20 @@
 use mathlib.Core.Path.{sym, ◌∙◌}
 use native.Mathlib.Omega.{arith}
-use Rattle.text_language.proofs.Place.{run_start, run_zero, run_end, run_stop, run_more}
+use Rattle.text_language.proofs.Place.{run_same, run_none, run_end, run_stop, run_more}
+use Rattle.text_program.proofs.places.run_end.Goals.{then-at-text-via-then-at-text, then-at-text-via-else-at-text+then-not-passes}
 use Rattle.text_program.proofs.places.run_end.Goals as goal
 
-pub loop-left-init : goal.loop-left-init
-loop-left-init c = run_start _ _ _ _ c.requires
+pub returns-then-at-text : goal.returns-then-at-text
+returns-then-at-text g c = λ p d. elim c.then-at-text.branch [
+  | then-at-text-via-then-at-text w ↦ run_end _ _ _ _ _ _ (c.loop-passed.invariant.runs p d) w.if-at-text.true
+  | then-at-text-via-else-at-text+then-not-passes w ↦ run_stop _ _ _ _ _ _ (c.loop-passed.invariant.runs p d) w.if-at-text.false (sym (d _ (c.type_inv.text _).fits _ w.passes.ensures) ∙ w.if-not-passes.true)
+]
 
-pub returns-then-i-text : goal.returns-then-i-text
-returns-then-i-text c = run_end _ _ _ _ _ _ c.loop-left.invariant c.if-i-text.true
-
-pub bounds-text-i : goal.bounds-text-i
-bounds-text-i c = omega arith
-
-pub passes-requires : goal.passes-requires
-passes-requires c = tt
-
-pub returns-then-not-passes : goal.returns-then-not-passes
-returns-then-not-passes c = run_stop _ _ _ _ _ _ c.loop-left.invariant c.if-i-text.false (sym c.passes.ensures ∙ c.if-not-passes.true)
-
-pub overflow_add-i : goal.overflow_add-i
-overflow_add-i c = omega arith
-
-pub overflow_sub-left : goal.overflow_sub-left
-overflow_sub-left c = omega arith
-
-pub loop-left-smaller : goal.loop-left-smaller
-loop-left-smaller c = omega arith
-
-pub loop-left-preserved : goal.loop-left-preserved
-loop-left-preserved c = run_more _ _ _ _ _ _ c.loop-left.invariant c.loop-left-test.true c.if-i-text.false (sym c.passes.ensures ∙ c.if-not-passes.false)
+pub loop-passed-preserved : goal.loop-passed-preserved
+loop-passed-preserved g c = record {
+  inside = let h = c.if-at-text.false in omega (arith, h);
+  runs = λ p d. run_same (omega arith) (omega arith) (run_more _ _ _ _ _ _ (c.loop-passed.invariant.runs p d) (omega arith) c.if-at-text.false (sym (d _ (c.type_inv.text _).fits _ c.passes.ensures) ∙ c.if-not-passes.false));
+}
 
 pub returns : goal.returns
-returns c = run_zero _ _ _ _ _ _ c.loop-left.invariant c.loop-left-test.false
+returns g c = λ p d. run_none _ _ _ _ _ (run_same (omega arith) (omega arith) (c.loop-passed.invariant.runs p d))

@@ -1,8 +1,11 @@
+use Rattle.std.specs.Prelude.{ℕ, ◌+◌, ◌-◌, ◌≤◌, Bool, length}
 use Rattle.text_language.proofs.Place.{Running}
+use Rattle.text_program.specs.Readers.{Decides}
 use Rattle.text_program.proofs.places.run_end.Given as goal
 
-abbrev pub invariant-loop-left : goal.invariant-loop-left
-invariant-loop-left l = Running l.text l.from l.kind l.most l.i l.left
-
-abbrev pub decreases-loop-left : goal.decreases-loop-left
-decreases-loop-left l = l.left
+-- Whatever test the closure makes, the bytes so far pass it.
+abbrev pub invariant-loop-passed : goal.invariant-loop-passed
+invariant-loop-passed g l = record {
+  inside : l.from + l.passed ≤ length l.text;
+  runs : (p : ℕ → Bool) → Decides (λ c. g.F.Fn.post l.passes (c, tt)) p → Running l.text l.from p l.most (l.from + l.passed) (l.most - l.passed);
+}

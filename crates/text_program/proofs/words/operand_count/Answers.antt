@@ -5,11 +5,11 @@ use Rattle.text_program.proofs.words.operand_count.Goals as goal
 pub returns-then-word-lt-FIRST_OPERATOR : goal.returns-then-word-lt-FIRST_OPERATOR
 returns-then-word-lt-FIRST_OPERATOR c = λ s. takes_none _ s c.if-word-lt-FIRST_OPERATOR.true
 
-pub returns-then-word-lt-PLUS : goal.returns-then-word-lt-PLUS
-returns-then-word-lt-PLUS c = λ s. takes_low _ s c.if-word-lt-FIRST_OPERATOR.false (omega arith)
+pub returns-in-8194-to-8198 : goal.returns-in-8194-to-8198
+returns-in-8194-to-8198 c = λ s. takes_two _ s c.if-word-lt-FIRST_OPERATOR.false (omega arith) (omega arith)
 
-pub returns-then-word-gt-RAISE : goal.returns-then-word-gt-RAISE
-returns-then-word-gt-RAISE c = λ s. takes_high _ s c.if-word-lt-FIRST_OPERATOR.false (omega arith)
+pub returns-in_default : goal.returns-in_default
+returns-in_default c = λ s. takes_low _ s c.if-word-lt-FIRST_OPERATOR.false (omega arith)
 
-pub returns : goal.returns
-returns c = λ s. takes_two _ s c.if-word-lt-FIRST_OPERATOR.false (omega arith) (omega arith)
+pub returns-in_default-2 : goal.returns-in_default-2
+returns-in_default-2 c = λ s. takes_high _ s c.if-word-lt-FIRST_OPERATOR.false (omega arith)

@@ -8,9 +8,6 @@ use Rattle.writer.proofs.numerals.whole.Goals as goal
 pub returns-then-not-is_number : goal.returns-then-not-is_number
 returns-then-not-is_number c = whole_no _ (nan_no _ (sym c.is_number.ensures ∙ c.if-not-is_number.true))
 
-pub is_number-requires : goal.is_number-requires
-is_number-requires c = tt
-
 pub float_from_bits-x : goal.float_from_bits-x
 float_from_bits-x c = subst (λ (b : Bool). T (not b)) (sym (number_form _ (sym c.is_number.ensures ∙ c.if-not-is_number.false)).number) tt
 

@@ -1,15 +1,5 @@
-use Rattle.writer.proofs.Walking.{look}
 use Rattle.writer.proofs.Leaves.{leaf_number, leaf_named, leaf_name}
 use Rattle.writer.proofs.placing.put_leaf.Goals as goal
-
-pub payload-payload-requires : goal.payload-payload-requires
-payload-payload-requires c = look _ _ _ _ _ c.requires.0
-
-pub kind-requires : goal.kind-requires
-kind-requires c = look _ _ _ _ _ c.requires.0
-
-pub put_number-requires : goal.put_number-requires
-put_number-requires c = c.requires.2
 
 pub returns-then-kind-eq-CONSTANT : goal.returns-then-kind-eq-CONSTANT
 returns-then-kind-eq-CONSTANT c = leaf_number c.requires.0 c.kind.ensures c.payload-payload.ensures c.if-kind-eq-CONSTANT.true _ c.put_number.ensures

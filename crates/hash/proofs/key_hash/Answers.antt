@@ -1,9 +1,0 @@
--- `hash::key_hash` meets its contract.
-use Rattle.std.proofs.Common.{rules}
-use Rattle.hash.specs.Fnv.{node_hash_of}
-use Rattle.hash.proofs.Appending.{fnv_append}
-use Rattle.hash.proofs.key_hash.Goals as goal
-
-pub returns : goal.returns
-unfolding node_hash_of
-returns c = rw fnv_append (cc)

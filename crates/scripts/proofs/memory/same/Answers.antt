@@ -1,8 +1,0 @@
-use Rattle.std.proofs.Common.{◌-◌, rules}
-use Rattle.scripts.proofs.memory.same.Goals as goal
-
-pub loop-i-init : goal.loop-i-init
-loop-i-init c = tt
-
-pub loop-i-preserved : goal.loop-i-preserved
-loop-i-preserved c = tt
