@@ -54,6 +54,7 @@ impl<'a> Request<'a> {
     /// # Errors
     ///
     /// By the first that applies: `NotANumber`, `BadChildCount`, `BadOperand`, `NoNodePlace` or `NoSlotPlace`. Nothing is changed then.
+    #[inline(always)]
     pub fn build_in(self, store: &mut Store) -> Result<u64, Refusal>
         requires { Asked true self.kind self.payload self.flags }
         ensures same { SameLists store.old store.new }
@@ -79,6 +80,7 @@ impl<'a> Request<'a> {
 
 /// The id of a node over these operands, or 5, 10, 6, 4, 21 or 22, on lent lists that are known to be sound. It stays over slices, with a kind
 /// that may be none of the listed ones, since docs/ARCHITECTURE.md names it.
+#[inline(always)]
 pub fn build_sound(
     nodes: &mut [u64],
     slots: &mut [u32],

@@ -34,12 +34,17 @@ fn perform(
     line: &[u8],
     command: Command,
 ) {
+    if let Command::Call(call) = command {
+        calling::run(out, nodes, slots, entries, now, line, call);
+        return;
+    }
     let values = lines::numbers(line, 0);
     let list = values.list;
     let at = list[1] as usize;
     let value = list[2];
     match command {
-        Command::Call(call) => calling::run(out, nodes, slots, entries, now, line, call),
+        // Done above.
+        Command::Call(_) => {}
         Command::Repeat => now.turns = narrow(list[1]),
         Command::Fresh => now.refresh(out, nodes, slots),
         Command::Apply => now.arena = applying::apply(out, nodes, slots, now.arena, list),
@@ -109,9 +114,13 @@ fn run_command(
         line,
         command,
     );
-    let unchanged = *nodes == nodes_before && *slots == slots_before && *entries == entries_before;
-    if unchanged && matches!(command, Command::Call(_)) {
-        let _ = print!(out; " unchanged");
+    if let Command::Call(_) = command {
+        let unchanged = *nodes == nodes_before
+            && *slots == slots_before
+            && *entries == entries_before;
+        if unchanged {
+            let _ = print!(out; " unchanged");
+        }
     }
 }
 

@@ -23,10 +23,10 @@ use Rattle.runs.specs.declared.state.Walk.{Walk}
 use Rattle.std.specs.Prelude.{Result, Ok, Err}
 use Rattle.refusal.specs.declared.Refusal.{Refusal}
 use Rattle.runs.specs.declared.Simplified.{Simplified}
-use Rattle.turns.specs.declared.state.Stack.{Stack}
 use Rattle.rebuild.specs.Memory.{Memory, SoundMemory, nodes_of, lent_of, Keeps}
-use Rattle.turns.specs.Stack.{frames_of, values_of, frames_in, values_in, Valid, Invariant}
+use Rattle.turns.specs.Stack.{Stack, frames_of, values_of, frames_in, values_in, Valid, Invariant}
 use Rattle.turns.specs.Turns.{Turnable, turned, turn_of, Turns}
+use Rattle.runs.specs.States.{stack_of}
 use Rattle.runs.specs.Runs.{Startable, Ends, WalksRoot}
 use Rattle.turns.proofs.Stacks as S
 
@@ -155,12 +155,12 @@ module _ (mode : Mode) (m : Memory) (root limit budget : ℕ) where
 
 module _ (m : Memory) (root budget : ℕ) (w : Walk) (sound : SoundMemory m) (s : Startable m root w) where
   abbrev k : Stack
-  k = w.stack
+  k = stack_of w
 
   no_values : values_in k ≡ []
-  no_values = ap (values_of w.stack.values) s.starts.none
+  no_values = ap (values_of (stack_of w).values) s.starts.none
 
-  pub begins : Running (mode_of w.mode) m root w.limit budget m w.stack 0
+  pub begins : Running (mode_of w.mode) m root w.limit budget m (stack_of w) 0
   unfolding walk_root
   begins = record {
     kept = kept_refl m.words m.slots m.arena sound;

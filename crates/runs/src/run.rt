@@ -44,13 +44,14 @@ pub fn run(
 {
     let mode = walk.mode;
     let limit = walk.limit;
+    let mut heights = walk.heights;
     let mut steps: u64 = 0;
     while steps < budget {
-        if walk.stack.depth == 0 {
+        if heights.depth == 0 {
             break;
         }
-        turn(store, &mut walk.stack, mode, limit)?;
+        turn(store, &mut walk.arrays, &mut heights, mode, limit)?;
         steps += 1;
     }
-    Ok(ending(walk.stack.depth, walk.stack.values[0], root, steps))
+    Ok(ending(heights.depth, walk.arrays.values[0], root, steps))
 }

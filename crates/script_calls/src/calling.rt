@@ -82,8 +82,11 @@ fn call(
 ) -> CallResult {
     let values = given(line, code, turn);
     let arguments = arguments_of(code, &values.list);
-    let words = values.list.map(narrow);
     let end = values.count;
+    let mut words = [0; MOST_VALUES];
+    for (word, value) in words.iter_mut().zip(&values.list[..end]) {
+        *word = narrow(*value);
+    }
     let first = arguments.first.unwrap_or(end).min(end);
     calls::call(
         nodes,

@@ -123,7 +123,7 @@ pub fn numbers(line: &[u8], turn: u32) -> Values {
         *number = tokens::number(word, turn);
     }
     let words = line.split(|byte| *byte == BLANK).skip(1);
-    let count = words.count().min(MOST_VALUES);
+    let count = words.take(MOST_VALUES).count().min(MOST_VALUES);
     Values { list, count }
 }
 
@@ -135,6 +135,6 @@ pub fn bytes(line: &[u8]) -> Values {
         *value = u64::from(*byte);
     }
     let behind_command = line.iter().skip(1).skip_while(|byte| **byte != BLANK);
-    let count = behind_command.count().min(MOST_VALUES);
+    let count = behind_command.take(MOST_VALUES).count().min(MOST_VALUES);
     Values { list, count }
 }

@@ -65,6 +65,7 @@ pub(crate) fn chain(
 
 // An operand of a chain: of a sum a product, of a product a power.
 #[cycle(chain_factor_operand_power)]
+#[inline(always)]
 pub(crate) fn operand(
     of: ChainKind,
     text: &[u8],

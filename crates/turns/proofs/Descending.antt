@@ -16,8 +16,7 @@ use Rattle.store.specs.Lookup.{Lookup}
 use Rattle.arena.specs.Nodes.{Nodes}
 use Rattle.store.proofs.Reading as R
 use Rattle.store.proofs.Viewing.{plain_length}
-use Rattle.turns.specs.declared.state.Stack.{Stack}
-use Rattle.turns.specs.Stack.{framed, frames_of, values_of, frames_in, values_in, top_id, top_taken, top_frame, frames_under, counted, pushed, given, Valid}
+use Rattle.turns.specs.Stack.{Stack, framed, frames_of, values_of, frames_in, values_in, top_id, top_taken, top_frame, frames_under, counted, pushed, given, Valid}
 use Rattle.turns.specs.Turns.{Descendable, Descends}
 use Rattle.turns.proofs.Stacks as S
 

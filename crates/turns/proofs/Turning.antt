@@ -11,7 +11,7 @@ use borrow.Author.Tests.{le-leb, lt-leb, lt-ltb, le-ltb}
 use Rattle.definitions.specs.Limits.{most_children, most_nodes}
 use Rattle.definitions.specs.Node.{Node, at}
 use Rattle.definitions.specs.Intern.{Lent}
-use Rattle.definitions.specs.Walk.{Mode, Frame, go, stop, turn, descend, ascend, finish, reverse_onto, rebuild_as}
+use Rattle.definitions.specs.Walk.{Mode, Frame, go, turn, descend, ascend, finish, reverse_onto, rebuild_as}
 use Rattle.store.specs.Lookup.{Lookup}
 use Rattle.store.proofs.Reading as R
 use Rattle.store.proofs.Viewing.{plain_length}
@@ -21,8 +21,7 @@ use Rattle.refusal.specs.declared.Refusal.{Refusal}
 use Rattle.rebuild.specs.Memory.{Memory, SoundMemory, nodes_of, lent_of, Keeps}
 use Rattle.patterns.specs.declared.Rewritten.{Rewritten}
 use Rattle.rebuild.specs.Rebuild.{Rebuildable, finished, finished_in, FinishesIn}
-use Rattle.turns.specs.declared.state.Stack.{Stack}
-use Rattle.turns.specs.Stack.{most_frames, most_values, values_of, frames_in, values_in, top_id, top_taken, top_frame, frames_under, left, ValuesBelow, held, Valid, Invariant}
+use Rattle.turns.specs.Stack.{Stack, most_frames, most_values, values_of, frames_in, values_in, top_id, top_taken, top_frame, frames_under, left, ValuesBelow, held, Valid, Invariant}
 use Rattle.turns.specs.Turns.{Descendable, Descends, Turnable, turn_of, Turns}
 use Rattle.turns.proofs.Stacks as S
 use Rattle.turns.proofs.Descending.{frames_are}

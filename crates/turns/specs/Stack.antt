@@ -4,7 +4,8 @@ use Rattle.definitions.specs.Limits.{most_depth, most_children}
 use Rattle.definitions.specs.Node.{Node, at}
 use Rattle.definitions.specs.Walk.{Frame, frame}
 use Rattle.turns.specs.declared.state.Frame as Code
-use Rattle.turns.specs.declared.state.Stack.{Stack}
+use Rattle.turns.specs.declared.state.Heights as CodeHeights
+use Rattle.turns.specs.declared.state.Arrays as CodeArrays
 
 -- "filled arrays of 256 frames"
 abbrev pub most_frames : ℕ
@@ -20,6 +21,20 @@ framed id taken = record { id = id; taken = taken }
 
 abbrev pub blank : Code.Frame
 blank = framed 0 0
+
+-- the stack: the arrays, and how many frames and values are in use
+pub record Stack : Type 0 where
+  pub frames : List Code.Frame
+  pub values : List ℕ
+  pub depth : ℕ
+  pub filled : ℕ
+
+abbrev pub stack : CodeArrays.Arrays → CodeHeights.Heights → Stack
+stack arrays heights = record { frames = arrays.frames; values = arrays.values; depth = heights.depth; filled = heights.filled }
+
+-- one frame, and no value
+abbrev pub first_heights : CodeHeights.Heights
+first_heights = record { depth = 1; filled = 0 }
 
 -- the frames, the top first: a frame's depth is its place
 abbrev pub frames_of : List Code.Frame → ℕ → List Frame
@@ -52,9 +67,9 @@ frames_under k = frames_of k.frames (k.depth - 1)
 
 -- ---- what is done with it
 
--- a stack with a frame for the root
-abbrev pub new_stack : ℕ → Stack
-new_stack root = record { frames = set (replicate most_frames blank) 0 (framed root 0); values = replicate most_values 0; depth = 1; filled = 0 }
+-- the arrays of a stack with a frame for the root
+abbrev pub new_arrays : ℕ → CodeArrays.Arrays
+new_arrays root = record { frames = set (replicate most_frames blank) 0 (framed root 0); values = replicate most_values 0 }
 
 -- one child more of the top frame has been taken
 abbrev pub counted : Stack → Stack

@@ -8,8 +8,7 @@ use Rattle.store.specs.View.{nodes_in}
 use Rattle.refusal.specs.declared.Refusal.{Refusal}
 use Rattle.refusal.specs.Number.{number_of}
 use Rattle.rebuild.specs.Memory.{Memory, nodes_of, lent_of, Keeps}
-use Rattle.turns.specs.declared.state.Stack.{Stack}
-use Rattle.turns.specs.Stack.{most_frames, most_values, frames_in, values_in, top_id, top_taken, top_frame, frames_under, Valid, Whole, Invariant}
+use Rattle.turns.specs.Stack.{Stack, most_frames, most_values, frames_in, values_in, top_id, top_taken, top_frame, frames_under, Valid, Whole, Invariant}
 
 -- ---- the next child
 

@@ -19,64 +19,82 @@ pub struct Frame {
     pub taken: usize,
 }
 
-/// The frames of a walk, of which the last one in use is the top, and the values that finished children have left, each an id. Arrays, since
-/// a walk has no heap.
-#[derive(Drop)]
-pub struct Stack {
-    pub frames: [Frame; MOST_FRAMES],
-    pub values: [u32; MOST_VALUES],
+/// How much of a walk's stack is in use. It stands apart from the arrays, which are read and written by index, so that a run has it in
+/// registers.
+#[derive(Clone, Copy, Debug, PartialEq, Eq)]
+pub struct Heights {
     /// How many frames are in use.
     pub depth: usize,
     /// How many values are in use.
     pub filled: usize,
 }
 
-impl Stack {
-    ghost use Rattle.definitions.specs.Limits.{most_nodes};
-    ghost use Rattle.turns.specs.Stack.{most_frames, most_values, new_stack, counted, pushed, given, left};
+impl Heights {
+    ghost use Rattle.turns.specs.Stack.{first_heights};
 
-    /// A stack with a frame for the root, which is always walked.
-    pub fn new(root: u64) -> Stack
-        ensures { result ≡ new_stack root }
+    /// Those of a walk that begins: one frame, that of the root, and no value.
+    pub fn first() -> Heights
+        ensures { result ≡ first_heights }
     {
-        let mut frames = [Frame { id: 0, taken: 0 }; MOST_FRAMES];
-        frames[0] = Frame { id: root, taken: 0 };
-        Stack {
-            frames,
-            values: [0; MOST_VALUES],
+        Heights {
             depth: 1,
             filled: 0,
         }
     }
+}
+
+/// The frames of a walk, of which the last one in use is the top, and the values that finished children have left, each an id. Arrays, since
+/// a walk has no heap.
+#[derive(Drop)]
+pub struct Arrays {
+    pub frames: [Frame; MOST_FRAMES],
+    pub values: [u32; MOST_VALUES],
+}
+
+impl Arrays {
+    ghost use Rattle.definitions.specs.Limits.{most_nodes};
+    ghost use Rattle.turns.specs.Stack.{most_frames, most_values, stack, new_arrays, pushed, given, left};
+
+    /// Those of a stack with a frame for the root, which is always walked.
+    pub fn new(root: u64) -> Arrays
+        ensures { result ≡ new_arrays root }
+    {
+        let mut frames = [Frame { id: 0, taken: 0 }; MOST_FRAMES];
+        frames[0] = Frame { id: root, taken: 0 };
+        Arrays {
+            frames,
+            values: [0; MOST_VALUES],
+        }
+    }
 
     // A frame on top, of which no child has been taken.
-    pub(crate) fn push(&mut self, id: u64)
-        requires { self.old.depth < most_frames }
-        ensures { self.new ≡ pushed self.old id }
+    pub(crate) fn push(&mut self, heights: &mut Heights, id: u64)
+        requires { heights.old.depth < most_frames }
+        ensures { stack self.new heights.new ≡ pushed (stack self.old heights.old) id }
     {
-        self.frames[self.depth] = Frame { id, taken: 0 };
-        self.depth += 1;
+        self.frames[heights.depth] = Frame { id, taken: 0 };
+        heights.depth += 1;
     }
 
     // A value on top.
-    pub(crate) fn give(&mut self, value: u64)
-        requires room { self.old.filled < most_values }
+    pub(crate) fn give(&mut self, heights: &mut Heights, value: u64)
+        requires room { heights.old.filled < most_values }
         requires id { value < most_nodes }
-        ensures { self.new ≡ given self.old value }
+        ensures { stack self.new heights.new ≡ given (stack self.old heights.old) value }
     {
-        self.values[self.filled] = value as u32;
-        self.filled += 1;
+        self.values[heights.filled] = value as u32;
+        heights.filled += 1;
     }
 
     // The top frame goes, and leaves a value in place of those from `base` on.
-    pub(crate) fn leave(&mut self, base: usize, value: u64)
-        requires frame { 1 ≤ self.old.depth }
+    pub(crate) fn leave(&mut self, heights: &mut Heights, base: usize, value: u64)
+        requires frame { 1 ≤ heights.old.depth }
         requires room { base < most_values }
         requires id { value < most_nodes }
-        ensures { self.new ≡ left self.old base value }
+        ensures { stack self.new heights.new ≡ left (stack self.old heights.old) base value }
     {
-        self.depth -= 1;
+        heights.depth -= 1;
         self.values[base] = value as u32;
-        self.filled = base + 1;
+        heights.filled = base + 1;
     }
 }

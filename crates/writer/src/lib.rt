@@ -35,7 +35,7 @@ pub fn write_sound(formulas: Formulas, id: u64, buffer: &mut [u8]) -> Result<usi
         return Err(Refusal::NoText);
     }
     let mut out = [0u8; SPACE];
-    let place = put(formulas, id, SUM, MOST_NESTED as u64, &mut out, SPACE);
+    let place = put(&formulas, id, SUM, MOST_NESTED as u64, &mut out, SPACE);
     if place < SPARE {
         return Err(Refusal::TextTooLong);
     }

@@ -39,7 +39,7 @@ fn push(out: &mut [u8; SPACE], at: usize, byte: u8) -> usize
     place
 }
 
-// A name in front.
+// A name in front. Its bytes go one by one: a copy of them all can need C's `memmove`, which the library is to do without.
 fn put_name(entries: &[u8], symbol: usize, out: &mut [u8; SPACE], at: usize) -> usize
     requires { NamedSymbol entries.now symbol × Open out.old at }
     ensures { PutsBytes (Names.name_at entries.now symbol ++ drop at out.old) spare at result out.new }
@@ -47,14 +47,16 @@ fn put_name(entries: &[u8], symbol: usize, out: &mut [u8; SPACE], at: usize) -> 
     let start = symbol * ENTRY_BYTES;
     let size = usize::from(entries[start]);
     let place = at - size;
-    out[place..at].copy_from_slice(&entries[start + 1..start + 1 + size]);
+    for i in 0..size {
+        out[place + i] = entries[start + 1 + i];
+    }
     place
 }
 
 // A leaf's text in front.
-fn put_leaf(formulas: Formulas, id: u64, out: &mut [u8; SPACE], at: usize) -> usize
-    requires { IsWritable formulas id × ((N.at (nodes_in formulas.nodes.now formulas.count) id).kind ≤ 1) × Open out.old at }
-    ensures { PutsBytes (bare (meant_by formulas.entry id) (drop at out.old)) spare
+fn put_leaf(formulas: &Formulas, id: u64, out: &mut [u8; SPACE], at: usize) -> usize
+    requires { IsWritable formulas.now id × ((N.at (nodes_in formulas.now.nodes.now formulas.now.count) id).kind ≤ 1) × Open out.old at }
+    ensures { PutsBytes (bare (meant_by formulas.now id) (drop at out.old)) spare
         at result
         out.new }
 {
@@ -67,15 +69,15 @@ fn put_leaf(formulas: Formulas, id: u64, out: &mut [u8; SPACE], at: usize) -> us
 
 // A node's text in front, where a text of so high a rank is wanted.
 pub(crate) fn put(
-    formulas: Formulas,
+    formulas: &Formulas,
     id: u64,
     level: u64,
     left: u64,
     out: &mut [u8; SPACE],
     from: usize,
 ) -> usize
-    requires { IsWritable formulas id × Open out.old from }
-    ensures { PlacedText (meant_by formulas.entry id) level left (drop from out.old)
+    requires { IsWritable formulas.now id × Open out.old from }
+    ensures { PlacedText (meant_by formulas.now id) level left (drop from out.old)
         out.new result }
 {
     let mut node = id;

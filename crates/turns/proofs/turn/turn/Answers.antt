@@ -1,7 +1,6 @@
 -- The bounds come from the walk's invariant; each way out cites its case of Turning.
 use native.Mathlib.Omega.{arith}
 use Rattle.definitions.specs.Modes.{mode_of}
-use Rattle.std.proofs.Common.{rules}
 use Rattle.std.proofs.lemmas.Result.{err_from_is_err_and}
 use Rattle.store.specs.Held.{held}
 use Rattle.turns.proofs.Turning as T
@@ -28,8 +27,8 @@ descend-requires c = T.descendable (held c.args.store.now) _ _ c.args.store.now.
 pub returns-then-taken-arity-clause-turns : goal.returns-then-taken-arity-clause-turns
 returns-then-taken-arity-clause-turns c = T.descended (held c.args.store.now) _ _ c.args.store.now.sound c.requires c.if-limit-top.false _ c.arity.ensures (mode_of c.args.mode) c.if-taken-arity.true _ c.descend.ensures
 
-pub offset_bounds-stack-base : goal.offset_bounds-stack-base
-offset_bounds-stack-base c = let b = T.bounds (held c.args.store.now) _ _ c.args.store.now.sound c.requires in omega arith
+pub offset_bounds-arrays-base : goal.offset_bounds-arrays-base
+offset_bounds-arrays-base c = let b = T.bounds (held c.args.store.now) _ _ c.args.store.now.sound c.requires in omega arith
 
 pub slice_bounds-children-end : goal.slice_bounds-children-end
 slice_bounds-children-end c = let b = T.bounds (held c.args.store.now) _ _ c.args.store.now.sound c.requires in omega arith

@@ -4,7 +4,7 @@ use borrow.Author.Rules.{rules}
 use Rattle.runs.proofs.state.Walk.new.Goals as goal
 
 pub returns : goal.returns
-returns c = rw c.new-stack.ensures (record {
+returns c = rw (c.new-arrays.ensures, c.first.ensures) (record {
   frames = refl;
   one = refl;
   none = refl;
