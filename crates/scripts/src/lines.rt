@@ -118,23 +118,29 @@ pub struct Values {
 /// The numbers of a line behind its command, as they are at a turn.
 pub fn numbers(line: &[u8], turn: u32) -> Values {
     let mut list = [0; MOST_VALUES];
+    let mut count: usize = 0;
     let words = line.split(|byte| *byte == BLANK).skip(1);
     for (number, word) in list.iter_mut().zip(words) {
         *number = tokens::number(word, turn);
+        count = count.saturating_add(1);
     }
-    let words = line.split(|byte| *byte == BLANK).skip(1);
-    let count = words.take(MOST_VALUES).count().min(MOST_VALUES);
-    Values { list, count }
+    Values {
+        list,
+        count: count.min(MOST_VALUES),
+    }
 }
 
 /// The bytes of a line from its second blank on.
 pub fn bytes(line: &[u8]) -> Values {
     let mut list = [0; MOST_VALUES];
+    let mut count: usize = 0;
     let behind_command = line.iter().skip(1).skip_while(|byte| **byte != BLANK);
     for (value, byte) in list.iter_mut().zip(behind_command) {
         *value = u64::from(*byte);
+        count = count.saturating_add(1);
     }
-    let behind_command = line.iter().skip(1).skip_while(|byte| **byte != BLANK);
-    let count = behind_command.take(MOST_VALUES).count().min(MOST_VALUES);
-    Values { list, count }
+    Values {
+        list,
+        count: count.min(MOST_VALUES),
+    }
 }
