@@ -133,14 +133,18 @@ pub fn numbers(line: &[u8], turn: u32) -> Values {
 /// The bytes of a line from its second blank on.
 pub fn bytes(line: &[u8]) -> Values {
     let mut list = [0; MOST_VALUES];
-    let mut count: usize = 0;
-    let behind_command = line.iter().skip(1).skip_while(|byte| **byte != BLANK);
+    let rest = if line.is_empty() { line } else { &line[1..] };
+    let command = rest
+        .iter()
+        .take_while(|byte| **byte != BLANK)
+        .count()
+        .min(rest.len());
+    let behind_command = &rest[command..];
     for (value, byte) in list.iter_mut().zip(behind_command) {
         *value = u64::from(*byte);
-        count = count.saturating_add(1);
     }
     Values {
         list,
-        count: count.min(MOST_VALUES),
+        count: behind_command.len().min(MOST_VALUES),
     }
 }
