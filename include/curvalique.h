@@ -50,7 +50,7 @@
  * written 91 KB, a text that is read 61 KB, a prune 39 KB, a sheet 30 KB, a
  * simplify or a call that makes a node 22 KB, a name call 17 KB and any other
  * call under 1 KB (interface/measure_stack, whose figure for a node read back
- * has 3 KB in it that the dynamic linker takes once, when memcpy is first called).
+ * has 3 KB in it that the dynamic linker takes once, as memcpy is first called).
  *
  * NOT PROVED, but read or measured: time, stack, how often a store is looked
  * over, and what the compiled code needs of C's library and its calls.
