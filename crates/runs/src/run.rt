@@ -1,7 +1,11 @@
 // The walk with its budget.
+ghost use Rattle.std.specs.Prelude.{IfOk};
 ghost use Rattle.definitions.specs.Modes.{mode_of};
 ghost use Rattle.store.specs.Held.{held, SameLists};
+ghost use Rattle.rebuild.specs.Memory.{nodes_of};
+ghost use Rattle.turns.specs.Stack.{Invariant};
 ghost use Rattle.runs.specs.Runs.{Startable, Ends, WalksRoot};
+ghost use Rattle.runs.specs.States.{stack_of};
 
 use crate::Simplified;
 use crate::state::Walk;
@@ -27,7 +31,8 @@ fn ending(depth: usize, value: u32, root: u64, steps: u64) -> Simplified
     }
 }
 
-/// The walk of a root from its first state: turns until no frame is left, a budget of them at most.
+/// The walk of a root from its first state: turns until no frame is left, a budget of them at most. The state that it leaves is that after
+/// the last turn, so that a walk whose budget was used up can go on by steps.
 ///
 /// # Errors
 ///
@@ -41,6 +46,7 @@ pub fn run(
     requires { Startable (held store.old) root walk.old }
     ensures same { SameLists store.old store.new }
     ensures walks { WalksRoot (mode_of walk.old.mode) (held store.old) root walk.old.limit budget (held store.new) result }
+    ensures state { IfOk result (λ _. Invariant (nodes_of (held store.new)) walk.old.limit (stack_of walk.new)) }
 {
     let mode = walk.mode;
     let limit = walk.limit;
@@ -53,5 +59,6 @@ pub fn run(
         turn(store, &mut walk.arrays, &mut heights, mode, limit)?;
         steps += 1;
     }
+    walk.heights = heights;
     Ok(ending(heights.depth, walk.arrays.values[0], root, steps))
 }

@@ -31,3 +31,6 @@ returns-clause-same c = c.loop-steps.invariant.same
 
 pub returns-clause-walks : goal.returns-clause-walks
 returns-clause-walks c = Q.ends _ _ _ _ _ _ _ _ c.loop-steps.invariant.running (elim c.loop-steps-test.branch [ else-loop-steps-test w ↦ inl w.loop-steps-test.false | then-loop-steps-test+then-heights-eq0 w ↦ inr w.if-heights-eq0.true ]) _ c.ending.ensures
+
+pub returns-clause-state : goal.returns-clause-state
+returns-clause-state c = c.loop-steps.invariant.running.invariant
