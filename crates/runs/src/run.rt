@@ -31,12 +31,12 @@ fn ending(depth: usize, value: u32, root: u64, steps: u64) -> Simplified
     }
 }
 
-/// The walk of a root from its first state: turns until no frame is left, a budget of them at most. The state that it leaves is that after
-/// the last turn, so that a walk whose budget was used up can go on by steps.
+/// The walk of a root from its first state: turns until no frame is left, a budget of them at most. Where it answers, the state that it
+/// leaves is that after the last turn, so that a walk whose budget was used up can go on by steps.
 ///
 /// # Errors
 ///
-/// `NoNodePlace` or `NoSlotPlace`, as a turn is refused. What was interned and marked before stays.
+/// `NoNodePlace` or `NoSlotPlace`, as a turn is refused. What was interned and marked before stays; the state left is none to go on from.
 pub fn run(
     store: &mut Store,
     walk: &mut Walk,
